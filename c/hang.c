@@ -8,13 +8,16 @@
 
 /* " at FILE:LINE" of the program that made the rank's call, or "" where that isn't known. */
 char *line_of(const struct rank *rank, char *text, size_t room) {
-    char command[512], line[256] = "";
+    char *command, *file, line[256] = "";
     Dl_info info;
     *text = 0;
-    if (!rank->place.from || !dladdr(rank->place.from, &info)) return text;
+    if (!rank->place.from || !dladdr(rank->place.from, &info) || !(file = quoted(info.dli_fname))) return text;
     size_t offset = (size_t)((const char *)rank->place.from - (const char *)info.dli_fbase);
-    snprintf(command, sizeof command, "addr2line -s -e '%s' 0x%zx 2>/dev/null", options.program, offset - 1);
+    int length = asprintf(&command, "addr2line -s -e %s 0x%zx 2>/dev/null", file, offset - 1);
+    free(file);
+    if (length < 0) return text;
     FILE *said = popen(command, "r");
+    free(command);
     if (!said) return text;
     if (!fgets(line, sizeof line, said)) *line = 0;
     pclose(said);

@@ -16,9 +16,14 @@ static char folder[256];
 static bool make_folder(void) {
     const char *place = getenv("TMPDIR");
     snprintf(folder, sizeof folder, "%.200s/ulfm-mpirun-XXXXXX", place && *place ? place : "/tmp");
-    if (mkdtemp(folder)) return true;
-    folder[0] = 0;
-    return false;
+    if (!mkdtemp(folder)) {
+        folder[0] = 0;
+        return false;
+    }
+    char *whole = realpath(folder, 0);   /* a rank may go to another folder */
+    if (whole && strlen(whole) < sizeof folder) strcpy(folder, whole);
+    free(whole);
+    return true;
 }
 
 /* Copies the program to a path. */
