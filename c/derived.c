@@ -25,7 +25,8 @@ void bounds_of_data(const struct type *type, ptrdiff_t *least, ptrdiff_t *most) 
 static void append(struct type *type, struct block block) {
     struct block *last = type->blocks ? &type->block[type->blocks - 1] : 0;
     type->size += block.length;
-    if (last && last->element == block.element && last->at + (ptrdiff_t)last->length == block.at) last->length += block.length;
+    bool is_alike = last && last->element == block.element && last->alignment == block.alignment;
+    if (is_alike && last->at + (ptrdiff_t)last->length == block.at) last->length += block.length;
     else type->block[type->blocks++] = block;
 }
 
@@ -178,8 +179,8 @@ int MPI_Type_create_hindexed_block(int count, int length, const MPI_Aint displs[
 static void align(struct type *type) {
     ptrdiff_t most = 1, extent = extent_of(type);
     for (size_t k = 0; k < type->blocks; k++) {
-        ptrdiff_t element = (ptrdiff_t)type->block[k].element;
-        if (element > most && element <= (ptrdiff_t)_Alignof(max_align_t)) most = element;
+        ptrdiff_t alignment = (ptrdiff_t)type->block[k].alignment;
+        if (alignment > most && alignment <= (ptrdiff_t)_Alignof(max_align_t)) most = alignment;
     }
     if (!type->has_upper && extent % most) type->upper += most - extent % most;
     type->is_plain = is_plain(type);

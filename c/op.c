@@ -24,9 +24,10 @@ bool is_op(MPI_Op op) { return ((uintptr_t)op && (uintptr_t)op <= LAST_BASIC) ||
     return true
 
 /* The operations of numbers of one C type: b[k] becomes a[k] op b[k]. False where it isn't one for this type. */
-#define ARITHMETIC(T) \
+#define SUMS(T) \
     case 1: EACH(b[k] = (T)(a[k] + b[k])); \
-    case 2: EACH(b[k] = (T)(a[k] * b[k])); \
+    case 2: EACH(b[k] = (T)(a[k] * b[k]));
+#define ARITHMETIC(T) SUMS(T) \
     case 3: EACH(if (a[k] > b[k]) b[k] = a[k]); \
     case 4: EACH(if (a[k] < b[k]) b[k] = a[k]);
 #define LOGICAL(T) \
@@ -58,6 +59,9 @@ INTEGER(fold_ullong, unsigned long long)
 FOLD(fold_float, float, ARITHMETIC(float))
 FOLD(fold_double, double, ARITHMETIC(double))
 FOLD(fold_ldouble, long double, ARITHMETIC(long double))
+FOLD(fold_cfloat, float _Complex, SUMS(float _Complex))
+FOLD(fold_cdouble, double _Complex, SUMS(double _Complex))
+FOLD(fold_cldouble, long double _Complex, SUMS(long double _Complex))
 FOLD(fold_bool, _Bool, LOGICAL(_Bool))
 FOLD(fold_byte, unsigned char, BITWISE(unsigned char))
 
@@ -86,7 +90,7 @@ static folding *const foldings[] = {
     0, fold_char, fold_char, fold_uchar, fold_byte, 0, fold_short, fold_ushort, fold_int, fold_uint, fold_long, fold_ulong, fold_llong,
     fold_ullong, fold_float, fold_double, fold_ldouble, 0, fold_bool, fold_char, fold_short, fold_int, fold_long, fold_uchar,
     fold_ushort, fold_uint, fold_ulong, fold_long, fold_llong, fold_llong, locate_float, locate_double, locate_long, locate_int,
-    locate_short, locate_ldouble,
+    locate_short, locate_ldouble, fold_cfloat, fold_cdouble, fold_cldouble,
 };
 
 /* Whether the operation is one for this type: MPI_SUCCESS, MPI_ERR_OP or MPI_ERR_TYPE. Those of MPI are for basic types alone (6.9.2); MPI_REPLACE

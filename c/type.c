@@ -5,26 +5,31 @@
 #include <string.h>
 #include <wchar.h>
 
-enum { FIRST_OWN = 64, BASIC = 36, FIRST_PAIR = 30 };
+enum { FIRST_OWN = 64, FIRST_PAIR = 30, FIRST_COMPLEX = 36, BASIC = 39 };
 
 #define PAIR(first) {sizeof(first), sizeof(struct { first value; int place; })}
 static const size_t sizes[FIRST_PAIR] = {0, 1, 1, 1, 1, 1, sizeof(short), sizeof(short), sizeof(int), sizeof(int), sizeof(long), sizeof(long),
                                          sizeof(long long), sizeof(long long), sizeof(float), sizeof(double), sizeof(long double), sizeof(wchar_t),
                                          sizeof(_Bool), 1, 2, 4, 8, 1, 2, 4, 8, sizeof(MPI_Aint), sizeof(MPI_Offset), sizeof(MPI_Count)};
 /* Of pairs (6.9.4): the bytes of the value, and of the pair in memory. */
-static const size_t pairs[BASIC - FIRST_PAIR][2] = {PAIR(float), PAIR(double), PAIR(long), PAIR(int), PAIR(short), PAIR(long double)};
+static const size_t pairs[FIRST_COMPLEX - FIRST_PAIR][2] = {PAIR(float), PAIR(double), PAIR(long), PAIR(int), PAIR(short), PAIR(long double)};
+static const size_t parts_of_complex[BASIC - FIRST_COMPLEX] = {sizeof(float), sizeof(double), sizeof(long double)};
 static struct type basics[BASIC];
 static struct block basic_blocks[BASIC][2];
 static pthread_once_t once = PTHREAD_ONCE_INIT;
 
+static struct block block_at(size_t at, size_t element, size_t alignment) {
+    return (struct block){(ptrdiff_t)at, element, (uint32_t)element, (uint32_t)alignment};
+}
+
 static void make_basics(void) {
     for (int k = 1; k < BASIC; k++) {
         struct block *block = basic_blocks[k];
-        bool is_pair = k >= FIRST_PAIR;
-        size_t first = is_pair ? pairs[k - FIRST_PAIR][0] : sizes[k], whole = is_pair ? pairs[k - FIRST_PAIR][1] : sizes[k];
-        size_t place = first < sizeof(int) ? sizeof(int) : first;
-        block[0] = (struct block){0, first, first};
-        block[1] = (struct block){(ptrdiff_t)place, sizeof(int), sizeof(int)};
+        bool is_complex = k >= FIRST_COMPLEX, is_pair = k >= FIRST_PAIR && !is_complex;
+        size_t part = is_complex ? parts_of_complex[k - FIRST_COMPLEX] : is_pair ? pairs[k - FIRST_PAIR][0] : sizes[k];
+        size_t first = is_complex ? 2 * part : part, whole = is_pair ? pairs[k - FIRST_PAIR][1] : first;
+        block[0] = block_at(0, first, part);
+        block[1] = block_at(first < sizeof(int) ? sizeof(int) : first, sizeof(int), sizeof(int));
         basics[k] = (struct type){.users = 1, .is_committed = true, .is_basic = true, .size = is_pair ? first + sizeof(int) : first,
                                   .upper = (ptrdiff_t)whole, .blocks = is_pair ? 2 : 1, .block = block};
         basics[k].is_plain = basics[k].size == whole;

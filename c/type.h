@@ -5,9 +5,10 @@
 #include "run.h"
 
 struct block {
-    ptrdiff_t at;      /* bytes from the buffer's address */
-    size_t length;     /* bytes */
-    size_t element;    /* the bytes of one basic element */
+    ptrdiff_t at;        /* bytes from the buffer's address */
+    size_t length;       /* bytes */
+    uint32_t element;    /* the bytes of one basic element */
+    uint32_t alignment;  /* what C aligns such an element to: of a complex number, less than its bytes */
 };
 
 struct type {

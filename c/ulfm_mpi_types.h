@@ -91,7 +91,7 @@ enum {
     MPIX_ERR_PROC_FAILED_PENDING = 102, MPIX_ERR_REVOKED = 103, MPI_ERR_LASTCODE = 255
 };
 
-/* ---- Datatypes (3.2.2, and 6.9.4 for the pairs). ---- */
+/* ---- Datatypes (3.2.2, and 6.9.4 for the pairs). Those of C++ are those of C of the same size. ---- */
 
 #define ULFM_MPI_TYPE(number) ((MPI_Datatype)(number))
 #define MPI_DATATYPE_NULL ULFM_MPI_TYPE(0)
@@ -131,6 +131,14 @@ enum {
 #define MPI_2INT ULFM_MPI_TYPE(33)
 #define MPI_SHORT_INT ULFM_MPI_TYPE(34)
 #define MPI_LONG_DOUBLE_INT ULFM_MPI_TYPE(35)
+#define MPI_C_FLOAT_COMPLEX ULFM_MPI_TYPE(36)
+#define MPI_C_COMPLEX MPI_C_FLOAT_COMPLEX
+#define MPI_C_DOUBLE_COMPLEX ULFM_MPI_TYPE(37)
+#define MPI_C_LONG_DOUBLE_COMPLEX ULFM_MPI_TYPE(38)
+#define MPI_CXX_BOOL MPI_C_BOOL
+#define MPI_CXX_FLOAT_COMPLEX MPI_C_FLOAT_COMPLEX
+#define MPI_CXX_DOUBLE_COMPLEX MPI_C_DOUBLE_COMPLEX
+#define MPI_CXX_LONG_DOUBLE_COMPLEX MPI_C_LONG_DOUBLE_COMPLEX
 
 /* ---- Operations (6.9.2). ---- */
 

@@ -1,5 +1,6 @@
 /* Derived datatypes and packing; what it prints is the same with each MPI. For 2 or more ranks. */
 #include "check.h"
+#include <complex.h>
 #include <stddef.h>
 
 enum { ROWS = 6, COLUMNS = 5 };
@@ -138,6 +139,43 @@ static void interleaved(void) {
     MPI_Type_free(&column);
 }
 
+/* Complex numbers are summed and multiplied, and aligned as their parts are. */
+struct wave {
+    char kind;
+    float complex low;
+    double complex high[2];
+};
+
+static void complexes(void) {
+    struct wave waves[2] = {{'a', 0, {0, 0}}, {'b', 0, {0, 0}}}, got[2];
+    float complex turn = I, turned = 0;
+    double complex own = rank + 1 - I * rank, sum = 0;
+    long double complex one = 1 - I, all = 0, single = 0;
+    MPI_Datatype type, types[3] = {MPI_CHAR, MPI_C_COMPLEX, MPI_C_DOUBLE_COMPLEX};
+    MPI_Aint displs[3] = {offsetof(struct wave, kind), offsetof(struct wave, low), offsetof(struct wave, high)}, lower, extent;
+    int lengths[3] = {1, 1, 2}, count;
+    MPI_Status status;
+    MPI_Allreduce(&own, &sum, 1, MPI_C_DOUBLE_COMPLEX, MPI_SUM, world);
+    CHECK(creal(sum) == size * (size + 1) / 2 && cimag(sum) == -size * (size - 1) / 2);
+    MPI_Scan(&turn, &turned, 1, MPI_C_FLOAT_COMPLEX, MPI_PROD, world);
+    CHECK(turned == (rank % 4 == 0 ? I : rank % 4 == 1 ? -1 : rank % 4 == 2 ? -I : 1));
+    MPI_Allreduce(&one, &all, 1, MPI_C_LONG_DOUBLE_COMPLEX, MPI_SUM, world);
+    CHECK(all == size * one);
+    CHECK(class_of(MPI_Allreduce(&one, &single, 1, MPI_C_LONG_DOUBLE_COMPLEX, MPI_MAX, world)) == MPI_ERR_OP);
+    MPI_Type_create_struct(3, lengths, displs, types, &type);
+    MPI_Type_commit(&type);
+    MPI_Type_get_extent(type, &lower, &extent);
+    CHECK(lower == 0 && extent == sizeof(struct wave));
+    waves[1].low = rank + I, waves[1].high[1] = I * rank;
+    MPI_Sendrecv(waves, 2, type, next, 7, got, 2, type, before, 7, world, &status);
+    CHECK(got[0].kind == 'a' && got[1].kind == 'b' && got[1].low == before + I && got[1].high[1] == I * before);
+    MPI_Get_elements(&status, type, &count);
+    CHECK(count == 8);
+    MPI_Get_elements(&status, MPI_C_DOUBLE_COMPLEX, &count);
+    CHECK(count == MPI_UNDEFINED);
+    MPI_Type_free(&type);
+}
+
 int main(int argc, char **argv) {
     int all = 0;
     MPI_Init(&argc, &argv);
@@ -152,6 +190,7 @@ int main(int argc, char **argv) {
     packed();
     freed();
     interleaved();
+    complexes();
     MPI_Reduce(&faults, &all, 1, MPI_INT, MPI_SUM, 0, world);
     if (rank == 0) printf("faults: %d\n", all);
     MPI_Finalize();
