@@ -18,12 +18,12 @@ void copy_own(struct request *collective, const void *from, int sent, MPI_Dataty
     void *packed;
     size_t bytes = 0, room = 0;
     int code;
-    if (from == MPI_IN_PLACE || to == MPI_IN_PLACE) return;
+    if (from == MPI_IN_PLACE || to == MPI_IN_PLACE || (sent == 0 && count == 0)) return;
     check_buffer(sent, sendtype, &bytes, &code);
     check_buffer(count, type, &room, &code);
     code = pack_data(from, sent, sendtype, &data, &packed);
     size_t length = bytes < room ? bytes : room;
-    if (code == MPI_SUCCESS && is_plain_type(type) && length) memmove(to, data, length);
+    if (code == MPI_SUCCESS && length && is_plain_type(type)) memmove(to, data, length);
     else if (code == MPI_SUCCESS) unpack_data(data, length, to, count, type);
     if (code == MPI_SUCCESS && bytes > room) code = MPI_ERR_TRUNCATE;
     if (collective->code == MPI_SUCCESS) collective->code = code;

@@ -18,6 +18,8 @@ int check_layout(const struct layout *layout, const struct comm *comm) {
     if (!layout->has_types && !check_buffer(layout->has_counts ? 0 : layout->count, layout->type, &bytes, &code)) return code;
     if (layout->has_counts && (!layout->counts || !layout->displs || (layout->has_types && !layout->types))) return MPI_ERR_ARG;
     for (int k = 0; k < comm->size; k++) {
+        /* Where nothing goes, programs have MPI_DATATYPE_NULL, as with MPICH and Open MPI. */
+        if (layout->has_types && count_at(layout, k) == 0) continue;
         if (!check_buffer(count_at(layout, k), type_of_part(layout, k), &bytes, &code)) return code;
         if (!is_buffer(layout->at, bytes, type_of_part(layout, k))) return MPI_ERR_BUFFER;
     }

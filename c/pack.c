@@ -70,7 +70,7 @@ struct landing {
 bool make_landing(void *buffer, int count, MPI_Datatype handle, struct landing **made) {
     struct type *type = type_at(handle);
     *made = 0;
-    if (type->is_plain || count == 0) return true;
+    if (count == 0 || type->is_plain) return true;
     *made = malloc(sizeof **made + (size_t)count * type->size);
     if (!*made) return false;
     if (!type->is_basic) type->users++;

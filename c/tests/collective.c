@@ -69,6 +69,23 @@ static void moves(void) {
     MPI_Barrier(world);
 }
 
+/* To the next rank alone: what goes to the others has no type. */
+static void to_the_next(void) {
+    enum { MOST = 8 };
+    int sent[MOST] = {0}, got[MOST] = {0}, zeros[MOST] = {0}, next = (rank + 1) % size, before = (rank + size - 1) % size;
+    MPI_Datatype out[MOST], in[MOST];
+    MPI_Request request = MPI_REQUEST_NULL;
+    for (int k = 0; k < MOST; k++) out[k] = in[k] = MPI_DATATYPE_NULL;
+    sent[next] = got[before] = 1, out[next] = in[before] = MPI_INT;
+    for (int blocks = 0; blocks < 2; blocks++) {
+        int x = rank, y = -1;
+        if (blocks) CHECK(MPI_Alltoallw(&x, sent, zeros, out, &y, got, zeros, in, world) == MPI_SUCCESS);
+        else CHECK(MPI_Ialltoallw(&x, sent, zeros, out, &y, got, zeros, in, world, &request) == MPI_SUCCESS);
+        MPI_Wait(&request, MPI_STATUS_IGNORE);
+        CHECK(y == before);
+    }
+}
+
 static void groups(void) {
     MPI_Group all, odd, even, both, none, more;
     int positions[8], count = 0, result, translated[8], n;
@@ -186,6 +203,7 @@ int main(int argc, char **argv) {
     MPI_Comm_dup(MPI_COMM_WORLD, &world);
     reductions();
     moves();
+    to_the_next();
     groups();
     communicators();
     parts();
