@@ -102,11 +102,13 @@ int check_op(MPI_Op op, MPI_Datatype type) {
     return is_basic && is_op(op) && foldings[base](0, 0, 0, (int)(uintptr_t)op) ? MPI_SUCCESS : MPI_ERR_OP;
 }
 
-/* into[k] becomes in[k] op into[k], where the operation is one for this type. */
+/* into[k] becomes in[k] op into[k], where the operation is one for this type. A program's function may take it that there is an element, as with
+   MPICH and Open MPI, so for none it isn't called. */
 int fold(const void *in, void *into, int count, MPI_Datatype type, MPI_Op op) {
     const struct op *own = own_at(op);
+    if (count == 0) return MPI_SUCCESS;
     if (own) own->function((void *)(uintptr_t)in, into, &count, &type);
-    else if (count > 0) return foldings[(uintptr_t)type](in, into, count, (int)(uintptr_t)op) ? MPI_SUCCESS : MPI_ERR_OP;
+    else return foldings[(uintptr_t)type](in, into, count, (int)(uintptr_t)op) ? MPI_SUCCESS : MPI_ERR_OP;
     return MPI_SUCCESS;
 }
 

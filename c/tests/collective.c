@@ -8,6 +8,7 @@ static void product(void *in, void *into, int *count, MPI_Datatype *type) {
     /* Two by two matrices: this operation doesn't commute. */
     long *a = in, *b = into, c[4];
     (void)type;
+    CHECK(*count > 0);
     for (int k = 0; k < *count; k++, a += 4, b += 4) {
         c[0] = a[0] * b[0] + a[1] * b[2];
         c[1] = a[0] * b[1] + a[1] * b[3];
@@ -37,6 +38,9 @@ static void reductions(void) {
     MPI_Op_create(product, 0, &op);
     MPI_Reduce(m, result, 1, matrix, op, size - 1, world);
     MPI_Bcast(result, 4, MPI_LONG, size - 1, world);
+    MPI_Allreduce(NULL, NULL, 0, matrix, op, world);
+    MPI_Scan(NULL, NULL, 0, matrix, op, world);
+    MPI_Reduce_local(NULL, NULL, 0, matrix, op);
     MPI_Op_free(&op);
     MPI_Type_free(&matrix);
     MPI_Allreduce(MPI_IN_PLACE, &x, 1, MPI_INT, MPI_SUM, world);
