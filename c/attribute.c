@@ -72,11 +72,12 @@ static int delete_at(struct comm *comm, struct attribute **at) {
     return MPI_SUCCESS;
 }
 
-static int add(struct comm *comm, int keyval, void *value) {
+/* Puts an attribute at a place of the list, before the one that stands there. */
+static int add(struct attribute **at, int keyval, void *value) {
     struct attribute *attribute = malloc(sizeof *attribute);
     if (!attribute) return MPI_ERR_NO_MEM;
-    *attribute = (struct attribute){comm->attributes, keyval, value};
-    comm->attributes = attribute;
+    *attribute = (struct attribute){*at, keyval, value};
+    *at = attribute;
     return MPI_SUCCESS;
 }
 
@@ -87,7 +88,7 @@ int MPI_Comm_set_attr(MPI_Comm comm, int keyval, void *value) {
     if (!keyval_at(keyval)) return fail(of, MPI_ERR_KEYVAL);
     struct attribute **at = place_of(of, keyval);
     int code = *at ? delete_at(of, at) : MPI_SUCCESS;
-    return fail(of, code != MPI_SUCCESS ? code : add(of, keyval, value));
+    return fail(of, code != MPI_SUCCESS ? code : add(&of->attributes, keyval, value));
 }
 
 int MPI_Comm_delete_attr(MPI_Comm comm, int keyval) {
@@ -125,15 +126,18 @@ int MPI_Comm_get_attr(MPI_Comm comm, int keyval, void *value, int *flag) {
     return MPI_SUCCESS;
 }
 
-/* A duplicate gets those whose copy function says so (7.7.2). */
+/* A duplicate gets those whose copy function says so (7.7.2), in the same order, so that the last one that was set is the first to be deleted
+   there too. */
 int copy_attributes(struct comm *from, struct comm *to) {
+    struct attribute **end = &to->attributes;
     int code = MPI_SUCCESS;
     for (struct attribute *of = from->attributes; of && code == MPI_SUCCESS; of = of->next) {
         const struct keyval *keyval = keyval_at(of->keyval);
         void *value = 0;
         int flag = 0;
         code = keyval->copies(handle_of(from), of->keyval, keyval->more, of->value, &value, &flag);
-        if (code == MPI_SUCCESS && flag) code = add(to, of->keyval, value);
+        if (code == MPI_SUCCESS && flag) code = add(end, of->keyval, value);
+        if (*end) end = &(*end)->next;
     }
     return code;
 }

@@ -57,6 +57,40 @@ static void attributes(void) {
     CHECK(class_of(MPI_Comm_get_attr(world, MPI_KEYVAL_INVALID, &value, &flag)) == MPI_ERR_KEYVAL);
 }
 
+/* What is copied and deleted, in that order: the last one that was set is the first. */
+static char order[64];
+
+static int copy_in_order(MPI_Comm comm, int keyval, void *more, void *in, void *out, int *flag) {
+    strcat(strcat(order, "+"), in);
+    return MPI_COMM_DUP_FN(comm, keyval, more, in, out, flag);
+}
+
+static int delete_in_order(MPI_Comm comm, int keyval, void *value, void *more) {
+    (void)comm, (void)keyval, (void)more;
+    strcat(strcat(order, "-"), value);
+    return MPI_SUCCESS;
+}
+
+static void in_order(void) {
+    char *values[3] = {"1", "2", "3"};
+    int keys[3];
+    MPI_Comm first, second, third;
+    MPI_Comm_dup(world, &first);
+    for (int k = 0; k < 3; k++) {
+        MPI_Comm_create_keyval(copy_in_order, delete_in_order, &keys[k], NULL);
+        MPI_Comm_set_attr(first, keys[k], values[k]);
+    }
+    MPI_Comm_dup(first, &second);
+    MPI_Comm_dup(second, &third);
+    CHECK(!strcmp(order, "+3+2+1+3+2+1"));
+    order[0] = 0;
+    MPI_Comm_free(&second);
+    MPI_Comm_free(&third);
+    MPI_Comm_free(&first);
+    CHECK(!strcmp(order, "-3-2-1-3-2-1-3-2-1"));
+    for (int k = 0; k < 3; k++) MPI_Comm_free_keyval(&keys[k]);
+}
+
 static void buffered(void) {
     char *room = malloc(2000 + MPI_BSEND_OVERHEAD * 2), *back;
     int x[250], y[250], bytes, next = (rank + 1) % size, before = (rank + size - 1) % size;
@@ -84,6 +118,7 @@ int main(int argc, char **argv) {
     MPI_Comm_size(world, &size);
     MPI_Comm_set_errhandler(world, MPI_ERRORS_RETURN);
     attributes();
+    in_order();
     buffered();
     MPI_Comm_create_keyval(MPI_COMM_NULL_COPY_FN, end, &key, NULL);
     MPI_Comm_set_attr(MPI_COMM_SELF, key, &ends);
