@@ -3,7 +3,7 @@
 #include <stdlib.h>
 
 struct keyval {
-    MPI_Comm_copy_attr_function *copies;   /* null: freed */
+    MPI_Comm_copy_attr_function *copies;
     MPI_Comm_delete_attr_function *deletes;
     void *more;
 };
@@ -37,11 +37,12 @@ static struct keyval *keyval_at(int keyval) {
     return keyval >= FIRST_OWN && keyval - FIRST_OWN < me->keyval_count ? &me->keyvals[keyval - FIRST_OWN] : 0;
 }
 
+/* MPI_COMM_NULL_COPY_FN and MPI_COMM_NULL_DELETE_FN are null pointers in MPICH, and programs pass null for them. */
 int MPI_Comm_create_keyval(MPI_Comm_copy_attr_function *copies, MPI_Comm_delete_attr_function *deletes, int *keyval, void *more) {
     ENTER_LOOK(0, MPI_UNDEFINED, MPI_UNDEFINED);
-    WRITES(0, keyval && copies && deletes);
+    WRITES(0, keyval);
     if (!grow(&me->keyvals, me->keyval_count, sizeof *me->keyvals)) return fail(0, MPI_ERR_NO_MEM);
-    me->keyvals[me->keyval_count] = (struct keyval){copies, deletes, more};
+    me->keyvals[me->keyval_count] = (struct keyval){copies ? copies : MPI_COMM_NULL_COPY_FN, deletes ? deletes : MPI_COMM_NULL_DELETE_FN, more};
     *keyval = FIRST_OWN + me->keyval_count++;
     return MPI_SUCCESS;
 }
@@ -95,8 +96,9 @@ int MPI_Comm_delete_attr(MPI_Comm comm, int keyval) {
     struct comm *of = comm_at(comm);
     ENTER_LOOK(of, MPI_UNDEFINED, MPI_UNDEFINED);
     if (!of) return fail(0, MPI_ERR_COMM);
+    if (!keyval_at(keyval)) return fail(of, MPI_ERR_KEYVAL);
     struct attribute **at = place_of(of, keyval);
-    return fail(of, !keyval_at(keyval) || !*at ? MPI_ERR_KEYVAL : delete_at(of, at));
+    return fail(of, *at ? delete_at(of, at) : MPI_SUCCESS);
 }
 
 /* The attributes that are there: the value is a pointer to a number. */

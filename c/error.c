@@ -35,7 +35,7 @@ static const struct {
     {MPI_ERR_INFO_KEY, "MPI_ERR_INFO_KEY: a key is null, empty, or longer than 255 bytes"},
     {MPI_ERR_INFO_VALUE, "MPI_ERR_INFO_VALUE: a value is null, or longer than 1024 bytes"},
     {MPI_ERR_INFO_NOKEY, "MPI_ERR_INFO_NOKEY: the info object has no such key"},
-    {MPI_ERR_KEYVAL, "MPI_ERR_KEYVAL: this is no key of attributes, or the communicator has none with it"},
+    {MPI_ERR_KEYVAL, "MPI_ERR_KEYVAL: this is no key of attributes, or one that a program can't change"},
     {MPI_ERR_NO_MEM, "MPI_ERR_NO_MEM: no memory is left"},
     {MPIX_ERR_PROC_FAILED, "MPIX_ERR_PROC_FAILED: a process failed"},
     {MPIX_ERR_PROC_FAILED_PENDING, "MPIX_ERR_PROC_FAILED_PENDING: a process failed that might have sent the message"},

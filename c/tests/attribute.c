@@ -49,6 +49,8 @@ static void attributes(void) {
     CHECK(deletes == 2);
     for (int k = 0; k < 3; k++) MPI_Comm_delete_attr(world, keys[k]);
     CHECK(deletes == 4);
+    CHECK(MPI_Comm_delete_attr(world, keys[0]) == MPI_SUCCESS && deletes == 4);
+    CHECK(class_of(MPI_Comm_delete_attr(world, MPI_TAG_UB)) == MPI_ERR_KEYVAL);
     MPI_Comm_get_attr(world, keys[1], &value, &flag);
     CHECK(!flag);
     gone = keys[2];
@@ -69,6 +71,19 @@ static int delete_in_order(MPI_Comm comm, int keyval, void *value, void *more) {
     (void)comm, (void)keyval, (void)more;
     strcat(strcat(order, "-"), value);
     return MPI_SUCCESS;
+}
+
+/* Null is a function that copies nothing, and one that does nothing. */
+static void without_functions(void) {
+    int key = MPI_KEYVAL_INVALID, flag = 1, *value;
+    MPI_Comm dup;
+    CHECK(MPI_Comm_create_keyval(NULL, NULL, &key, NULL) == MPI_SUCCESS);
+    MPI_Comm_set_attr(world, key, &flag);
+    MPI_Comm_dup(world, &dup);
+    MPI_Comm_get_attr(dup, key, &value, &flag);
+    CHECK(!flag && MPI_Comm_delete_attr(world, key) == MPI_SUCCESS);
+    MPI_Comm_free(&dup);
+    MPI_Comm_free_keyval(&key);
 }
 
 static void in_order(void) {
@@ -119,6 +134,7 @@ int main(int argc, char **argv) {
     MPI_Comm_set_errhandler(world, MPI_ERRORS_RETURN);
     attributes();
     in_order();
+    without_functions();
     buffered();
     MPI_Comm_create_keyval(MPI_COMM_NULL_COPY_FN, end, &key, NULL);
     MPI_Comm_set_attr(MPI_COMM_SELF, key, &ends);
