@@ -134,6 +134,21 @@ int make_on_plane(struct comm *of, int plane, const struct group *group, const s
     return MPI_SUCCESS;
 }
 
+/* Takes a communicator away, where the deletion of its attributes allows that. */
+static int release(struct comm *of, MPI_Comm *handle) {
+    int code = delete_attributes(of);
+    if (code != MPI_SUCCESS) return code;
+    bool is_used = has_requests(of->context) || has_messages();
+    if (is_used && !grow(&me->old_comms, me->old_comm_count, sizeof *me->old_comms)) return MPI_ERR_NO_MEM;
+    if (is_used) me->old_comms[me->old_comm_count++] = of;
+    me->comms[(uintptr_t)*handle - 1] = 0;
+    of->chain->plane[of->plane].is_free = of->plane > 0;
+    of->chain->plane[of->plane].begun = of->begun;
+    *handle = MPI_COMM_NULL;
+    if (!is_used) free_comm(of);
+    return MPI_SUCCESS;
+}
+
 /* Makes a communicator of the same members, with none of what a program added to the other one. */
 int make_another(struct comm *of, MPI_Comm *made) {
     struct plans plans = {0};
@@ -147,8 +162,13 @@ int make_another(struct comm *of, MPI_Comm *made) {
 static int duplicate(struct comm *of, MPI_Comm *made) {
     int code = begin_collective(of);
     if (code == MPI_SUCCESS) code = make_another(of, made);
-    if (code == MPI_SUCCESS) comm_at(*made)->cart = copy_cart(of->cart);
-    return code == MPI_SUCCESS ? copy_attributes(of, comm_at(*made)) : code;
+    if (code != MPI_SUCCESS) return code;
+    comm_at(*made)->cart = copy_cart(of->cart);
+    code = copy_attributes(of, comm_at(*made));
+    /* A copy function failed: there is no duplicate here (7.7.2). */
+    if (code != MPI_SUCCESS) (void)release(comm_at(*made), made);
+    if (code != MPI_SUCCESS) *made = MPI_COMM_NULL;
+    return code;
 }
 
 int MPI_Comm_dup(MPI_Comm comm, MPI_Comm *made) {
@@ -174,16 +194,6 @@ int MPI_Comm_free(MPI_Comm *comm) {
     struct comm *of = comm ? comm_at(*comm) : 0;
     ENTER_LOOK(of, MPI_UNDEFINED, MPI_UNDEFINED);
     if (!of || *comm == MPI_COMM_WORLD || *comm == MPI_COMM_SELF) return fail(0, MPI_ERR_COMM);
-    int code = delete_attributes(of);
-    if (code != MPI_SUCCESS) return fail(of, code);
-    bool is_used = has_requests(of->context) || has_messages();
-    if (is_used && !grow(&me->old_comms, me->old_comm_count, sizeof *me->old_comms)) return fail(of, MPI_ERR_NO_MEM);
-    if (is_used) me->old_comms[me->old_comm_count++] = of;
-    me->comms[(uintptr_t)*comm - 1] = 0;
-    of->chain->plane[of->plane].is_free = of->plane > 0;
-    of->chain->plane[of->plane].begun = of->begun;
     me->place.comm = 0;
-    *comm = MPI_COMM_NULL;
-    if (!is_used) free_comm(of);
-    return MPI_SUCCESS;
+    return fail(of, release(of, comm));
 }

@@ -86,6 +86,31 @@ static void without_functions(void) {
     MPI_Comm_free_keyval(&key);
 }
 
+static int refuse_to_copy(MPI_Comm comm, int keyval, void *more, void *in, void *out, int *flag) {
+    (void)comm, (void)keyval, (void)more, (void)in, (void)out, (void)flag;
+    return MPI_ERR_OTHER;
+}
+
+/* Where a copy is refused there is no duplicate, and what was copied before is deleted. As many are made as there would be no contexts for. */
+static void refused(void) {
+    int keys[2], code;
+    MPI_Comm dup;
+    MPI_Comm_create_keyval(refuse_to_copy, MPI_COMM_NULL_DELETE_FN, &keys[0], NULL);
+    MPI_Comm_create_keyval(copy_in_order, delete_in_order, &keys[1], NULL);
+    MPI_Comm_set_attr(world, keys[0], "no");
+    MPI_Comm_set_attr(world, keys[1], "yes");
+    for (int k = 0; k < 12; k++) {
+        dup = MPI_COMM_WORLD, order[0] = 0;
+        code = MPI_Comm_dup(world, &dup);
+        CHECK(class_of(code) == MPI_ERR_OTHER);
+#ifdef ULFM_MPI
+        CHECK(code == MPI_ERR_OTHER && dup == MPI_COMM_NULL && !strcmp(order, "+yes-yes"));
+#endif
+    }
+    for (int k = 0; k < 2; k++) MPI_Comm_delete_attr(world, keys[k]), MPI_Comm_free_keyval(&keys[k]);
+    order[0] = 0;
+}
+
 static void in_order(void) {
     char *values[3] = {"1", "2", "3"};
     int keys[3];
@@ -133,6 +158,7 @@ int main(int argc, char **argv) {
     MPI_Comm_size(world, &size);
     MPI_Comm_set_errhandler(world, MPI_ERRORS_RETURN);
     attributes();
+    refused();
     in_order();
     without_functions();
     buffered();
