@@ -57,22 +57,43 @@ typedef void MPI_User_function(void *, void *, int *, MPI_Datatype *);
 #define MPI_IN_PLACE ((void *)-1)
 #define MPI_BOTTOM ((void *)0)
 
-enum {
-    MPI_ANY_SOURCE = -1,
-    MPI_ANY_TAG = -1,
-    MPI_PROC_NULL = -2,
-    MPI_ROOT = -3,
-    MPI_UNDEFINED = -32766,
-    MPI_TAG_UB_VALUE = 32767
-};
-enum { MPI_KEYVAL_INVALID = -1, MPI_TAG_UB = 1, MPI_HOST = 2, MPI_IO = 3, MPI_WTIME_IS_GLOBAL = 4, MPI_UNIVERSE_SIZE = 5, MPI_LASTUSEDCODE = 6 };
-enum { MPI_BSEND_OVERHEAD = 96 };
-enum { MPI_COMM_TYPE_SHARED = 1 };
-enum { MPI_GRAPH = 1, MPI_CART = 2, MPI_DIST_GRAPH = 3 };
-enum { MPI_ORDER_C = 0, MPI_ORDER_FORTRAN = 1 };
-enum { MPI_IDENT = 0, MPI_CONGRUENT = 1, MPI_SIMILAR = 2, MPI_UNEQUAL = 3 };
-enum { MPI_THREAD_SINGLE = 0, MPI_THREAD_FUNNELED = 1, MPI_THREAD_SERIALIZED = 2, MPI_THREAD_MULTIPLE = 3 };
+/* ---- Constants are macros, so that #ifdef finds them, and their type is int, as C++ deduces it. ---- */
 
+/* Of ranks, tags and counts (3.2.4, 3.10, 7.6.1). */
+#define MPI_ANY_SOURCE (-1)
+#define MPI_ANY_TAG (-1)
+#define MPI_PROC_NULL (-2)
+#define MPI_ROOT (-3)
+#define MPI_UNDEFINED (-32766)
+#define MPI_TAG_UB_VALUE 32767
+#define MPI_BSEND_OVERHEAD 96
+
+/* Keys of the attributes that are there (9.1.2). */
+#define MPI_KEYVAL_INVALID (-1)
+#define MPI_TAG_UB 1
+#define MPI_HOST 2
+#define MPI_IO 3
+#define MPI_WTIME_IS_GLOBAL 4
+#define MPI_UNIVERSE_SIZE 5
+#define MPI_LASTUSEDCODE 6
+
+/* Of communicators (7.4.1, 7.4.2), topologies (8.5.5), arrays (5.1.3) and threads (11.2.1). */
+#define MPI_IDENT 0
+#define MPI_CONGRUENT 1
+#define MPI_SIMILAR 2
+#define MPI_UNEQUAL 3
+#define MPI_COMM_TYPE_SHARED 1
+#define MPI_GRAPH 1
+#define MPI_CART 2
+#define MPI_DIST_GRAPH 3
+#define MPI_ORDER_C 0
+#define MPI_ORDER_FORTRAN 1
+#define MPI_THREAD_SINGLE 0
+#define MPI_THREAD_FUNNELED 1
+#define MPI_THREAD_SERIALIZED 2
+#define MPI_THREAD_MULTIPLE 3
+
+/* The room for texts. */
 #define MPI_MAX_ERROR_STRING 256
 #define MPI_MAX_PROCESSOR_NAME 128
 #define MPI_MAX_OBJECT_NAME 64
@@ -82,14 +103,36 @@ enum { MPI_THREAD_SINGLE = 0, MPI_THREAD_FUNNELED = 1, MPI_THREAD_SERIALIZED = 2
 
 /* ---- Error classes (9.4), and those of ULFM. ---- */
 
-enum {
-    MPI_SUCCESS = 0, MPI_ERR_BUFFER = 1, MPI_ERR_COUNT = 2, MPI_ERR_TYPE = 3, MPI_ERR_TAG = 4, MPI_ERR_COMM = 5,
-    MPI_ERR_RANK = 6, MPI_ERR_ROOT = 7, MPI_ERR_GROUP = 8, MPI_ERR_OP = 9, MPI_ERR_TOPOLOGY = 10, MPI_ERR_DIMS = 11,
-    MPI_ERR_ARG = 12, MPI_ERR_UNKNOWN = 13, MPI_ERR_TRUNCATE = 14, MPI_ERR_OTHER = 15, MPI_ERR_INTERN = 16,
-    MPI_ERR_IN_STATUS = 17, MPI_ERR_PENDING = 18, MPI_ERR_REQUEST = 19, MPI_ERR_INFO = 28, MPI_ERR_INFO_KEY = 29,
-    MPI_ERR_INFO_VALUE = 30, MPI_ERR_INFO_NOKEY = 31, MPI_ERR_NO_MEM = 34, MPI_ERR_KEYVAL = 48, MPIX_ERR_PROC_FAILED = 101,
-    MPIX_ERR_PROC_FAILED_PENDING = 102, MPIX_ERR_REVOKED = 103, MPI_ERR_LASTCODE = 255
-};
+#define MPI_SUCCESS 0
+#define MPI_ERR_BUFFER 1
+#define MPI_ERR_COUNT 2
+#define MPI_ERR_TYPE 3
+#define MPI_ERR_TAG 4
+#define MPI_ERR_COMM 5
+#define MPI_ERR_RANK 6
+#define MPI_ERR_ROOT 7
+#define MPI_ERR_GROUP 8
+#define MPI_ERR_OP 9
+#define MPI_ERR_TOPOLOGY 10
+#define MPI_ERR_DIMS 11
+#define MPI_ERR_ARG 12
+#define MPI_ERR_UNKNOWN 13
+#define MPI_ERR_TRUNCATE 14
+#define MPI_ERR_OTHER 15
+#define MPI_ERR_INTERN 16
+#define MPI_ERR_IN_STATUS 17
+#define MPI_ERR_PENDING 18
+#define MPI_ERR_REQUEST 19
+#define MPI_ERR_INFO 28
+#define MPI_ERR_INFO_KEY 29
+#define MPI_ERR_INFO_VALUE 30
+#define MPI_ERR_INFO_NOKEY 31
+#define MPI_ERR_NO_MEM 34
+#define MPI_ERR_KEYVAL 48
+#define MPIX_ERR_PROC_FAILED 101
+#define MPIX_ERR_PROC_FAILED_PENDING 102
+#define MPIX_ERR_REVOKED 103
+#define MPI_ERR_LASTCODE 255
 
 /* ---- Datatypes (3.2.2, and 6.9.4 for the pairs). Those of C++ are those of C of the same size. ---- */
 

@@ -1,9 +1,17 @@
 // A C++ program: streams, exceptions, statics and templates are each rank's own.
+#include <algorithm>
 #include <iostream>
+#include <mpi-ext.h>
 #include <mpi.h>
 #include <stdexcept>
 #include <string>
 #include <vector>
+
+// What programs ask for before they compile.
+#if !defined MPI_ANY_SOURCE || !defined MPI_UNDEFINED || !defined MPI_THREAD_MULTIPLE || !defined MPI_COMM_TYPE_SHARED || !defined MPI_TAG_UB || \
+    !defined MPI_SUCCESS || !defined MPI_ERR_LASTCODE || !defined MPI_BSEND_OVERHEAD || !defined MPIX_ERR_PROC_FAILED || !OMPI_HAVE_MPI_EXT_FTMPI
+#error "a constant isn't a macro"
+#endif
 
 template <class T> struct Counter {
     static int made;
@@ -21,6 +29,9 @@ int main(int argc, char **argv) {
     MPI_Init(&argc, &argv);
     MPI_Comm_rank(MPI_COMM_WORLD, &rank);
     MPI_Comm_size(MPI_COMM_WORLD, &size);
+    auto left = MPI_PROC_NULL;
+    left = rank;
+    if (std::max(left, MPI_ANY_SOURCE) != rank) MPI_Abort(MPI_COMM_WORLD, 4);
     std::vector<Counter<int>> counters(rank + 1);
     name() += std::to_string(rank);
     try {
