@@ -164,3 +164,14 @@ void clear_keyvals(void) {
     me->keyvals = 0;
     me->keyval_count = 0;
 }
+
+/* The older names (16.1). A report has the newer one. */
+#define ALSO(name, of) extern __typeof__(of) name __attribute__((alias(#of)))
+ALSO(MPI_NULL_COPY_FN, MPI_COMM_NULL_COPY_FN);
+ALSO(MPI_DUP_FN, MPI_COMM_DUP_FN);
+ALSO(MPI_NULL_DELETE_FN, MPI_COMM_NULL_DELETE_FN);
+ALSO(MPI_Keyval_create, MPI_Comm_create_keyval);
+ALSO(MPI_Keyval_free, MPI_Comm_free_keyval);
+ALSO(MPI_Attr_put, MPI_Comm_set_attr);
+ALSO(MPI_Attr_get, MPI_Comm_get_attr);
+ALSO(MPI_Attr_delete, MPI_Comm_delete_attr);

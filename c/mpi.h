@@ -164,6 +164,17 @@ int MPI_Comm_set_attr(MPI_Comm comm, int keyval, void *value);
 int MPI_Comm_get_attr(MPI_Comm comm, int keyval, void *value, int *flag);
 int MPI_Comm_delete_attr(MPI_Comm comm, int keyval);
 
+/* The same by their older names (16.1). */
+typedef MPI_Comm_copy_attr_function MPI_Copy_function;
+typedef MPI_Comm_delete_attr_function MPI_Delete_function;
+MPI_Copy_function MPI_NULL_COPY_FN, MPI_DUP_FN;
+MPI_Delete_function MPI_NULL_DELETE_FN;
+int MPI_Keyval_create(MPI_Copy_function *copies, MPI_Delete_function *deletes, int *keyval, void *more);
+int MPI_Keyval_free(int *keyval);
+int MPI_Attr_put(MPI_Comm comm, int keyval, void *value);
+int MPI_Attr_get(MPI_Comm comm, int keyval, void *value, int *flag);
+int MPI_Attr_delete(MPI_Comm comm, int keyval);
+
 /* ---- Cartesian topologies (8.5). ---- */
 
 int MPI_Cart_create(MPI_Comm comm, int ndims, const int dims[], const int periods[], int reorder, MPI_Comm *made);

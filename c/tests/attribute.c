@@ -86,6 +86,24 @@ static void without_functions(void) {
     MPI_Comm_free_keyval(&key);
 }
 
+static void by_older_names(void) {
+    int key, flag = 1, *value;
+    MPI_Comm dup;
+    MPI_Keyval_create(MPI_DUP_FN, MPI_NULL_DELETE_FN, &key, NULL);
+    MPI_Attr_put(world, key, &flag);
+    MPI_Comm_dup(world, &dup);
+    MPI_Attr_get(dup, key, &value, &flag);
+    CHECK(flag && value == &flag);
+    MPI_Attr_delete(world, key);
+    MPI_Comm_free(&dup);
+    MPI_Attr_get(world, key, &value, &flag);
+    CHECK(!flag);
+    MPI_Keyval_free(&key);
+    MPI_Keyval_create(MPI_NULL_COPY_FN, MPI_NULL_DELETE_FN, &key, NULL);
+    MPI_Keyval_free(&key);
+    CHECK(key == MPI_KEYVAL_INVALID);
+}
+
 static int refuse_to_copy(MPI_Comm comm, int keyval, void *more, void *in, void *out, int *flag) {
     (void)comm, (void)keyval, (void)more, (void)in, (void)out, (void)flag;
     return MPI_ERR_OTHER;
@@ -161,6 +179,7 @@ int main(int argc, char **argv) {
     refused();
     in_order();
     without_functions();
+    by_older_names();
     buffered();
     MPI_Comm_create_keyval(MPI_COMM_NULL_COPY_FN, end, &key, NULL);
     MPI_Comm_set_attr(MPI_COMM_SELF, key, &ends);
