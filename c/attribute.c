@@ -103,14 +103,15 @@ int MPI_Comm_delete_attr(MPI_Comm comm, int keyval) {
 
 /* The attributes that are there: the value is a pointer to a number. */
 static int *value_of(int keyval) {
-    static int tags = MPI_TAG_UB_VALUE, host = MPI_PROC_NULL, io = MPI_ANY_SOURCE, is_global = 1, last = MPI_ERR_LASTCODE;
+    static int tags = MPI_TAG_UB_VALUE, host = MPI_PROC_NULL, io = MPI_ANY_SOURCE, is_global = 1, program = 0;
     switch (keyval) {
     case MPI_TAG_UB: return &tags;
     case MPI_HOST: return &host;
     case MPI_IO: return &io;
     case MPI_WTIME_IS_GLOBAL: return &is_global;
     case MPI_UNIVERSE_SIZE: return &options.ranks;
-    case MPI_LASTUSEDCODE: return &last;
+    case MPI_LASTUSEDCODE: return last_used_code();
+    case MPI_APPNUM: return &program;
     default: return 0;
     }
 }
@@ -159,7 +160,9 @@ void free_attributes(struct comm *comm) {
     }
 }
 
+/* What a program added to the errors goes too: one of the attributes that are there points to it. */
 void clear_keyvals(void) {
+    clear_added();
     free(me->keyvals);
     me->keyvals = 0;
     me->keyval_count = 0;

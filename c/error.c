@@ -37,6 +37,42 @@ static const struct {
     {MPI_ERR_INFO_NOKEY, "MPI_ERR_INFO_NOKEY: the info object has no such key"},
     {MPI_ERR_KEYVAL, "MPI_ERR_KEYVAL: this is no key of attributes, or one that a program can't change"},
     {MPI_ERR_NO_MEM, "MPI_ERR_NO_MEM: no memory is left"},
+    {MPI_ERR_UNKNOWN, "MPI_ERR_UNKNOWN: an unknown error"},
+    {MPI_ERR_ACCESS, "MPI_ERR_ACCESS: the file may not be opened so"},
+    {MPI_ERR_AMODE, "MPI_ERR_AMODE: this is no way to open a file"},
+    {MPI_ERR_ASSERT, "MPI_ERR_ASSERT: this is no assertion of a window"},
+    {MPI_ERR_BAD_FILE, "MPI_ERR_BAD_FILE: this is no name of a file"},
+    {MPI_ERR_BASE, "MPI_ERR_BASE: memory is freed that MPI_Alloc_mem didn't give"},
+    {MPI_ERR_CONVERSION, "MPI_ERR_CONVERSION: the data can't be converted"},
+    {MPI_ERR_DISP, "MPI_ERR_DISP: a displacement isn't allowed"},
+    {MPI_ERR_DUP_DATAREP, "MPI_ERR_DUP_DATAREP: the representation of data is defined already"},
+    {MPI_ERR_FILE, "MPI_ERR_FILE: this is no file handle"},
+    {MPI_ERR_FILE_EXISTS, "MPI_ERR_FILE_EXISTS: the file exists"},
+    {MPI_ERR_FILE_IN_USE, "MPI_ERR_FILE_IN_USE: the file is open"},
+    {MPI_ERR_IO, "MPI_ERR_IO: reading or writing failed"},
+    {MPI_ERR_LOCKTYPE, "MPI_ERR_LOCKTYPE: this is no kind of lock"},
+    {MPI_ERR_NAME, "MPI_ERR_NAME: no service has this name"},
+    {MPI_ERR_NOT_SAME, "MPI_ERR_NOT_SAME: the ranks' arguments differ"},
+    {MPI_ERR_NO_SPACE, "MPI_ERR_NO_SPACE: there is no room on the device"},
+    {MPI_ERR_NO_SUCH_FILE, "MPI_ERR_NO_SUCH_FILE: there is no such file"},
+    {MPI_ERR_PORT, "MPI_ERR_PORT: this is no port"},
+    {MPI_ERR_PROC_ABORTED, "MPI_ERR_PROC_ABORTED: a process was aborted"},
+    {MPI_ERR_QUOTA, "MPI_ERR_QUOTA: the quota is used up"},
+    {MPI_ERR_READ_ONLY, "MPI_ERR_READ_ONLY: the file can only be read"},
+    {MPI_ERR_RMA_ATTACH, "MPI_ERR_RMA_ATTACH: the memory can't be attached"},
+    {MPI_ERR_RMA_CONFLICT, "MPI_ERR_RMA_CONFLICT: accesses to a window conflict"},
+    {MPI_ERR_RMA_FLAVOR, "MPI_ERR_RMA_FLAVOR: this isn't for such a window"},
+    {MPI_ERR_RMA_RANGE, "MPI_ERR_RMA_RANGE: the memory is outside of the window"},
+    {MPI_ERR_RMA_SHARED, "MPI_ERR_RMA_SHARED: the memory can't be shared"},
+    {MPI_ERR_RMA_SYNC, "MPI_ERR_RMA_SYNC: calls of a window are in a wrong order"},
+    {MPI_ERR_SERVICE, "MPI_ERR_SERVICE: this is no name of a service"},
+    {MPI_ERR_SESSION, "MPI_ERR_SESSION: this is no session"},
+    {MPI_ERR_SIZE, "MPI_ERR_SIZE: a size isn't allowed"},
+    {MPI_ERR_SPAWN, "MPI_ERR_SPAWN: processes couldn't be spawned"},
+    {MPI_ERR_UNSUPPORTED_DATAREP, "MPI_ERR_UNSUPPORTED_DATAREP: this representation of data isn't there"},
+    {MPI_ERR_UNSUPPORTED_OPERATION, "MPI_ERR_UNSUPPORTED_OPERATION: this operation isn't there"},
+    {MPI_ERR_VALUE_TOO_LARGE, "MPI_ERR_VALUE_TOO_LARGE: a value is too large for where it goes"},
+    {MPI_ERR_WIN, "MPI_ERR_WIN: this is no window"},
     {MPIX_ERR_PROC_FAILED, "MPIX_ERR_PROC_FAILED: a process failed"},
     {MPIX_ERR_PROC_FAILED_PENDING, "MPIX_ERR_PROC_FAILED_PENDING: a process failed that might have sent the message"},
     {MPIX_ERR_REVOKED, "MPIX_ERR_REVOKED: the communicator is revoked"},
@@ -55,6 +91,8 @@ int MPI_Error_class(int errorcode, int *errorclass) {
 }
 
 static const char *text_of(int code) {
+    const char *added = text_of_added(code);
+    if (added) return added;
     for (size_t k = 0; k < sizeof texts / sizeof *texts; k++)
         if (texts[k].code == code) return texts[k].text;
     return code & ~255 ? text_of(code & 255) : "an unknown error";

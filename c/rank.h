@@ -146,8 +146,9 @@ struct rank {
     struct op *ops;
     struct keyval *keyvals;
     struct info **infos;
+    struct added *added;      /* classes and codes of errors */
     void *attached;           /* by MPI_Buffer_attach */
-    int attached_size, keyval_count, info_count;
+    int attached_size, keyval_count, info_count, added_count, last_code;
     int comm_count, old_comm_count, group_count, request_count, message_count, handler_count, type_count, op_count, first_free;
     struct request *open;     /* receives that wait */
     struct request *spare;    /* can be used again */

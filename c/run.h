@@ -133,6 +133,11 @@ void clear_ops(void);
 int fail(struct comm *comm, int code);
 void clear_handlers(void);
 
+/* added.c */
+const char *text_of_added(int code);
+int *last_used_code(void);
+void clear_added(void);
+
 /* point.c, persistent.c */
 int check_message(const void *buf, int count, MPI_Datatype type, int peer, int tag, const struct comm *comm, bool is_receive);
 int begin_send(const void *buf, int count, MPI_Datatype type, int dest, int tag, struct comm *comm, bool waits, struct request **made);

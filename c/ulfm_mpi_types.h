@@ -76,6 +76,7 @@ typedef void MPI_User_function(void *, void *, int *, MPI_Datatype *);
 #define MPI_WTIME_IS_GLOBAL 4
 #define MPI_UNIVERSE_SIZE 5
 #define MPI_LASTUSEDCODE 6
+#define MPI_APPNUM 7
 
 /* Of communicators (7.4.1, 7.4.2), topologies (8.5.5), arrays (5.1.3) and threads (11.2.1). */
 #define MPI_IDENT 0
@@ -97,11 +98,13 @@ typedef void MPI_User_function(void *, void *, int *, MPI_Datatype *);
 #define MPI_MAX_ERROR_STRING 256
 #define MPI_MAX_PROCESSOR_NAME 128
 #define MPI_MAX_OBJECT_NAME 64
+#define MPI_MAX_PORT_NAME 256
 #define MPI_MAX_INFO_KEY 255
 #define MPI_MAX_INFO_VAL 1024
 #define MPI_MAX_LIBRARY_VERSION_STRING 256
 
-/* ---- Error classes (9.4), and those of ULFM. ---- */
+/* ---- Error classes (9.4), and those of ULFM; the numbers are those of MPICH. Of what isn't here (files, windows, spawning) a program may have them
+   in its own switches. ---- */
 
 #define MPI_SUCCESS 0
 #define MPI_ERR_BUFFER 1
@@ -123,16 +126,51 @@ typedef void MPI_User_function(void *, void *, int *, MPI_Datatype *);
 #define MPI_ERR_IN_STATUS 17
 #define MPI_ERR_PENDING 18
 #define MPI_ERR_REQUEST 19
+#define MPI_ERR_ACCESS 20
+#define MPI_ERR_AMODE 21
+#define MPI_ERR_BAD_FILE 22
+#define MPI_ERR_CONVERSION 23
+#define MPI_ERR_DUP_DATAREP 24
+#define MPI_ERR_FILE_EXISTS 25
+#define MPI_ERR_FILE_IN_USE 26
+#define MPI_ERR_FILE 27
 #define MPI_ERR_INFO 28
 #define MPI_ERR_INFO_KEY 29
 #define MPI_ERR_INFO_VALUE 30
 #define MPI_ERR_INFO_NOKEY 31
+#define MPI_ERR_IO 32
+#define MPI_ERR_NAME 33
 #define MPI_ERR_NO_MEM 34
+#define MPI_ERR_NOT_SAME 35
+#define MPI_ERR_NO_SPACE 36
+#define MPI_ERR_NO_SUCH_FILE 37
+#define MPI_ERR_PORT 38
+#define MPI_ERR_QUOTA 39
+#define MPI_ERR_READ_ONLY 40
+#define MPI_ERR_SERVICE 41
+#define MPI_ERR_SPAWN 42
+#define MPI_ERR_UNSUPPORTED_DATAREP 43
+#define MPI_ERR_UNSUPPORTED_OPERATION 44
+#define MPI_ERR_WIN 45
+#define MPI_ERR_BASE 46
+#define MPI_ERR_LOCKTYPE 47
 #define MPI_ERR_KEYVAL 48
+#define MPI_ERR_RMA_CONFLICT 49
+#define MPI_ERR_RMA_SYNC 50
+#define MPI_ERR_SIZE 51
+#define MPI_ERR_DISP 52
+#define MPI_ERR_ASSERT 53
+#define MPI_ERR_RMA_RANGE 55
+#define MPI_ERR_RMA_ATTACH 56
+#define MPI_ERR_RMA_SHARED 57
+#define MPI_ERR_RMA_FLAVOR 58
+#define MPI_ERR_SESSION 75
+#define MPI_ERR_PROC_ABORTED 76
+#define MPI_ERR_VALUE_TOO_LARGE 77
 #define MPIX_ERR_PROC_FAILED 101
 #define MPIX_ERR_PROC_FAILED_PENDING 102
 #define MPIX_ERR_REVOKED 103
-#define MPI_ERR_LASTCODE 255
+#define MPI_ERR_LASTCODE 127
 
 /* ---- Datatypes (3.2.2, and 6.9.4 for the pairs). Those of C++ are those of C of the same size. ---- */
 
