@@ -12,12 +12,20 @@ struct info {
     int count;
 };
 
+enum { FIRST_OWN = 2 };
+
 static struct info *info_at(MPI_Info handle) {
     uintptr_t number = (uintptr_t)handle;
-    return number && number <= (uintptr_t)me->info_count ? me->infos[number - 1] : 0;
+    return number >= FIRST_OWN && number - FIRST_OWN < (uintptr_t)me->info_count ? me->infos[number - FIRST_OWN] : 0;
 }
 
-bool is_info(MPI_Info handle) { return handle == MPI_INFO_NULL || info_at(handle); }
+/* What is only looked at may be MPI_INFO_ENV too, which has none of its keys: each may be left out (11.2.1). */
+static const struct info *seen_at(MPI_Info handle) {
+    static const struct info environment;
+    return handle == MPI_INFO_ENV ? &environment : info_at(handle);
+}
+
+bool is_info(MPI_Info handle) { return handle == MPI_INFO_NULL || seen_at(handle); }
 
 static bool is_text(const char *text, size_t most) { return text && strlen(text) <= most; }
 
@@ -68,7 +76,7 @@ static int make_info(const struct info *like, MPI_Info *made) {
     }
     if (place == me->info_count) me->info_count++;
     me->infos[place] = info;
-    *made = (MPI_Info)(uintptr_t)(place + 1);
+    *made = (MPI_Info)(uintptr_t)(FIRST_OWN + place);
     return MPI_SUCCESS;
 }
 
@@ -86,23 +94,27 @@ int MPI_Info_create(MPI_Info *made) {
     return refuse(make_info(0, made));
 }
 
-/* Begins a call on an info object. */
+/* Begins a call that changes an info object, and one that looks at it. */
 #define INFO(handle) \
     LOOK(); \
     struct info *of = info_at(handle); \
+    if (!of) return refuse(MPI_ERR_INFO)
+#define SEEN(handle) \
+    LOOK(); \
+    const struct info *of = seen_at(handle); \
     if (!of) return refuse(MPI_ERR_INFO)
 #define KEY(key) \
     if (!is_text(key, MPI_MAX_INFO_KEY) || !*key) return refuse(MPI_ERR_INFO_KEY)
 
 int MPI_Info_dup(MPI_Info info, MPI_Info *made) {
-    INFO(info);
+    SEEN(info);
     NEEDS(made);
     return refuse(make_info(of, made));
 }
 
 int MPI_Info_free(MPI_Info *info) {
     INFO(info ? *info : MPI_INFO_NULL);
-    me->infos[(uintptr_t)*info - 1] = 0;
+    me->infos[(uintptr_t)*info - FIRST_OWN] = 0;
     free_info(of);
     *info = MPI_INFO_NULL;
     return MPI_SUCCESS;
@@ -128,7 +140,7 @@ int MPI_Info_delete(MPI_Info info, const char *key) {
 
 /* At most `length` bytes of the value, and a zero behind them. */
 int MPI_Info_get(MPI_Info info, const char *key, int length, char *value, int *flag) {
-    INFO(info);
+    SEEN(info);
     KEY(key);
     if (length < 0) return refuse(MPI_ERR_ARG);
     NEEDS(flag);
@@ -141,7 +153,7 @@ int MPI_Info_get(MPI_Info info, const char *key, int length, char *value, int *f
 
 /* The value and the zero behind it as far as the buffer's room goes; then the room that all of it needs. */
 int MPI_Info_get_string(MPI_Info info, const char *key, int *room, char *value, int *flag) {
-    INFO(info);
+    SEEN(info);
     KEY(key);
     NEEDS(room && flag && *room >= 0 && (value || *room == 0));
     int place = place_of(of, key);
@@ -153,7 +165,7 @@ int MPI_Info_get_string(MPI_Info info, const char *key, int *room, char *value, 
 }
 
 int MPI_Info_get_valuelen(MPI_Info info, const char *key, int *length, int *flag) {
-    INFO(info);
+    SEEN(info);
     KEY(key);
     NEEDS(length && flag);
     int place = place_of(of, key);
@@ -163,14 +175,14 @@ int MPI_Info_get_valuelen(MPI_Info info, const char *key, int *length, int *flag
 }
 
 int MPI_Info_get_nkeys(MPI_Info info, int *count) {
-    INFO(info);
+    SEEN(info);
     NEEDS(count);
     *count = of->count;
     return MPI_SUCCESS;
 }
 
 int MPI_Info_get_nthkey(MPI_Info info, int n, char *key) {
-    INFO(info);
+    SEEN(info);
     NEEDS(key);
     if (n < 0 || n >= of->count) return refuse(MPI_ERR_ARG);
     strcpy(key, of->pairs[n].key);
@@ -182,7 +194,7 @@ int MPI_Comm_set_info(MPI_Comm comm, MPI_Info info) {
     struct comm *of = comm_at(comm);
     ENTER_LOOK(of, MPI_UNDEFINED, MPI_UNDEFINED);
     if (!of) return fail(0, MPI_ERR_COMM);
-    return info_at(info) ? MPI_SUCCESS : fail(of, MPI_ERR_INFO);
+    return seen_at(info) ? MPI_SUCCESS : fail(of, MPI_ERR_INFO);
 }
 
 int MPI_Comm_get_info(MPI_Comm comm, MPI_Info *made) {

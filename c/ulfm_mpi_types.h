@@ -40,6 +40,7 @@ typedef long long MPI_Offset;
 #define MPI_ERRORS_RETURN ((MPI_Errhandler)2)
 #define MPI_ERRORS_ABORT ((MPI_Errhandler)3)
 #define MPI_INFO_NULL ((MPI_Info)0)
+#define MPI_INFO_ENV ((MPI_Info)1)
 
 /* What is told of a message (3.2.5). `bytes` and `cancelled` are for MPI_Get_count, MPI_Get_elements and MPI_Test_cancelled. */
 typedef struct {

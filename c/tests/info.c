@@ -56,6 +56,20 @@ static void refused(void) {
     MPI_Info_free(&info);
 }
 
+/* MPI_INFO_ENV can be looked at. */
+static void environment(void) {
+    MPI_Info copy;
+    char value[8];
+    int count = -1, flag = 1;
+    CHECK(MPI_Info_get_nkeys(MPI_INFO_ENV, &count) == MPI_SUCCESS && count >= 0);
+    CHECK(MPI_Info_get(MPI_INFO_ENV, "no such key", 7, value, &flag) == MPI_SUCCESS && !flag);
+    CHECK(MPI_Info_dup(MPI_INFO_ENV, &copy) == MPI_SUCCESS && MPI_Info_set(copy, "a", "b") == MPI_SUCCESS);
+    MPI_Info_free(&copy);
+#ifdef ULFM_MPI
+    CHECK(class_of(MPI_Info_set(MPI_INFO_ENV, "a", "b")) == MPI_ERR_INFO);
+#endif
+}
+
 static void hints(void) {
     MPI_Info info, told;
     MPI_Comm made;
@@ -105,6 +119,7 @@ int main(int argc, char **argv) {
     MPI_Comm_set_errhandler(MPI_COMM_WORLD, MPI_ERRORS_RETURN);
     pairs();
     refused();
+    environment();
     hints();
     for (int k = 0; k < 20; k++) selves();
     MPI_Reduce(&faults, &all, 1, MPI_INT, MPI_SUM, 0, MPI_COMM_WORLD);
