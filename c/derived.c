@@ -99,12 +99,14 @@ static int contiguous(int count, MPI_Datatype of, MPI_Datatype *made) {
 
 int MPI_Type_contiguous(int count, MPI_Datatype type, MPI_Datatype *made) {
     ENTER_LOOK(0, MPI_UNDEFINED, MPI_UNDEFINED);
-    return fail(0, contiguous(count, type, made));
+    struct arguments arguments = {.combiner = MPI_COMBINER_CONTIGUOUS, .ints = {{1, &count}}, .types = 1, .type = &type};
+    return fail(0, describe(contiguous(count, type, made), made, &arguments));
 }
 
 int MPI_Type_dup(MPI_Datatype type, MPI_Datatype *made) {
     ENTER_LOOK(0, MPI_UNDEFINED, MPI_UNDEFINED);
-    int code = contiguous(1, type, made);
+    struct arguments arguments = {.combiner = MPI_COMBINER_DUP, .types = 1, .type = &type};
+    int code = describe(contiguous(1, type, made), made, &arguments);
     if (code == MPI_SUCCESS) type_at(*made)->is_committed = type_at(type)->is_committed;
     return fail(0, code);
 }
@@ -138,41 +140,47 @@ int MPI_Type_vector(int count, int length, int stride, MPI_Datatype type, MPI_Da
     ENTER_LOOK(0, MPI_UNDEFINED, MPI_UNDEFINED);
     const struct type *of = type_at(type);
     struct blocks blocks = {.count = count, .length = length, .stride = of ? stride * extent_of(of) : 0};
-    return fail(0, make_blocks(&blocks, type, made));
+    struct arguments arguments = {MPI_COMBINER_VECTOR, {{1, &count}, {1, &length}, {1, &stride}}, 0, 0, 1, &type};
+    return fail(0, describe(make_blocks(&blocks, type, made), made, &arguments));
 }
 
 int MPI_Type_create_hvector(int count, int length, MPI_Aint stride, MPI_Datatype type, MPI_Datatype *made) {
     ENTER_LOOK(0, MPI_UNDEFINED, MPI_UNDEFINED);
     struct blocks blocks = {.count = count, .length = length, .stride = stride};
-    return fail(0, make_blocks(&blocks, type, made));
+    struct arguments arguments = {MPI_COMBINER_HVECTOR, {{1, &count}, {1, &length}}, 1, &stride, 1, &type};
+    return fail(0, describe(make_blocks(&blocks, type, made), made, &arguments));
 }
 
 int MPI_Type_indexed(int count, const int lengths[], const int displs[], MPI_Datatype type, MPI_Datatype *made) {
     ENTER_LOOK(0, MPI_UNDEFINED, MPI_UNDEFINED);
     if (count > 0 && (!lengths || !displs)) return fail(0, MPI_ERR_ARG);
     struct blocks blocks = {.count = count, .lengths = lengths, .displs = displs};
-    return fail(0, make_blocks(&blocks, type, made));
+    struct arguments arguments = {MPI_COMBINER_INDEXED, {{1, &count}, {count, lengths}, {count, displs}}, 0, 0, 1, &type};
+    return fail(0, describe(make_blocks(&blocks, type, made), made, &arguments));
 }
 
 int MPI_Type_create_hindexed(int count, const int lengths[], const MPI_Aint displs[], MPI_Datatype type, MPI_Datatype *made) {
     ENTER_LOOK(0, MPI_UNDEFINED, MPI_UNDEFINED);
     if (count > 0 && (!lengths || !displs)) return fail(0, MPI_ERR_ARG);
     struct blocks blocks = {.count = count, .lengths = lengths, .at = displs};
-    return fail(0, make_blocks(&blocks, type, made));
+    struct arguments arguments = {MPI_COMBINER_HINDEXED, {{1, &count}, {count, lengths}}, count, displs, 1, &type};
+    return fail(0, describe(make_blocks(&blocks, type, made), made, &arguments));
 }
 
 int MPI_Type_create_indexed_block(int count, int length, const int displs[], MPI_Datatype type, MPI_Datatype *made) {
     ENTER_LOOK(0, MPI_UNDEFINED, MPI_UNDEFINED);
     if (count > 0 && !displs) return fail(0, MPI_ERR_ARG);
     struct blocks blocks = {.count = count, .length = length, .displs = displs};
-    return fail(0, make_blocks(&blocks, type, made));
+    struct arguments arguments = {MPI_COMBINER_INDEXED_BLOCK, {{1, &count}, {1, &length}, {count, displs}}, 0, 0, 1, &type};
+    return fail(0, describe(make_blocks(&blocks, type, made), made, &arguments));
 }
 
 int MPI_Type_create_hindexed_block(int count, int length, const MPI_Aint displs[], MPI_Datatype type, MPI_Datatype *made) {
     ENTER_LOOK(0, MPI_UNDEFINED, MPI_UNDEFINED);
     if (count > 0 && !displs) return fail(0, MPI_ERR_ARG);
     struct blocks blocks = {.count = count, .length = length, .at = displs};
-    return fail(0, make_blocks(&blocks, type, made));
+    struct arguments arguments = {MPI_COMBINER_HINDEXED_BLOCK, {{1, &count}, {1, &length}}, count, displs, 1, &type};
+    return fail(0, describe(make_blocks(&blocks, type, made), made, &arguments));
 }
 
 /* The upper bound of a structure is rounded up, so that the next one is aligned as C has it (5.1.6). */
@@ -199,8 +207,12 @@ int MPI_Type_create_struct(int count, const int lengths[], const MPI_Aint displs
     }
     struct type *type = code == MPI_SUCCESS ? join(pieces, count) : 0;
     if (type) align(type);
-    if (code == MPI_SUCCESS) code = add_type(type, made);
+    MPI_Datatype handle = MPI_DATATYPE_NULL;   /* `made` may be one of `types` */
+    if (code == MPI_SUCCESS) code = add_type(type, &handle);
     free(pieces);
+    struct arguments arguments = {MPI_COMBINER_STRUCT, {{1, &count}, {count, lengths}}, count, displs, count, types};
+    code = describe(code, &handle, &arguments);
+    if (code == MPI_SUCCESS) *made = handle;
     return fail(0, code);
 }
 
@@ -218,8 +230,10 @@ static struct type *resize(const struct type *of, ptrdiff_t lower, ptrdiff_t ext
 
 int MPI_Type_create_resized(MPI_Datatype type, MPI_Aint lower, MPI_Aint extent, MPI_Datatype *made) {
     ENTER_LOOK(0, MPI_UNDEFINED, MPI_UNDEFINED);
+    struct arguments arguments = {.combiner = MPI_COMBINER_RESIZED, .addresses = 2, .address = (MPI_Aint[]){lower, extent}, .types = 1, .type = &type};
     int code = check(0, type, made);
-    return fail(0, code != MPI_SUCCESS ? code : add_type(resize(type_at(type), lower, extent), made));
+    if (code == MPI_SUCCESS) code = add_type(resize(type_at(type), lower, extent), made);
+    return fail(0, describe(code, made, &arguments));
 }
 
 /* A part of an array, of which each dimension has its size, the size of the part, and where it starts; the first dimension varies the slowest,
@@ -253,5 +267,7 @@ int MPI_Type_create_subarray(int dims, const int sizes[], const int subsizes[], 
     if (dims < 1 || !sizes || !subsizes || !starts || (order != MPI_ORDER_C && order != MPI_ORDER_FORTRAN)) return fail(0, MPI_ERR_ARG);
     for (int k = 0; k < dims; k++)
         if (sizes[k] < 1 || subsizes[k] < 1 || subsizes[k] > sizes[k] || starts[k] < 0 || starts[k] > sizes[k] - subsizes[k]) return fail(0, MPI_ERR_ARG);
-    return fail(0, add_type(subarray(dims, sizes, subsizes, starts, order == MPI_ORDER_FORTRAN, type_at(type)), made));
+    code = add_type(subarray(dims, sizes, subsizes, starts, order == MPI_ORDER_FORTRAN, type_at(type)), made);
+    struct arguments arguments = {MPI_COMBINER_SUBARRAY, {{1, &dims}, {dims, sizes}, {dims, subsizes}, {dims, starts}, {1, &order}}, 0, 0, 1, &type};
+    return fail(0, describe(code, made, &arguments));
 }

@@ -120,6 +120,10 @@ int MPI_Type_create_subarray(int dims, const int sizes[], const int subsizes[], 
                              MPI_Datatype *made);
 int MPI_Type_create_resized(MPI_Datatype type, MPI_Aint lower, MPI_Aint extent, MPI_Datatype *made);
 int MPI_Type_dup(MPI_Datatype type, MPI_Datatype *made);
+int MPI_Type_get_envelope(MPI_Datatype type, int *ints, int *addresses, int *types, int *combiner);
+int MPI_Type_get_contents(MPI_Datatype type, int ints, int addresses, int types, int number[], MPI_Aint address[], MPI_Datatype of[]);
+int MPI_Type_set_name(MPI_Datatype type, const char *name);
+int MPI_Type_get_name(MPI_Datatype type, char *name, int *length);
 int MPI_Type_commit(MPI_Datatype *type);
 int MPI_Type_free(MPI_Datatype *type);
 int MPI_Pack(const void *buffer, int count, MPI_Datatype type, void *packed, int room, int *position, MPI_Comm comm);

@@ -5,7 +5,7 @@
 #include <string.h>
 #include <wchar.h>
 
-enum { FIRST_OWN = 64, FIRST_PAIR = 30, FIRST_COMPLEX = 36, BASIC = 39 };
+enum { FIRST_OWN = 64, FIRST_PAIR = 30, FIRST_COMPLEX = 36, BASIC = BASIC_TYPES };
 
 #define PAIR(first) {sizeof(first), sizeof(struct { first value; int place; })}
 static const size_t sizes[FIRST_PAIR] = {0, 1, 1, 1, 1, 1, sizeof(short), sizeof(short), sizeof(int), sizeof(int), sizeof(long), sizeof(long),
@@ -46,8 +46,11 @@ struct type *type_at(MPI_Datatype handle) {
 void free_type(struct type *type) {
     if (type->is_basic || --type->users > 0) return;
     free(type->block);
+    free_recipe(type->recipe);
     free(type);
 }
+
+MPI_Datatype handle_of_basic(const struct type *type) { return (MPI_Datatype)(uintptr_t)(type - basics); }
 
 int add_type(struct type *type, MPI_Datatype *made) {
     int place = 0;
@@ -185,6 +188,8 @@ void clear_types(void) {
     for (int k = 0; k < me->type_count; k++)
         if (me->types[k]) free_type(me->types[k]);
     free(me->types);
+    free(me->type_names);
     me->types = 0;
+    me->type_names = 0;
     me->type_count = 0;
 }

@@ -1,5 +1,6 @@
 /* Small calls: classes of errors, those that a program adds, names of types and how they were made. What it prints is the same with each MPI. */
 #include "check.h"
+#include <stdbool.h>
 
 static int rank, size, seen;
 static MPI_Comm world = MPI_COMM_WORLD;
@@ -69,6 +70,79 @@ static void added(void) {
 #endif
 }
 
+static bool is_called(MPI_Datatype type, const char *name) {
+    char text[MPI_MAX_OBJECT_NAME] = "?";
+    int length = -1;
+    MPI_Type_get_name(type, text, &length);
+    return !strcmp(text, name) && length == (int)strlen(name);
+}
+
+static void names(void) {
+    MPI_Datatype type, again;
+    MPI_Type_contiguous(2, MPI_INT, &type);
+    CHECK(is_called(MPI_DOUBLE, "MPI_DOUBLE") && is_called(MPI_2INT, "MPI_2INT") && is_called(MPI_C_DOUBLE_COMPLEX, "MPI_C_DOUBLE_COMPLEX"));
+    CHECK(is_called(MPI_COUNT, "MPI_COUNT") && is_called(MPI_UINT64_T, "MPI_UINT64_T") && is_called(type, ""));
+    MPI_Type_set_name(type, "two");
+    MPI_Type_set_name(MPI_SHORT, "less");
+    MPI_Type_dup(type, &again);
+    CHECK(is_called(type, "two") && is_called(again, "") && is_called(MPI_SHORT, "less") && is_called(MPI_INT, "MPI_INT"));
+    CHECK(class_of(MPI_Type_set_name(MPI_DATATYPE_NULL, "none")) == MPI_ERR_TYPE);
+    MPI_Type_free(&type);
+    MPI_Type_free(&again);
+}
+
+/* Whether a type was made so; frees it, and what it was made of. `wanted` has the ints, `at` the addresses. */
+static bool is_made(MPI_Datatype *type, int combiner, int ints, const int wanted[], int addresses, const MPI_Aint at[], int types, MPI_Datatype first) {
+    int counts[3] = {-1, -1, -1}, how, number[16];
+    MPI_Aint address[4];
+    MPI_Datatype of[4];
+    bool is_so = true;
+    MPI_Type_get_envelope(*type, &counts[0], &counts[1], &counts[2], &how);
+    if (how != combiner || counts[0] != ints || counts[1] != addresses || counts[2] != types) return false;
+    MPI_Type_get_contents(*type, ints, addresses, types, number, address, of);
+    for (int k = 0; k < ints; k++) is_so = is_so && number[k] == wanted[k];
+    for (int k = 0; k < addresses; k++) is_so = is_so && address[k] == at[k];
+    is_so = is_so && (first == MPI_DATATYPE_NULL || of[0] == first);
+    for (int k = 0; k < types; k++) {
+        MPI_Type_get_envelope(of[k], &counts[0], &counts[1], &counts[2], &how);
+        if (how != MPI_COMBINER_NAMED) MPI_Type_free(&of[k]);
+    }
+    MPI_Type_free(type);
+    return is_so;
+}
+
+static void recipes(void) {
+    MPI_Datatype type, pair, types[2] = {MPI_CHAR, MPI_INT};
+    int lengths[2] = {1, 3}, displs[2] = {4, 0}, whole[2] = {5, 6}, part[2] = {2, 3}, from[2] = {1, 2}, counts[3], how;
+    MPI_Aint at[2] = {16, 0};
+    MPI_Type_get_envelope(MPI_DOUBLE_INT, &counts[0], &counts[1], &counts[2], &how);
+    CHECK(how == MPI_COMBINER_NAMED && !counts[0] && !counts[1] && !counts[2]);
+    CHECK(class_of(MPI_Type_get_contents(MPI_INT, 1, 1, 1, counts, at, types)) == MPI_ERR_TYPE);
+    MPI_Type_vector(2, 3, 4, MPI_INT, &type);
+    CHECK(class_of(MPI_Type_get_contents(type, 2, 0, 1, counts, at, types)) != MPI_SUCCESS);
+    CHECK(is_made(&type, MPI_COMBINER_VECTOR, 3, (int[]){2, 3, 4}, 0, NULL, 1, MPI_INT));
+    MPI_Type_create_hvector(2, 3, 40, MPI_INT, &type);
+    CHECK(is_made(&type, MPI_COMBINER_HVECTOR, 2, (int[]){2, 3}, 1, (MPI_Aint[]){40}, 1, MPI_INT));
+    MPI_Type_indexed(2, lengths, displs, MPI_DOUBLE, &type);
+    CHECK(is_made(&type, MPI_COMBINER_INDEXED, 5, (int[]){2, 1, 3, 4, 0}, 0, NULL, 1, MPI_DOUBLE));
+    MPI_Type_create_hindexed(2, lengths, at, MPI_CHAR, &type);
+    CHECK(is_made(&type, MPI_COMBINER_HINDEXED, 3, (int[]){2, 1, 3}, 2, at, 1, MPI_CHAR));
+    MPI_Type_create_indexed_block(2, 3, displs, MPI_INT, &type);
+    CHECK(is_made(&type, MPI_COMBINER_INDEXED_BLOCK, 4, (int[]){2, 3, 4, 0}, 0, NULL, 1, MPI_INT));
+    MPI_Type_create_hindexed_block(2, 3, at, MPI_INT, &type);
+    CHECK(is_made(&type, MPI_COMBINER_HINDEXED_BLOCK, 2, (int[]){2, 3}, 2, at, 1, MPI_INT));
+    MPI_Type_create_subarray(2, whole, part, from, MPI_ORDER_C, MPI_INT, &type);
+    CHECK(is_made(&type, MPI_COMBINER_SUBARRAY, 8, (int[]){2, 5, 6, 2, 3, 1, 2, MPI_ORDER_C}, 0, NULL, 1, MPI_INT));
+    MPI_Type_create_resized(MPI_INT, -4, 32, &type);
+    CHECK(is_made(&type, MPI_COMBINER_RESIZED, 0, NULL, 2, (MPI_Aint[]){-4, 32}, 1, MPI_INT));
+    MPI_Type_create_struct(2, lengths, at, types, &pair);
+    MPI_Type_contiguous(7, pair, &type);
+    MPI_Type_dup(type, &types[1]);
+    CHECK(is_made(&pair, MPI_COMBINER_STRUCT, 3, (int[]){2, 1, 3}, 2, at, 2, MPI_CHAR));
+    CHECK(is_made(&type, MPI_COMBINER_CONTIGUOUS, 1, (int[]){7}, 0, NULL, 1, MPI_DATATYPE_NULL));
+    CHECK(is_made(&types[1], MPI_COMBINER_DUP, 0, NULL, 0, NULL, 1, MPI_DATATYPE_NULL));
+}
+
 int main(int argc, char **argv) {
     int all = 0;
     MPI_Init(&argc, &argv);
@@ -77,6 +151,8 @@ int main(int argc, char **argv) {
     MPI_Comm_set_errhandler(world, MPI_ERRORS_RETURN);
     classes();
     added();
+    names();
+    recipes();
     MPI_Reduce(&faults, &all, 1, MPI_INT, MPI_SUM, 0, world);
     if (rank == 0) printf("faults: %d\n", all);
     MPI_Finalize();
