@@ -175,3 +175,11 @@ int MPI_Comm_test_inter(MPI_Comm comm, int *flag) {
     *flag = 0;
     return MPI_SUCCESS;
 }
+
+/* Nobody is spawned here (11.8.2). */
+int MPI_Comm_get_parent(MPI_Comm *parent) {
+    ENTER_LOOK(0, MPI_UNDEFINED, MPI_UNDEFINED);
+    WRITES(0, parent);
+    *parent = MPI_COMM_NULL;
+    return MPI_SUCCESS;
+}

@@ -197,3 +197,6 @@ int MPI_Comm_free(MPI_Comm *comm) {
     me->place.comm = 0;
     return fail(of, release(of, comm));
 }
+
+/* What was sent is received after it too, so it has nothing to wait for (11.10.4). */
+int MPI_Comm_disconnect(MPI_Comm *comm) __attribute__((alias("MPI_Comm_free")));

@@ -132,6 +132,37 @@ int MPI_Type_get_true_extent(MPI_Datatype type, MPI_Aint *lower, MPI_Aint *exten
     return MPI_SUCCESS;
 }
 
+int MPI_Type_size_x(MPI_Datatype type, MPI_Count *size) {
+    ENTER_LOOK(0, MPI_UNDEFINED, MPI_UNDEFINED);
+    const struct type *of = type_at(type);
+    if (!of) return fail(0, MPI_ERR_TYPE);
+    WRITES(0, size);
+    *size = (MPI_Count)of->size;
+    return MPI_SUCCESS;
+}
+
+int MPI_Type_get_extent_x(MPI_Datatype type, MPI_Count *lower, MPI_Count *extent) {
+    ENTER_LOOK(0, MPI_UNDEFINED, MPI_UNDEFINED);
+    const struct type *of = type_at(type);
+    if (!of) return fail(0, MPI_ERR_TYPE);
+    WRITES(0, lower && extent);
+    *lower = of->lower;
+    *extent = extent_of(of);
+    return MPI_SUCCESS;
+}
+
+int MPI_Type_get_true_extent_x(MPI_Datatype type, MPI_Count *lower, MPI_Count *extent) {
+    ENTER_LOOK(0, MPI_UNDEFINED, MPI_UNDEFINED);
+    const struct type *of = type_at(type);
+    if (!of) return fail(0, MPI_ERR_TYPE);
+    WRITES(0, lower && extent);
+    ptrdiff_t least, most;
+    bounds_of_data(of, &least, &most);
+    *lower = least;
+    *extent = most - least;
+    return MPI_SUCCESS;
+}
+
 int MPI_Type_commit(MPI_Datatype *type) {
     ENTER_LOOK(0, MPI_UNDEFINED, MPI_UNDEFINED);
     struct type *of = type ? type_at(*type) : 0;
@@ -161,7 +192,7 @@ int MPI_Get_count(const MPI_Status *status, MPI_Datatype type, int *count) {
 }
 
 /* The basic elements in so many bytes of a type's data, or MPI_UNDEFINED where an element isn't whole. */
-static int elements_in(const struct type *type, size_t bytes) {
+static MPI_Count elements_in(const struct type *type, size_t bytes) {
     size_t each = 0, rest = type->size ? bytes % type->size : bytes, more = 0;
     for (size_t k = 0; k < type->blocks; k++) {
         const struct block *block = &type->block[k];
@@ -172,10 +203,20 @@ static int elements_in(const struct type *type, size_t bytes) {
         rest -= part;
     }
     size_t all = type->size ? bytes / type->size * each + more : 0;
-    return rest || all > INT_MAX ? MPI_UNDEFINED : (int)all;
+    return rest ? MPI_UNDEFINED : (MPI_Count)all;
 }
 
 int MPI_Get_elements(const MPI_Status *status, MPI_Datatype type, int *count) {
+    ENTER_LOOK(0, MPI_UNDEFINED, MPI_UNDEFINED);
+    const struct type *of = type_at(type);
+    if (!of) return fail(0, MPI_ERR_TYPE);
+    WRITES(0, status && count);
+    MPI_Count all = elements_in(of, status->bytes);
+    *count = all > INT_MAX ? MPI_UNDEFINED : (int)all;
+    return MPI_SUCCESS;
+}
+
+int MPI_Get_elements_x(const MPI_Status *status, MPI_Datatype type, MPI_Count *count) {
     ENTER_LOOK(0, MPI_UNDEFINED, MPI_UNDEFINED);
     const struct type *of = type_at(type);
     if (!of) return fail(0, MPI_ERR_TYPE);

@@ -143,6 +143,40 @@ static void recipes(void) {
     CHECK(is_made(&types[1], MPI_COMBINER_DUP, 0, NULL, 0, NULL, 1, MPI_DATATYPE_NULL));
 }
 
+static void sizes(void) {
+    MPI_Datatype type;
+    MPI_Count size = 0, lower = 1, extent = 0;
+    MPI_Status status;
+    int x[6] = {0};
+    MPI_Type_vector(2, 1, 3, MPI_INT, &type);
+    MPI_Type_commit(&type);
+    MPI_Type_size_x(type, &size);
+    MPI_Type_get_extent_x(type, &lower, &extent);
+    CHECK(size == 2 * sizeof(int) && lower == 0 && extent == 4 * sizeof(int));
+    MPI_Type_get_true_extent_x(type, &lower, &extent);
+    CHECK(lower == 0 && extent == 4 * sizeof(int));
+    MPI_Sendrecv(x, 1, type, 0, 1, x, 1, type, 0, 1, MPI_COMM_SELF, &status);
+    MPI_Get_elements_x(&status, type, &size);
+    CHECK(size == 2);
+    MPI_Type_free(&type);
+}
+
+static void communicators(void) {
+    MPI_Comm parent = world, dup;
+    int last = -1, flag, *number, sum = 0;
+    CHECK(MPI_Comm_get_parent(&parent) == MPI_SUCCESS && parent == MPI_COMM_NULL);
+    CHECK(MPI_Pcontrol(0) == MPI_SUCCESS && MPI_Pcontrol(1, "more") == MPI_SUCCESS);
+    for (int k = 0; k < 12; k++) {
+        MPI_Comm_dup(world, &dup);
+        MPI_Allreduce(&rank, &sum, 1, MPI_INT, MPI_SUM, dup);
+        CHECK(MPI_Comm_disconnect(&dup) == MPI_SUCCESS && dup == MPI_COMM_NULL && sum == size * (size - 1) / 2);
+    }
+    CHECK(class_of(MPI_Comm_disconnect(&dup)) == MPI_ERR_COMM);
+    MPI_Comm_get_attr(world, MPI_APPNUM, &number, &flag);
+    if (flag) last = *number;
+    CHECK(flag && last == 0);
+}
+
 int main(int argc, char **argv) {
     int all = 0;
     MPI_Init(&argc, &argv);
@@ -153,6 +187,8 @@ int main(int argc, char **argv) {
     added();
     names();
     recipes();
+    sizes();
+    communicators();
     MPI_Reduce(&faults, &all, 1, MPI_INT, MPI_SUM, 0, world);
     if (rank == 0) printf("faults: %d\n", all);
     MPI_Finalize();
