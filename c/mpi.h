@@ -296,6 +296,9 @@ int MPIX_Comm_ack_failed(MPI_Comm comm, int count, int *acknowledged);
 int MPIX_Comm_failure_ack(MPI_Comm comm);
 int MPIX_Comm_failure_get_acked(MPI_Comm comm, MPI_Group *failed);
 
+/* Each of these calls by its other name too, PMPI_Send or PMPIX_Comm_agree (15.2). `make` writes this file. */
+#include "ulfm_mpi_profile.h"
+
 #ifdef __cplusplus
 }
 #endif

@@ -1,6 +1,8 @@
 /* What a status says in elements of a type (MPI 4.0, 3.2.5 and 5.1.11), and what a program writes into one (13.3). */
 #include "type.h"
 
+#include <limits.h>
+
 /* The basic elements of one of a type. */
 static size_t elements_of(const struct type *type) {
     size_t each = 0;
@@ -31,6 +33,16 @@ static MPI_Count elements_in(const struct type *type, size_t bytes) {
         rest -= part;
     }
     return rest ? MPI_UNDEFINED : (MPI_Count)elements;
+}
+
+int MPI_Get_elements(const MPI_Status *status, MPI_Datatype type, int *count) {
+    ENTER_LOOK(0, MPI_UNDEFINED, MPI_UNDEFINED);
+    const struct type *of = type_at(type);
+    if (!of) return fail(0, MPI_ERR_TYPE);
+    WRITES(0, status && count);
+    MPI_Count all = elements_in(of, status->bytes);
+    *count = all > INT_MAX ? MPI_UNDEFINED : (int)all;
+    return MPI_SUCCESS;
 }
 
 int MPI_Get_elements_x(const MPI_Status *status, MPI_Datatype type, MPI_Count *count) {

@@ -191,40 +191,6 @@ int MPI_Get_count(const MPI_Status *status, MPI_Datatype type, int *count) {
     return MPI_SUCCESS;
 }
 
-/* The basic elements in so many bytes of a type's data, or MPI_UNDEFINED where an element isn't whole. */
-static MPI_Count elements_in(const struct type *type, size_t bytes) {
-    size_t each = 0, rest = type->size ? bytes % type->size : bytes, more = 0;
-    for (size_t k = 0; k < type->blocks; k++) {
-        const struct block *block = &type->block[k];
-        size_t part = rest < block->length ? rest : block->length;
-        each += block->length / block->element;
-        if (part % block->element) return MPI_UNDEFINED;
-        more += part / block->element;
-        rest -= part;
-    }
-    size_t all = type->size ? bytes / type->size * each + more : 0;
-    return rest ? MPI_UNDEFINED : (MPI_Count)all;
-}
-
-int MPI_Get_elements(const MPI_Status *status, MPI_Datatype type, int *count) {
-    ENTER_LOOK(0, MPI_UNDEFINED, MPI_UNDEFINED);
-    const struct type *of = type_at(type);
-    if (!of) return fail(0, MPI_ERR_TYPE);
-    WRITES(0, status && count);
-    MPI_Count all = elements_in(of, status->bytes);
-    *count = all > INT_MAX ? MPI_UNDEFINED : (int)all;
-    return MPI_SUCCESS;
-}
-
-int MPI_Get_elements_x(const MPI_Status *status, MPI_Datatype type, MPI_Count *count) {
-    ENTER_LOOK(0, MPI_UNDEFINED, MPI_UNDEFINED);
-    const struct type *of = type_at(type);
-    if (!of) return fail(0, MPI_ERR_TYPE);
-    WRITES(0, status && count);
-    *count = elements_in(of, status->bytes);
-    return MPI_SUCCESS;
-}
-
 void clear_types(void) {
     for (int k = 0; k < me->type_count; k++)
         if (me->types[k]) free_type(me->types[k]);
