@@ -36,7 +36,8 @@ int MPI_Get_address(const void *location, MPI_Aint *address);
 MPI_Aint MPI_Aint_add(MPI_Aint base, MPI_Aint displacement);
 MPI_Aint MPI_Aint_diff(MPI_Aint address, MPI_Aint other);
 
-/* ---- Errors (9.3, 9.4). ---- */
+/* ---- Errors (9.3 to 9.5). A class that a program adds is above MPI_ERR_LASTCODE; MPI_ERR_OTHER: it added 128 already. MPI_ERR_ARG: it didn't add this code, or
+   there is no such class. ---- */
 
 int MPI_Comm_create_errhandler(MPI_Comm_errhandler_function *function, MPI_Errhandler *handler);
 int MPI_Comm_set_errhandler(MPI_Comm comm, MPI_Errhandler handler);
@@ -104,7 +105,8 @@ int MPI_Status_set_elements(MPI_Status *status, MPI_Datatype type, int count);
 int MPI_Status_set_elements_x(MPI_Status *status, MPI_Datatype type, MPI_Count count);
 int MPI_Status_set_cancelled(MPI_Status *status, int flag);
 
-/* ---- Datatypes (5.1). Displacements and extents of MPI_Aint are bytes; those of int are extents of the type. ---- */
+/* ---- Datatypes (5.1). Displacements and extents of MPI_Aint are bytes; those of int are extents of the type. Names: 7.8. What MPI_Type_get_contents
+   gives is freed where it isn't a basic type; MPI_ERR_TYPE: the type is a basic one. ---- */
 
 int MPI_Type_size(MPI_Datatype type, int *size);
 int MPI_Type_get_extent(MPI_Datatype type, MPI_Aint *lower, MPI_Aint *extent);
@@ -134,7 +136,7 @@ int MPI_Pack(const void *buffer, int count, MPI_Datatype type, void *packed, int
 int MPI_Unpack(const void *packed, int room, int *position, void *buffer, int count, MPI_Datatype type, MPI_Comm comm);
 int MPI_Pack_size(int count, MPI_Datatype type, MPI_Comm comm, int *size);
 
-/* ---- Communicators and groups (7). ---- */
+/* ---- Communicators and groups (7). MPI_Comm_get_parent gives MPI_COMM_NULL (11.8.2); MPI_Comm_disconnect is MPI_Comm_free (11.10.4). ---- */
 
 int MPI_Comm_size(MPI_Comm comm, int *size);
 int MPI_Comm_rank(MPI_Comm comm, int *rank);
