@@ -5,27 +5,10 @@
 #include <errno.h>
 #include <error.h>
 #include <signal.h>
-#include <sys/wait.h>
 #include <unistd.h>
 
 static volatile int handled;
 static void handle(int number) { handled = number; }
-
-/* A child that a rank forks is a process, and ends as one. */
-static void forks(void) {
-    int status[3] = {-1, -1, -1};
-    for (int k = 0; k < 3; k++) {
-        pid_t child = fork();
-        if (child == 0) {
-            if (k == 0) exit(5);
-            if (k == 1) _exit(6);
-            raise(SIGTERM);
-        }
-        waitpid(child, &status[k], 0);
-    }
-    CHECK(WIFEXITED(status[0]) && WEXITSTATUS(status[0]) == 5 && WIFEXITED(status[1]) && WEXITSTATUS(status[1]) == 6);
-    CHECK(WIFSIGNALED(status[2]) && WTERMSIG(status[2]) == SIGTERM);
-}
 
 static void end(const char *how) {
     if (!strcmp(how, "exit")) exit(3);
@@ -59,7 +42,6 @@ int main(int argc, char **argv) {
         signal(SIGUSR1, handle);
         raise(SIGUSR1);
         CHECK(handled == SIGUSR1);
-        forks();
     }
     if (rank == size - 1) {
         end(argv[1]);
