@@ -15,7 +15,6 @@ extern "C" {
 #endif
 
 /* ---- Start and end (11.2), and the environment (9). ---- */
-
 int MPI_Init(int *argc, char ***argv);
 int MPI_Init_thread(int *argc, char ***argv, int required, int *provided);
 int MPI_Query_thread(int *provided);
@@ -51,7 +50,6 @@ int MPI_Add_error_code(int errorclass, int *errorcode);
 int MPI_Add_error_string(int errorcode, const char *string);
 
 /* ---- Point to point (3). ---- */
-
 int MPI_Send(const void *buf, int count, MPI_Datatype type, int dest, int tag, MPI_Comm comm);
 int MPI_Ssend(const void *buf, int count, MPI_Datatype type, int dest, int tag, MPI_Comm comm);
 int MPI_Bsend(const void *buf, int count, MPI_Datatype type, int dest, int tag, MPI_Comm comm);
@@ -137,7 +135,6 @@ int MPI_Unpack(const void *packed, int room, int *position, void *buffer, int co
 int MPI_Pack_size(int count, MPI_Datatype type, MPI_Comm comm, int *size);
 
 /* ---- Communicators and groups (7). MPI_Comm_get_parent gives MPI_COMM_NULL (11.8.2); MPI_Comm_disconnect is MPI_Comm_free (11.10.4). ---- */
-
 int MPI_Comm_size(MPI_Comm comm, int *size);
 int MPI_Comm_rank(MPI_Comm comm, int *rank);
 int MPI_Comm_compare(MPI_Comm a, MPI_Comm b, int *result);
@@ -168,7 +165,6 @@ int MPI_Group_range_excl(MPI_Group group, int count, int ranges[][3], MPI_Group 
 int MPI_Group_free(MPI_Group *group);
 
 /* ---- Attributes of communicators (7.7). The value of one that is there is a pointer to an int (9.1.2). ---- */
-
 typedef int MPI_Comm_copy_attr_function(MPI_Comm comm, int keyval, void *more, void *in, void *out, int *flag);
 typedef int MPI_Comm_delete_attr_function(MPI_Comm comm, int keyval, void *value, void *more);
 MPI_Comm_copy_attr_function MPI_COMM_NULL_COPY_FN, MPI_COMM_DUP_FN;
@@ -191,7 +187,6 @@ int MPI_Attr_get(MPI_Comm comm, int keyval, void *value, int *flag);
 int MPI_Attr_delete(MPI_Comm comm, int keyval);
 
 /* ---- Cartesian topologies (8.5). ---- */
-
 int MPI_Cart_create(MPI_Comm comm, int ndims, const int dims[], const int periods[], int reorder, MPI_Comm *made);
 int MPI_Cart_get(MPI_Comm comm, int maxdims, int dims[], int periods[], int coords[]);
 int MPI_Cartdim_get(MPI_Comm comm, int *ndims);
@@ -203,7 +198,6 @@ int MPI_Dims_create(int nodes, int ndims, int dims[]);
 int MPI_Topo_test(MPI_Comm comm, int *status);
 
 /* ---- Collectives (6). ---- */
-
 int MPI_Barrier(MPI_Comm comm);
 int MPI_Bcast(void *buf, int count, MPI_Datatype type, int root, MPI_Comm comm);
 int MPI_Reduce(const void *sendbuf, void *recvbuf, int count, MPI_Datatype type, MPI_Op op, int root, MPI_Comm comm);
