@@ -200,6 +200,7 @@ int ulfm_mpirun(int count, char **words) {
     if (refused) return refused < 0 ? 0 : refused;
     if (options.every_stop) return every_stop(words[0]);
     be_launcher();
+    handle_signals();   /* before there are copies, which each end takes away */
     if (!copy_programs()) {
         fprintf(stderr, "ulfm-mpirun: %s can't be copied\n", options.program);
         return STATUS_USAGE;
@@ -210,7 +211,6 @@ int ulfm_mpirun(int count, char **words) {
         fprintf(stderr, "ulfm-mpirun: no world of %d ranks: code %u\n", options.ranks, code);
         return STATUS_USAGE;
     }
-    handle_signals();
     for (int k = 0; k < options.ranks; k++)
         if (!start_rank(&ranks[k], k)) {
             fprintf(stderr, "ulfm-mpirun: no thread for rank %d\n", k);
