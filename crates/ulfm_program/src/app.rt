@@ -92,7 +92,7 @@ pub fn without_words<W: Write, E: Write>(
 }
 
 /// Reads the input, and writes the reply to it, and then the notes on it.
-fn follow<T, F, R, W, E>(
+pub(crate) fn follow<T, F, R, W, E>(
     rt: &T,
     finder: &F,
     alloc: Global,
@@ -152,7 +152,7 @@ fn asks_of_places(wanted: Wanted) -> bool {
 }
 
 /// Writes that memory ran out, in this form, and answers the status of that, or of output that failed.
-fn write_starved<W: Write>(output: &mut W, form: Form) -> u8
+pub(crate) fn write_starved<W: Write>(output: &mut W, form: Form) -> u8
     ensures written { result ≢ 4 → (result ≡ 3) × Appends (W.contents output.old) (W.contents output.new) (out_of_memory_in form) }
     ensures failed { result ≡ 4 → GetsFrontOf (W.contents output.old) (W.contents output.new) (out_of_memory_in form) }
     ensures known { (result ≡ 3) ⊎ (result ≡ 4) }

@@ -1,11 +1,11 @@
 //! Jobs by file.
-ghost use Rattle.std.specs.Prelude.{◌≡◌, ◌≤◌, [], map, take, IfSome};
+ghost use Rattle.std.specs.Prelude.{◌≡◌, ◌≢◌, ◌≤◌, [], map, take, IfSome};
 ghost use Rattle.std.specs.Io.KnownBytes.{Keeps};
-ghost use Rattle.ulfm_program.specs.Replies.{IsReplyTo, IsWhole, GetsReply, GetsBeginning, GetsFront};
+ghost use Rattle.ulfm_program.specs.Replies.{IsReplyIn, IsReplyTo, IsWhole, GetsReply, GetsBeginning, GetsFront};
 ghost use Rattle.ulfm_replies.specs.declared.command.Wanted.{Wanted};
-ghost use Rattle.ulfm_replies.specs.CommandLine.{AsksFor, asked, files_in, form_asked, show_asked};
+ghost use Rattle.ulfm_replies.specs.CommandLine.{AsksFor, HasRanges, IsWordsStatus, asked, faults, files_in, form_asked, show_asked};
 
-use crate::app::run_on;
+use crate::app::{follow, run_on, write_starved};
 use std::alloc::Global;
 use std::convert::AsStr;
 use std::fmt;
@@ -17,11 +17,13 @@ use std::thread::Threads;
 use std::time::Clock;
 use ulfm_finder::Finder;
 use ulfm_findings::write_whole;
-use ulfm_replies::{DONE, INPUT_FAILED, OUTPUT_FAILED, asked_for};
+use ulfm_json::Form;
+use ulfm_replies::{Asked, DONE, INPUT_FAILED, OUTPUT_FAILED, Unfollowed, asked_for};
 
 /// Follows the words for each file that they name, in turn, as `run_on` follows them with that file's bytes as its input, or for `input`
 /// where they name none. Above the answers of several files stands a line with each one's name. A file that can't be read has the status
-/// of an input that fails, and standard error names it. Answers the greatest status (docs/JOBS.md).
+/// of an input that fails, and standard error names it. Answers the greatest status (docs/JOBS.md). Where the words name files, the input
+/// isn't read.
 pub fn run_each<T, F, S, R, W, E>(
     rt: &T,
     finder: &F,
@@ -40,50 +42,52 @@ where
     E: Write + Send,
     ensures replies { files_in (asked (map S.text words.now)) ≡ [] → (wanted : Wanted) → AsksFor wanted (map S.text words.now) → IsWhole result → IfSome (R.remaining input.old) (λ bytes.
         GetsReply (IsReplyTo (form_asked (map S.text words.now)) (show_asked (map S.text words.now)) wanted (take 1048577 bytes)) (W.contents output.old) (W.contents output.new) result) }
+    ensures in_form { files_in (asked (map S.text words.now)) ≡ [] → R.remaining input.new ≢ R.remaining input.old → (wanted : Wanted) → AsksFor wanted (map S.text words.now) → IsWhole result → IfSome (R.remaining input.old) (λ bytes.
+        GetsReply (IsReplyIn (form_asked (map S.text words.now)) (show_asked (map S.text words.now)) wanted (take 1048577 bytes)) (W.contents output.old) (W.contents output.new) result) }
     ensures cut_off { files_in (asked (map S.text words.now)) ≡ [] → (wanted : Wanted) → AsksFor wanted (map S.text words.now) → result ≡ 4 → IfSome (R.remaining input.old) (λ bytes.
         GetsBeginning (IsReplyTo (form_asked (map S.text words.now)) (show_asked (map S.text words.now)) wanted (take 1048577 bytes)) (W.contents output.old) (W.contents output.new)) }
     ensures output_failed { files_in (asked (map S.text words.now)) ≡ [] → result ≡ 4 → GetsFront (W.contents output.old) (W.contents output.new) }
     ensures input_failed { files_in (asked (map S.text words.now)) ≡ [] → result ≡ 5 → Keeps (W.contents output.old) (W.contents output.new) }
+    ensures words_first { result ≡ 2 → R.remaining input.new ≡ R.remaining input.old }
+    ensures not_followed { faults (map S.text words.now) ≢ [] → (R.remaining input.new ≡ R.remaining input.old) × IsWordsStatus (faults (map S.text words.now)) result }
+    ensures untouched { files_in (asked (map S.text words.now)) ≢ [] → R.remaining input.new ≡ R.remaining input.old }
     ensures known { result ≤ 9 }
 {
-    if let Ok(asked) = asked_for(alloc, words) {
-        if !asked.files.is_empty() {
-            return run_files(
-                rt,
-                finder,
-                alloc,
-                words,
-                asked.files.as_slice(),
-                output,
-                errors,
-            );
+    match asked_for(alloc, words) {
+        Ok(asked) => {
+            if asked.files.is_empty() {
+                follow(rt, finder, alloc, &asked, input, output, errors)
+            } else {
+                run_files(rt, finder, alloc, &asked, output, errors)
+            }
         }
+        Err(Unfollowed::OutOfMemory) => write_starved(output, Form::Words),
+        Err(_) => run_on(rt, finder, alloc, words, input, output, errors),
     }
-    run_on(rt, finder, alloc, words, input, output, errors)
 }
 
-/// Follows the words for each of these files, and answers the greatest status.
-fn run_files<T, F, S, W, E>(
+/// Follows the words for each file that they name, and answers the greatest status.
+fn run_files<T, F, W, E>(
     rt: &T,
     finder: &F,
     alloc: Global,
-    words: &[S],
-    files: &[&str],
+    asked: &Asked<'_>,
     output: &mut W,
     errors: &mut E,
 ) -> u8
 where
     T: Files + Threads + Wait + Clock + Sync,
     F: Finder + Sync,
-    S: AsStr,
     W: Write,
     E: Write + Send,
+    requires { HasRanges asked.now.wanted }
     ensures { result ≤ 9 }
 {
+    let files = asked.files.as_slice();
+    let has_head = files.len() > 1;
     let mut greatest = DONE;
     for file in files {
-        let has_head = files.len() > 1;
-        let status = run_file(rt, finder, alloc, words, file, has_head, output, errors);
+        let status = run_file(rt, finder, alloc, asked, file, has_head, output, errors);
         if greatest < status {
             greatest = status;
         }
@@ -95,11 +99,11 @@ where
 }
 
 /// Follows the words for a file, below a line with its name where that is wanted, and answers the status.
-fn run_file<T, F, S, W, E>(
+fn run_file<T, F, W, E>(
     rt: &T,
     finder: &F,
     alloc: Global,
-    words: &[S],
+    asked: &Asked<'_>,
     file: &str,
     has_head: bool,
     output: &mut W,
@@ -108,17 +112,17 @@ fn run_file<T, F, S, W, E>(
 where
     T: Files + Threads + Wait + Clock + Sync,
     F: Finder + Sync,
-    S: AsStr,
     W: Write,
     E: Write + Send,
+    requires { HasRanges asked.now.wanted }
     ensures { result ≤ 9 }
 {
-    if has_head && !write_head(file, output) {
+    if !write_head(file, has_head, output) {
         return OUTPUT_FAILED;
     }
     match File::open(rt, file) {
         Ok(mut opened) => {
-            let status = run_on(rt, finder, alloc, words, &mut opened, output, errors);
+            let status = follow(rt, finder, alloc, asked, &mut opened, output, errors);
             if status == INPUT_FAILED {
                 write_unread(alloc, file, "the read failed", errors);
             }
@@ -131,11 +135,18 @@ where
     }
 }
 
-/// Writes the line above the answer of a file, or a beginning of it.
-fn write_head<W: Write>(file: &str, output: &mut W) -> bool {
-    write_whole(output, b"== ")
-        && write_whole(output, file.as_bytes())
-        && write_whole(output, b"\n")
+/// Writes the line above the answer of a file where that is wanted, or a beginning of it.
+fn write_head<W: Write>(file: &str, has_head: bool, output: &mut W) -> bool {
+    if !has_head {
+        return true;
+    }
+    if !write_whole(output, b"== ") {
+        return false;
+    }
+    if !write_whole(output, file.as_bytes()) {
+        return false;
+    }
+    write_whole(output, b"\n")
 }
 
 /// Tells that a file can't be read, and why. Where that finds no memory, nothing is told.

@@ -2,8 +2,8 @@
 //!
 //!     let status = run_each(&rt, alloc, words, &mut input, &mut output, &mut errors);
 //!
-//! It calls [`run_on`] for each file that the words name, or for `input` where they name none. What that writes is `IsReplyTo` of
-//! specs/Replies.antt: the reply to a job, for each of the commands.
+//! It follows the words for each file that they name, or for `input` where they name none, as [`run_on`] does. What that writes is `IsReplyTo`
+//! of specs/Replies.antt: the reply to a job, for each of the commands.
 #![tactic(auto)]
 
 mod app;
