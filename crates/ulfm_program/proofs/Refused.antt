@@ -1,5 +1,5 @@
 -- The replies where memory runs out.
-use Rattle.std.proofs.Common.{◌≡◌, ◌≢◌, ℕ, List, Option, Some, None, IfSome, take, sym, subst}
+use Rattle.std.proofs.Common.{◌≡◌, ◌≢◌, ℕ, List, [], Option, Some, None, take, refl, sym, subst}
 use Rattle.std.specs.Io.KnownBytes.{Appends}
 use Rattle.ulfm_json.specs.declared.form.Form.{Form}
 use Rattle.ulfm_replies.specs.declared.command.Wanted.{Wanted}
@@ -9,7 +9,7 @@ use Rattle.ulfm_replies.specs.Expanded as expanded
 use Rattle.ulfm_replies.specs.Places as places
 use Rattle.ulfm_replies.specs.Replies.{starved}
 use Rattle.ulfm_judged.proofs.Statuses.{starved_list}
-use Rattle.ulfm_program.specs.Replies.{IsReplyIn, IsWhole, GetsReply, GetsBeginning, GetsFrontOf}
+use Rattle.ulfm_program.specs.Replies.{AreRead, IsReplyIn, IsWhole, GetsReply, GetsBeginning, GetsFrontOf}
 use Rattle.ulfm_played.specs.Played.{failed, undrawn, fell}
 use Rattle.ulfm_played.specs.Sweep.{unswept}
 
@@ -24,13 +24,22 @@ starved_reply form show (Places stops) bytes = places.starved
 starved_reply form show Expand bytes = expanded.starved
 starved_reply form show (Draw style turns place) bytes = undrawn
 
+-- bytes that may have been read
+bytes_of : (input : Option (List ℕ)) → (bytes : List ℕ) × AreRead input bytes
+bytes_of None = ([], tt)
+bytes_of (Some all) = (take 1048577 all, refl)
+
 -- such a line is written whole
-pub starved_gets : (IsReply : List ℕ → ℕ → List ℕ → Type 0) (line : List ℕ) → ((bytes : List ℕ) → IsReply bytes 3 line) → (most : ℕ) (rest old new : Option (List ℕ)) (status : ℕ) → (status ≢ 4 → (status ≡ 3) × Appends old new line) → IsWhole status → IfSome rest (λ bytes. GetsReply (IsReply (take most bytes)) old new status)
-starved_gets IsReply line is most None old new status h l = tt
-starved_gets IsReply line is most (Some bytes) old new status h l =
-    let w = h l.0 in (line, subst (λ (k : ℕ). IsReply (take most bytes) k line) (sym w.0) (is (take most bytes)), w.1)
+pub starved_gets : (IsReply : List ℕ → ℕ → List ℕ → Type 0) (line : List ℕ) → ((bytes : List ℕ) → IsReply bytes 3 line) → (input old new : Option (List ℕ)) (status : ℕ)
+    → (status ≢ 4 → (status ≡ 3) × Appends old new line) → IsWhole status → GetsReply IsReply input old new status
+starved_gets IsReply line is input old new status h whole =
+    let w = h whole.0 in
+    let read = bytes_of input in
+    record { bytes = read.0; text = line; read = read.1; reply = subst (λ (k : ℕ). IsReply read.0 k line) (sym w.0) (is read.0); written = w.1 }
 
 -- or a beginning of it is
-pub starved_begins : (IsReply : List ℕ → ℕ → List ℕ → Type 0) (line : List ℕ) → ((bytes : List ℕ) → IsReply bytes 3 line) → (most : ℕ) (rest old new : Option (List ℕ)) (status : ℕ) → (status ≡ 4 → GetsFrontOf old new line) → status ≡ 4 → IfSome rest (λ bytes. GetsBeginning (IsReply (take most bytes)) old new)
-starved_begins IsReply line is most None old new status h e = tt
-starved_begins IsReply line is most (Some bytes) old new status h e = (3, line, is (take most bytes), h e)
+pub starved_begins : (IsReply : List ℕ → ℕ → List ℕ → Type 0) (line : List ℕ) → ((bytes : List ℕ) → IsReply bytes 3 line) → (input old new : Option (List ℕ)) (status : ℕ)
+    → (status ≡ 4 → GetsFrontOf old new line) → status ≡ 4 → GetsBeginning IsReply input old new
+starved_begins IsReply line is input old new status h four =
+    let read = bytes_of input in
+    record { bytes = read.0; status = 3; text = line; read = read.1; reply = is read.0; written = h four }

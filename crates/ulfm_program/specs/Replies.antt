@@ -1,5 +1,5 @@
 -- What the program writes for a job.
-use Rattle.std.specs.Prelude.{◌≢◌, ℕ, List, take, Option, codes}
+use Rattle.std.specs.Prelude.{◌≡◌, ◌≢◌, ◌⊎◌, ℕ, List, take, Option, IfSome, codes}
 use Rattle.std.specs.Io.KnownBytes.{Appends}
 use Rattle.ulfm_json.specs.declared.form.Form.{Form}
 use Rattle.ulfm_judged.specs.ListReply.{IsListReply}
@@ -36,18 +36,35 @@ not_text = codes "a word of the command line isn't UTF-8\n"
 abbrev pub IsWhole : ℕ → Type 0
 IsWhole status = (status ≢ 4) × (status ≢ 5)
 
--- the writer got a text that is the reply to the bytes
-abbrev pub GetsReply : (ℕ → List ℕ → Type 0) → Option (List ℕ) → Option (List ℕ) → ℕ → Type 0
-GetsReply IsReply old new status = (text : List ℕ) × IsReply status text × Appends old new text
+-- the bytes that are read of an input: its first 1,048,577, where it is known
+abbrev pub AreRead : Option (List ℕ) → List ℕ → Type 0
+AreRead input bytes = IfSome input (λ all. bytes ≡ take 1048577 all)
+
+-- the writer got a text that is the reply to the bytes that were read
+pub record GetsReply (IsReply : List ℕ → ℕ → List ℕ → Type 0) (input old new : Option (List ℕ)) (status : ℕ) : Type 0 where
+  pub bytes : List ℕ
+  pub text : List ℕ
+  pub read : AreRead input bytes
+  pub reply : IsReply bytes status text
+  pub written : Appends old new text
 
 -- the writer got a beginning of this text
 abbrev pub GetsFrontOf : Option (List ℕ) → Option (List ℕ) → List ℕ → Type 0
 GetsFrontOf old new text = (n : ℕ) × Appends old new (take n text)
 
--- the writer got a beginning of a text that is a reply to the bytes
-abbrev pub GetsBeginning : (ℕ → List ℕ → Type 0) → Option (List ℕ) → Option (List ℕ) → Type 0
-GetsBeginning IsReply old new = (status : ℕ) × (text : List ℕ) × IsReply status text × GetsFrontOf old new text
+-- the writer got a beginning of a text that is a reply to the bytes that were read
+pub record GetsBeginning (IsReply : List ℕ → ℕ → List ℕ → Type 0) (input old new : Option (List ℕ)) : Type 0 where
+  pub bytes : List ℕ
+  pub status : ℕ
+  pub text : List ℕ
+  pub read : AreRead input bytes
+  pub reply : IsReply bytes status text
+  pub written : GetsFrontOf old new text
 
 -- the writer got a beginning of some text
 abbrev pub GetsFront : Option (List ℕ) → Option (List ℕ) → Type 0
 GetsFront old new = (text : List ℕ) × GetsFrontOf old new text
+
+-- the writer got the line that memory ran out, with 3, or a beginning of it, with 4
+abbrev pub GetsStarved : Option (List ℕ) → Option (List ℕ) → ℕ → Type 0
+GetsStarved old new status = ((status ≡ 3) × Appends old new out_of_memory_text) ⊎ ((status ≡ 4) × GetsFrontOf old new out_of_memory_text)
