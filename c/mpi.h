@@ -7,7 +7,6 @@
    handler of its communicator, of MPI_COMM_WORLD where it has none: at first MPI_ERRORS_ARE_FATAL, which ends the run. */
 #ifndef ULFM_MPI_H
 #define ULFM_MPI_H
-
 #include "ulfm_mpi_types.h"
 
 #ifdef __cplusplus
@@ -294,7 +293,6 @@ int MPIX_Comm_failure_get_acked(MPI_Comm comm, MPI_Group *failed);
 
 /* Each of these calls by its other name too, PMPI_Send or PMPIX_Comm_agree (15.2). `make` writes this file. */
 #include "ulfm_mpi_profile.h"
-
 #ifdef __cplusplus
 }
 #endif
