@@ -110,25 +110,35 @@ int MPI_Type_size(MPI_Datatype type, int *size) {
     return MPI_SUCCESS;
 }
 
-int MPI_Type_get_extent(MPI_Datatype type, MPI_Aint *lower, MPI_Aint *extent) {
-    ENTER_LOOK(0, MPI_UNDEFINED, MPI_UNDEFINED);
+/* Where what a type takes begins, and how many bytes that is: of its extent, or of its data alone (5.1.7, 5.1.8). */
+static int tell_extent(MPI_Datatype type, bool is_true, bool has_room, MPI_Count *lower, MPI_Count *extent) {
     const struct type *of = type_at(type);
     if (!of) return fail(0, MPI_ERR_TYPE);
-    WRITES(0, lower && extent);
-    *lower = of->lower;
-    *extent = extent_of(of);
+    WRITES(0, has_room);
+    ptrdiff_t least = of->lower, most = least + extent_of(of);
+    if (is_true) bounds_of_data(of, &least, &most);
+    *lower = least;
+    *extent = most - least;
+    return MPI_SUCCESS;
+}
+
+int MPI_Type_get_extent(MPI_Datatype type, MPI_Aint *lower, MPI_Aint *extent) {
+    ENTER_LOOK(0, MPI_UNDEFINED, MPI_UNDEFINED);
+    MPI_Count from, bytes;
+    int code = tell_extent(type, false, lower && extent, &from, &bytes);
+    if (code != MPI_SUCCESS) return code;
+    *lower = (MPI_Aint)from;
+    *extent = (MPI_Aint)bytes;
     return MPI_SUCCESS;
 }
 
 int MPI_Type_get_true_extent(MPI_Datatype type, MPI_Aint *lower, MPI_Aint *extent) {
     ENTER_LOOK(0, MPI_UNDEFINED, MPI_UNDEFINED);
-    const struct type *of = type_at(type);
-    if (!of) return fail(0, MPI_ERR_TYPE);
-    WRITES(0, lower && extent);
-    ptrdiff_t least, most;
-    bounds_of_data(of, &least, &most);
-    *lower = least;
-    *extent = most - least;
+    MPI_Count from, bytes;
+    int code = tell_extent(type, true, lower && extent, &from, &bytes);
+    if (code != MPI_SUCCESS) return code;
+    *lower = (MPI_Aint)from;
+    *extent = (MPI_Aint)bytes;
     return MPI_SUCCESS;
 }
 
@@ -143,24 +153,12 @@ int MPI_Type_size_x(MPI_Datatype type, MPI_Count *size) {
 
 int MPI_Type_get_extent_x(MPI_Datatype type, MPI_Count *lower, MPI_Count *extent) {
     ENTER_LOOK(0, MPI_UNDEFINED, MPI_UNDEFINED);
-    const struct type *of = type_at(type);
-    if (!of) return fail(0, MPI_ERR_TYPE);
-    WRITES(0, lower && extent);
-    *lower = of->lower;
-    *extent = extent_of(of);
-    return MPI_SUCCESS;
+    return tell_extent(type, false, lower && extent, lower, extent);
 }
 
 int MPI_Type_get_true_extent_x(MPI_Datatype type, MPI_Count *lower, MPI_Count *extent) {
     ENTER_LOOK(0, MPI_UNDEFINED, MPI_UNDEFINED);
-    const struct type *of = type_at(type);
-    if (!of) return fail(0, MPI_ERR_TYPE);
-    WRITES(0, lower && extent);
-    ptrdiff_t least, most;
-    bounds_of_data(of, &least, &most);
-    *lower = least;
-    *extent = most - least;
-    return MPI_SUCCESS;
+    return tell_extent(type, true, lower && extent, lower, extent);
 }
 
 int MPI_Type_commit(MPI_Datatype *type) {
