@@ -1,7 +1,7 @@
 //! Tests of the libraries, by what they offer: each stands here and not beside its code, so that the gate proves a library once.
 //! Nothing stands on it.
 //!
-//! A file for each library: base, matching, matchers (the matcher beside two plain lists), board, world, carrier, run and reach. They
+//! A file for each library: base, matching, matchers (the matcher beside two plain lists), board, world, carrier, run, reach and streams. They
 //! have what no clause says: worked examples with their values, calls that succeed where there is memory, and what threads do. A table
 //! has a row for each case, and names it.
 //!
@@ -24,5 +24,7 @@ mod reach;
 mod run;
 #[cfg(test)]
 mod stops;
+#[cfg(test)]
+mod streams;
 #[cfg(test)]
 mod world;
