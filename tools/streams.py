@@ -45,8 +45,8 @@ ANSWERED = [
 ]
 # How many beginnings of the text are good jobs, the whole left out: four with no step, three with one, seven with two, one with three.
 GOOD_BEGINNINGS = 15
-# The least that a pipe holds.
-PIPE = 4096
+# The least that a pipe holds, and by which number it is told so, which Python has a name for since 3.10.
+PIPE, F_SETPIPE_SZ = 4096, 1031
 
 
 def run(program, words, job, **more):
@@ -97,7 +97,7 @@ def output_that_takes_a_little(program):
     words = ["places", "--stops", "2"]
     _, all_of_it, _ = run(program, words, job)
     with subprocess.Popen([program, *words], stdin=subprocess.PIPE, stdout=subprocess.PIPE) as child:
-        fcntl.fcntl(child.stdout, fcntl.F_SETPIPE_SZ, PIPE)
+        fcntl.fcntl(child.stdout, F_SETPIPE_SZ, PIPE)
         child.stdin.write(job.encode())
         child.stdin.close()
         for _ in range(3):
