@@ -16,9 +16,11 @@ pub {name}_spec : {{M : Type 1}} → statement M
 
 @dataclass
 class Function:
-    """A function with a body: its file, the first line of the body and the one behind it, and its path below the crate."""
+    """A function with a body: its file, its first line, comments and attributes too, the first of the body and the one behind it, and its
+    path below the crate."""
 
     file: Path
+    first: int
     begin: int
     end: int
     path: list
@@ -30,6 +32,13 @@ def path_of(begin, block, module, types):
         return [*module, begin[2]]
     of_type = re.fullmatch(r"impl(?:<.*>)? (\w+)(?:<.*>)? \{", block)
     return [*types[of_type[1]], of_type[1], begin[2]] if of_type and of_type[1] in types and begin[1] == "    " else None
+
+
+def first_of(lines, at, indent):
+    """The line at which a function begins whose 'fn' stands at one: its comments and attributes stand above that."""
+    while at and lines[at - 1] and lines[at - 1].startswith(indent) and not lines[at - 1].endswith("{"):
+        at -= 1
+    return at
 
 
 def functions(crate):
@@ -46,7 +55,7 @@ def functions(crate):
             opening = next((it for it in range(at, len(lines)) if opens.match(lines[it]) or lines[it].endswith((";", "{}"))), None) if begin else None
             path = path_of(begin, block, module, types) if opening is not None and opens.match(lines[opening]) else None
             if path:
-                yield Function(file, opening + 1, lines.index(f"{begin[1]}}}", opening), path)
+                yield Function(file, first_of(lines, at, begin[1]), opening + 1, lines.index(f"{begin[1]}}}", opening), path)
 
 
 def leave(folder, name, kept):
@@ -55,7 +64,7 @@ def leave(folder, name, kept):
         if "::".join(it.path) in kept:
             continue
         lines = it.file.read_text().split("\n")
-        lines[it.begin : it.end] = ["loop {}"]
+        lines[it.begin : it.end] = ["    loop {}"]
         it.file.write_text("\n".join(lines))
         proofs = folder.joinpath("proofs", *it.path)
         shutil.rmtree(folder.joinpath("proofs", *it.path[:-1], "fn", it.path[-1]), ignore_errors=True)
