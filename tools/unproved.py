@@ -1,5 +1,5 @@
 """Leaves functions of a copy of a crate unproved, so that a check of others takes less time: these are looked at by the clauses of what they
-call, which stay. Of the rest the prover gets a body that never ends and a proof with a hole, and refuses both at once."""
+call, which stay. Of the rest the prover gets a body that never ends and a file that has no proof, and refuses both at once."""
 import re
 import shutil
 from dataclasses import dataclass
@@ -7,11 +7,8 @@ from pathlib import Path
 
 BEGIN = re.compile(r'( *)(?:pub(?:\([a-z]+\))? )?(?:unsafe )?(?:extern "C" )?fn (\w+)')
 TYPE = re.compile(r"^(?:pub(?:\([a-z]+\))? )?(?:struct|enum) (\w+)", re.MULTILINE)
-PROOF = """use Rattle.{crate}.proofs.{path}.Statement.{{statement}}
-
-pub {name}_spec : {{M : Type 1}} → statement M
-{name}_spec = ?
-"""
+# The proof file of a function that is left unproved: without the name of a proof it is refused at once.
+PROOF = "-- left unproved\n"
 
 
 @dataclass
@@ -58,7 +55,7 @@ def functions(crate):
                 yield Function(file, first_of(lines, at, begin[1]), opening + 1, lines.index(f"{begin[1]}}}", opening), path)
 
 
-def leave(folder, name, kept):
+def leave(folder, kept):
     """Leaves all functions of a crate's copy unproved, but methods of traits and those whose paths are kept."""
     for it in sorted(functions(folder), key=lambda it: it.begin, reverse=True):
         if "::".join(it.path) in kept:
@@ -71,4 +68,4 @@ def leave(folder, name, kept):
         proofs.mkdir(parents=True, exist_ok=True)
         for old in ("Answers.antt", "Invariants.antt"):
             (proofs / old).unlink(missing_ok=True)
-        (proofs / "Proof.antt").write_text(PROOF.format(crate=name, path=".".join(it.path), name=it.path[-1]))
+        (proofs / "Proof.antt").write_text(PROOF)
