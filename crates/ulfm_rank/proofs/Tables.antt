@@ -47,6 +47,11 @@ waiting_receive Cleared e = cc
 pub no_post : (h : List MatchEvent) (x : MatchEvent) → ((p : Pattern) → x ≢ Post p) → (i : ℕ) (p : Pattern) → PostAt (h ++ x ∷ []) i p → PostAt h i p
 no_post h x never i p at = elim (get_cases h x i (Post p) at) [ inl old ↦ old | inr new ↦ absurd (never p new.1) ]
 
+-- what changes to a request was one before (apart from tables, whose many facts would make `cc` slow)
+was : (change : Request → Request) (o : Option Request) (q : Request) → option_map change o ≡ Some q → (w : Request) × (o ≡ Some w) × (change w ≡ q)
+was change None q e = cc
+was change (Some w) q e = (w, refl, let f : change w ≡ q = cc in f)
+
 module _ (n : ℕ) (log : List Entry) (h es : List MatchEvent) (r r' : Pairing) (find find' : ℕ → Option Request) (t : IsTable n log h r find) where
   -- events with no post, by which requests change their outcomes alone
   pub table_change : ((i : ℕ) (p : Pattern) → PostAt (h ++ es) i p → PostAt h i p) → (change : ℕ → Request → Request) → Changes change find find'
@@ -56,7 +61,7 @@ module _ (n : ℕ) (log : List Entry) (h es : List MatchEvent) (r r' : Pairing) 
       → IsTable n log (h ++ es) r' find'
   table_change posts change found same became kind = record {
     standing = λ id q f.
-        let o = was id (find id) q (sym (found id) ∙ f) in
+        let o = was (change id) (find id) q (sym (found id) ∙ f) in
         let s = t.standing id o.0 o.1 in
         let l = slice_get_within h s.place (Post o.0.pattern) s.posted in
         subst (IsStanding (h ++ es) r' id) o.2 (record {
@@ -65,8 +70,8 @@ module _ (n : ℕ) (log : List Entry) (h es : List MatchEvent) (r r' : Pairing) 
           numbered = count_front h es s.place (omega arith) ∙ s.numbered;
           fate = subst (λ (p : Pattern). Became (h ++ es) r' s.place p (change id o.0).fate) (sym (same id o.0)) (became id o.0 o.1 s);
         });
-    of_group = λ id q f. let o = was id (find id) q (sym (found id) ∙ f) in subst (IsOfGroup n log) (sym (same id o.0) ∙ ap (λ (w : Request). w.pattern) o.2) (t.of_group id o.0 o.1);
-    unreleased = λ id q f. let o = was id (find id) q (sym (found id) ∙ f) in t.unreleased id o.0 o.1;
+    of_group = λ id q f. let o = was (change id) (find id) q (sym (found id) ∙ f) in subst (IsOfGroup n log) (sym (same id o.0) ∙ ap (λ (w : Request). w.pattern) o.2) (t.of_group id o.0 o.1);
+    unreleased = λ id q f. let o = was (change id) (find id) q (sym (found id) ∙ f) in t.unreleased id o.0 o.1;
     complete = λ i p posted free.
         let old = posts i p posted in
         let l = slice_get_within h i (Post p) old in
@@ -75,14 +80,10 @@ module _ (n : ℕ) (log : List Entry) (h es : List MatchEvent) (r r' : Pairing) 
         (change (count_before h i) c.0, subst (λ k. find' k ≡ Some (change (count_before h i) c.0)) (sym num) (found (count_before h i) ∙ ap (option_map (change (count_before h i))) c.1));
     released_below = λ id f. omega (arith, t.released_below id f, count_rises h es);
     kind = λ id q f.
-        let o = was id (find id) q (sym (found id) ∙ f) in
+        let o = was (change id) (find id) q (sym (found id) ∙ f) in
         subst (λ (w : Request). is_found w.fate ≡ is_probed log id) o.2 (kind id o.0 o.1 (t.standing id o.0 o.1) ∙ t.kind id o.0 o.1);
     probed_below = λ id f. omega (arith, t.probed_below id f, count_rises h es);
   }
-    where
-      was : (id : ℕ) (o : Option Request) (q : Request) → option_map (change id) o ≡ Some q → (w : Request) × (o ≡ Some w) × (change id w ≡ q)
-      was id None q e = cc
-      was id (Some w) q e = (w, refl, let f : change id w ≡ q = cc in f)
 
 module _ (n : ℕ) (log : List Entry) (h : List MatchEvent) (r r' : Pairing) (find find' : ℕ → Option Request) (t : IsTable n log h r find) (p : Pattern) (o : Fate) where
   -- a post adds one request
@@ -90,7 +91,7 @@ module _ (n : ℕ) (log : List Entry) (h : List MatchEvent) (r r' : Pairing) (fi
       → Became (h ++ Post p ∷ []) r' (length h) p o → Adds (count_before h (length h)) (record { pattern = p; fate = o }) find find' → IsTable n log (h ++ Post p ∷ []) r' find'
   table_post receive world law keep only became found = record {
     standing = λ id q f.
-        elim (was id q f) [
+        elim (had id q f) [
           | inl new ↦ subst (IsStanding (h ++ Post p ∷ []) r' id) new.1 (record { place = length h; posted = get_new h (Post p); numbered = count_old h (Post p) (length h) (omega arith) ∙ new.0; fate = became })
           | inr old ↦
               let s = t.standing id q old in
@@ -102,8 +103,8 @@ module _ (n : ℕ) (log : List Entry) (h : List MatchEvent) (r r' : Pairing) (fi
                 fate = became_keeps h (Post p) r r' law keep s.place q.pattern q.fate (λ b. only s.place b l) (λ e. (λ g. cc, λ g. cc)) s.fate;
               }
         ];
-    of_group = λ id q f. elim (was id q f) [ inl new ↦ subst (λ (w : Request). IsOfGroup n log w.pattern) new.1 world | inr old ↦ t.of_group id q old ];
-    unreleased = λ id q f. elim (was id q f) [ inl new ↦ false_from_ne_true _ (λ g. omega (arith, t.released_below id g, new.0)) | inr old ↦ t.unreleased id q old ];
+    of_group = λ id q f. elim (had id q f) [ inl new ↦ subst (λ (w : Request). IsOfGroup n log w.pattern) new.1 world | inr old ↦ t.of_group id q old ];
+    unreleased = λ id q f. elim (had id q f) [ inl new ↦ false_from_ne_true _ (λ g. omega (arith, t.released_below id g, new.0)) | inr old ↦ t.unreleased id q old ];
     complete = λ i q posted free.
         elim (get_cases h (Post p) i (Post q) posted) [
           | inl old ↦
@@ -118,7 +119,7 @@ module _ (n : ℕ) (log : List Entry) (h : List MatchEvent) (r r' : Pairing) (fi
               (record { pattern = p; fate = o }, rw num (found here ∙ ap (λ b. cond b (Some (record { pattern = p; fate = o })) (find here)) (eq-eqb here here refl)))
         ];
     released_below = λ id f. omega (arith, t.released_below id f, count_rises h (Post p ∷ []));
-    kind = λ id q f. elim (was id q f) [
+    kind = λ id q f. elim (had id q f) [
       | inl new ↦ ap (λ (w : Request). is_found w.fate) (sym new.1) ∙ receive ∙ sym (false_from_ne_true _ (λ g. omega (arith, t.probed_below id g, new.0)))
       | inr old ↦ t.kind id q old
     ];
@@ -129,5 +130,5 @@ module _ (n : ℕ) (log : List Entry) (h : List MatchEvent) (r r' : Pairing) (fi
       choose true id q e f = inl (eqb-true (count_before h (length h)) id e, cc)
       choose false id q e f = inr f
 
-      was : (id : ℕ) (q : Request) → find' id ≡ Some q → ((count_before h (length h) ≡ id) × ◌≡◌ {A = Request} (record { pattern = p; fate = o }) q) ⊎ (find id ≡ Some q)
-      was id q f = choose (eqb (count_before h (length h)) id) id q refl (sym (found id) ∙ f)
+      had : (id : ℕ) (q : Request) → find' id ≡ Some q → ((count_before h (length h) ≡ id) × ◌≡◌ {A = Request} (record { pattern = p; fate = o }) q) ⊎ (find id ≡ Some q)
+      had id q f = choose (eqb (count_before h (length h)) id) id q refl (sym (found id) ∙ f)
