@@ -11,6 +11,7 @@ import subprocess
 import tempfile
 import termios
 import time
+from contextlib import contextmanager
 from functools import partial
 
 SECONDS = 60
@@ -55,13 +56,23 @@ def run(program, words, job, **more):
     return ran.returncode, ran.stdout.decode(), ran.stderr.decode()
 
 
+@contextmanager
+def begun(*words, **more):
+    """A process, which doesn't outlive what is done with it."""
+    with subprocess.Popen(words, **more) as child:
+        try:
+            yield child
+        finally:
+            child.kill()
+
+
 def text_that_breaks_off(program):
     good = 0
     for text in (ONE_LETTER, ONE_LETTER.replace("\n\n", "\n")):
         for n in range(len(text)):
             status, output, _ = run(program, ["check"], text[:n])
             good += status == 0 and text == ONE_LETTER
-            if status > 1 or not output.startswith(["job ok: 2 ranks ", "job refused: J"][status]):
+            if status not in (0, 1) or not output.startswith(["job ok: 2 ranks ", "job refused: J"][status]):
                 yield f"cut before byte {n}: status {status}, {output}"
     if good != GOOD_BEGINNINGS:
         yield f"{good} beginnings are good jobs, and not {GOOD_BEGINNINGS}"
@@ -96,7 +107,7 @@ def output_that_takes_a_little(program):
     job = HEAD + "step = [" + ", ".join(f'{{rank = {n % 2}, op = "failed"}}' for n in range(128)) + "]\n"
     words = ["places", "--stops", "2"]
     _, all_of_it, _ = run(program, words, job)
-    with subprocess.Popen([program, *words], stdin=subprocess.PIPE, stdout=subprocess.PIPE) as child:
+    with begun(program, *words, stdin=subprocess.PIPE, stdout=subprocess.PIPE) as child:
         fcntl.fcntl(child.stdout, F_SETPIPE_SZ, PIPE)
         child.stdin.write(job.encode())
         child.stdin.close()
@@ -106,9 +117,10 @@ def output_that_takes_a_little(program):
             wait_for(partial(state, child.pid), "T")
             child.send_signal(signal.SIGCONT)
             os.read(child.stdout.fileno(), PIPE)
-        said = all_of_it[3 * PIPE:]
-        if child.stdout.read().decode() != said or child.wait(SECONDS) or not said:
-            yield "not all is written"
+        child.stdin = None
+        output, _ = child.communicate(timeout=SECONDS)
+    if output.decode() != all_of_it[3 * PIPE:] or child.returncode or not output:
+        yield "not all is written"
 
 
 def waiting(stream):
@@ -131,15 +143,14 @@ def wait_for(now, wanted):
 
 def input_that_fails(program):
     for command in ("check", "replay"):
-        with socket.create_server(("127.0.0.1", 0)) as server, socket.create_connection(server.getsockname()) as ours:
-            theirs, _ = server.accept()
-            with theirs, subprocess.Popen([program, command], stdin=theirs, stdout=subprocess.PIPE, stderr=subprocess.PIPE) as child:
-                ours.send(b"r")
-                wait_for(partial(waiting, theirs), 0)
-                # The connection is reset, so that the second read fails.
-                ours.setsockopt(socket.SOL_SOCKET, socket.SO_LINGER, struct.pack("ii", 1, 0))
-                ours.close()
-                output, _ = child.communicate(timeout=SECONDS)
+        ours, theirs = socket.socketpair()
+        with theirs, begun(program, command, stdin=theirs, stdout=subprocess.PIPE, stderr=subprocess.DEVNULL) as child:
+            theirs.send(b"never read")
+            ours.send(b"r")
+            wait_for(partial(waiting, theirs), 0)
+            # The other end goes without having read all, so that the second read fails.
+            ours.close()
+            output, _ = child.communicate(timeout=SECONDS)
         if (child.returncode, output) != (5, b""):
             yield f"{command}: status {child.returncode}, {output}"
 
@@ -149,7 +160,7 @@ def input_that_gives_a_little(program):
         for command, job, status, text in ANSWERED:
             # (a read of such a socket gives one packet)
             ours, theirs = socket.socketpair(socket.AF_UNIX, socket.SOCK_SEQPACKET)
-            with ours, subprocess.Popen([program, command], stdin=theirs, stdout=subprocess.PIPE, stderr=subprocess.DEVNULL) as child:
+            with ours, begun(program, command, stdin=theirs, stdout=subprocess.PIPE, stderr=subprocess.DEVNULL) as child:
                 theirs.close()
                 for at in range(0, len(job), most):
                     ours.send(job[at : at + most].encode())
@@ -200,8 +211,10 @@ step = [
             yield f"over {carrier}: status {status}, {output}"
 
 
-def tried(program):
-    """Of each, what it is, and what is wrong."""
-    for it in (text_that_breaks_off, output_that_fails, output_that_takes_a_little, input_that_fails, input_that_gives_a_little, longest_jobs,
-               sweeps_of_many_stops, runs_that_differ):
-        yield it.__name__.replace("_", " "), list(it(program))
+CHECKS = [text_that_breaks_off, output_that_fails, output_that_takes_a_little, input_that_fails, input_that_gives_a_little, longest_jobs,
+          sweeps_of_many_stops, runs_that_differ]
+
+
+def tried(check, program):
+    """What a check is, and what it finds wrong."""
+    yield check.__name__.replace("_", " "), list(check(program))
