@@ -1,7 +1,7 @@
 //! The command `ulfm` and its commands, each with its options.
 ghost use Rattle.std.specs.Prelude.{◌≡◌, false, IfOk};
 ghost use Rattle.clap.specs.declared.builder.command.Command.TheViews.{out-Command};
-ghost use Rattle.clap.specs.Words.{app_of};
+ghost use Rattle.clap.specs.Words.{App, app_of, with_subcommand};
 ghost use Rattle.ulfm_replies.specs.Rules.{check_app, demanding_app, draw_app, expand_app, of_jobs, of_pictures, of_places, of_schedules, of_stopped, outcomes_app, places_app, replay_app, run_app, sweep_app, tool_app};
 
 use crate::help::HELP;
@@ -18,14 +18,26 @@ use std::alloc::{AllocError, Global};
 pub fn command_line<'a>(alloc: Global) -> Result<Command<'a>, AllocError>
     ensures { IfOk result (λ command. app_of command ≡ tool_app) }
 {
-    let command = bare_command(alloc).subcommand(check_command(alloc)?)?;
-    let command = command.subcommand(replay_command(alloc)?)?;
-    let command = command.subcommand(run_command(alloc)?)?;
-    let command = command.subcommand(sweep_command(alloc)?)?;
-    let command = command.subcommand(outcomes_command(alloc)?)?;
-    let command = command.subcommand(places_command(alloc)?)?;
-    let command = command.subcommand(expand_command(alloc)?)?;
-    command.subcommand(draw_command(alloc)?)
+    let command = joined(Ok(bare_command(alloc)), check_command(alloc));
+    let command = joined(command, replay_command(alloc));
+    let command = joined(command, run_command(alloc));
+    let command = joined(command, sweep_command(alloc));
+    let command = joined(command, outcomes_command(alloc));
+    let command = joined(command, places_command(alloc));
+    let command = joined(command, expand_command(alloc));
+    joined(command, draw_command(alloc))
+}
+
+/// A command with one more below it, where both are there. Here alone a command is let go of: each such exit is dear to check.
+fn joined<'a>(
+    command: Result<Command<'a>, AllocError>,
+    below: Result<Command<'a>, AllocError>,
+) -> Result<Command<'a>, AllocError>
+    requires { IfOk below (λ it. (out-Command it).has_globals ≡ false) }
+    ensures { (top under : App) → IfOk command.entry (λ it. app_of it ≡ top) → IfOk below.entry (λ it. app_of it ≡ under) → IfOk result (λ whole. app_of whole ≡ with_subcommand top under.top) }
+{
+    let command = command?;
+    command.subcommand(below?)
 }
 
 /// The command `ulfm` without its commands.
