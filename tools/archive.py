@@ -118,8 +118,8 @@ class Archive:
         for library in LIBRARIES:
             self.copy(library, f"lib/{library.name}")
         self.copy(FORMS / "ulfm.pc", "lib/pkgconfig/ulfm.pc")
-        # (the paths of this machine stand in what debuggers read)
-        subprocess.run(["strip", "--strip-debug", *self.binaries()], check=True)
+        # (the clone's path stands in what debuggers read, and the build's sum is over that too)
+        subprocess.run(["strip", "--strip-debug", "--remove-section=.note.gnu.build-id", *self.binaries()], check=True)
         strangers = set(re.findall(r"\(NEEDED\).*\[(.*)\]", "".join(written("readelf", "-d", "--wide", it) for it in self.binaries())))
         strangers -= OF_GLIBC | {it.name for it in self.binaries()}
         if strangers:
