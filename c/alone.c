@@ -1,17 +1,25 @@
-/* Linked into each program: its main by a name that the launcher knows, and what it says where somebody starts it by itself. */
-#include <unistd.h>
+/* A program that is started by itself, without ulfm-mpirun. It is the only rank of a run, in the thread that it begins with, and in all else a process as
+   any: its streams, signals and ends are its own. */
+#include "run.h"
+#include <stdlib.h>
 
-int main();
-int (*const ulfm_program_entry)() __attribute__((visibility("default"))) = main;
+/* The main of a program that was started by itself (entry.c). The launcher has none: it loads its programs later, where this name isn't seen. */
+extern int (*const ulfm_program_entry)() __attribute__((weak));
 
-#if defined __x86_64__
-const char ulfm_interpreter[] __attribute__((section(".interp"))) = "/lib64/ld-linux-x86-64.so.2";
-#elif defined __aarch64__
-const char ulfm_interpreter[] __attribute__((section(".interp"))) = "/lib/ld-linux-aarch64.so.1";
-#endif
-
-__attribute__((visibility("default"), noreturn, force_align_arg_pointer)) void ulfm_started_alone(void) {
-    static const char text[] = "This program was linked by ulfm-mpicc. Run it so: ulfm-mpirun -n 4 ./PROGRAM\n";
-    if (write(2, text, sizeof text - 1) < 0) _exit(2);
-    _exit(2);
+/* Before the program's own constructors, which may ask whether MPI has begun. */
+static void __attribute__((constructor)) be_only_rank(void) {
+    if (!&ulfm_program_entry) return;
+    options.is_alone = true;
+    be_launcher();
+    prepare_rank(&ranks[0], 0);
+    me = &ranks[0];
 }
+
+static void tell_end(int status, void *unused) {
+    (void)unused;
+    if (is_launcher() && !ranks[0].has_finalized)
+        fprintf(stderr, "ulfm-mpirun: rank 0 ended with status %d without MPI_Finalize: it failed\n", status);
+}
+
+/* The world of one, made where the program begins to use it: many that build systems start never do. */
+bool begin_alone(void) { return make_ranks() == ULFM_OK && on_exit(tell_end, 0) == 0; }

@@ -130,12 +130,16 @@ static void *run_rank(void *of) {
     return 0;
 }
 
-static bool start_rank(struct rank *rank, int number) {
-    pthread_attr_t attributes;
+void prepare_rank(struct rank *rank, int number) {
     rank->number = number;
     rank->slot = &rank->home;
     pthread_mutex_init(&rank->parcels_lock, 0);
     rank->random = options.seed * 0x9E3779B97F4A7C15u + (uint64_t)number * 0xBF58476D1CE4E5B9u + 1;
+}
+
+static bool start_rank(struct rank *rank, int number) {
+    pthread_attr_t attributes;
+    prepare_rank(rank, number);
     if (!open_output(rank)) return false;
     pthread_attr_init(&attributes);
     pthread_attr_setstacksize(&attributes, 32u << 20);
@@ -150,7 +154,7 @@ static void keep_memory(void) {
 }
 
 /* Makes the world, each rank in a slot that stands apart from the others': its calls write to it. The code of a refusal, or ULFM_OK. */
-static uint32_t make_ranks(void) {
+uint32_t make_ranks(void) {
     ulfm_slot made[MAX_RANKS] = {{0}};
     uint32_t code = ulfm_world(made, (size_t)options.ranks, (uint8_t)options.capacity, (uint16_t)options.rounds);
     for (int k = 0; k < options.ranks; k++) ranks[k].home = made[k];
@@ -180,8 +184,10 @@ static void wait_for_ends(void) {
 /* The status of a run that ended: that of the first rank that ended with another one than 0 and wasn't stopped by plan. */
 static int status_of_run(void) {
     int status = 0;
+    bool uses_mpi = false;
+    for (int k = 0; k < options.ranks; k++) uses_mpi = uses_mpi || ranks[k].has_begun;
     for (int k = options.ranks - 1; k >= 0; k--) {
-        if (ranks[k].has_stopped && !ranks[k].is_planned)
+        if (uses_mpi && ranks[k].has_stopped && !ranks[k].is_planned)
             fprintf(stderr, "ulfm-mpirun: rank %d ended with status %d without MPI_Finalize: it failed\n", k, ranks[k].status);
         if (!ranks[k].is_planned && ranks[k].status) status = ranks[k].status;
     }
@@ -201,10 +207,7 @@ int ulfm_mpirun(int count, char **words) {
     if (options.every_stop) return every_stop(words[0]);
     be_launcher();
     handle_signals();   /* before there are copies, which each end takes away */
-    if (!copy_programs()) {
-        fprintf(stderr, "ulfm-mpirun: %s can't be copied\n", options.program);
-        return STATUS_USAGE;
-    }
+    if (!copy_programs()) return STATUS_USAGE;
     keep_memory();
     uint32_t code = make_ranks();
     if (code != ULFM_OK) {

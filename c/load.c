@@ -3,11 +3,9 @@
 #define _GNU_SOURCE
 #include "run.h"
 #include <dlfcn.h>
-#include <errno.h>
 #include <fcntl.h>
 #include <stdlib.h>
 #include <string.h>
-#include <sys/sendfile.h>
 #include <sys/stat.h>
 #include <unistd.h>
 
@@ -26,32 +24,47 @@ static bool make_folder(void) {
     return true;
 }
 
-/* Copies the program to a path. */
-static bool copy_program(const char *path) {
+/* The program in memory, as each rank's copy has it, or null. */
+static char *read_program(size_t *size) {
     int from = open(options.program, O_RDONLY | O_CLOEXEC);
-    int to = open(path, O_WRONLY | O_CREAT | O_EXCL | O_CLOEXEC, 0700);
     struct stat info;
-    bool is_well = from >= 0 && to >= 0 && fstat(from, &info) == 0;
-    for (off_t left = is_well ? info.st_size : 0; is_well && left > 0;) {
-        ssize_t count = sendfile(to, from, 0, (size_t)left);
+    char *bytes = from >= 0 && fstat(from, &info) == 0 && S_ISREG(info.st_mode) ? malloc((size_t)info.st_size + 1) : 0;
+    bool is_well = bytes != 0;
+    for (*size = 0; is_well && *size < (size_t)info.st_size;) {
+        ssize_t count = read(from, bytes + *size, (size_t)info.st_size - *size);
         is_well = count > 0;
-        left -= count;
+        *size += is_well ? (size_t)count : 0;
     }
     if (from >= 0) close(from);
+    if (is_well) return bytes;
+    free(bytes);
+    return 0;
+}
+
+static bool write_copy(const char *path, const char *bytes, size_t size) {
+    int to = open(path, O_WRONLY | O_CREAT | O_EXCL | O_CLOEXEC, 0700);
+    bool is_well = to >= 0;
+    for (size_t at = 0; is_well && at < size;) {
+        ssize_t count = write(to, bytes + at, size - at);
+        is_well = count > 0;
+        at += is_well ? (size_t)count : 0;
+    }
     if (to >= 0) close(to);
     return is_well;
 }
 
-/* Makes the copies for all ranks. */
+/* Makes the copies for all ranks; false, and says why, where they can't be made. */
 bool copy_programs(void) {
     const char *name = strrchr(options.program, '/');
-    name = name ? name + 1 : options.program;
-    if (!make_folder()) return false;
-    for (int k = 0; k < options.ranks; k++) {
-        if (asprintf(&ranks[k].path, "%s/%s.rank%d", folder, name, k) < 0) return false;
-        if (!copy_program(ranks[k].path)) return false;
-    }
-    return true;
+    size_t size;
+    char *bytes = read_program(&size);
+    bool is_well = bytes && make_folder();
+    if (is_well && !mend_program(bytes, size)) return false;
+    for (int k = 0; k < options.ranks && is_well; k++)
+        is_well = asprintf(&ranks[k].path, "%s/%s.rank%d", folder, name ? name + 1 : options.program, k) >= 0 && write_copy(ranks[k].path, bytes, size);
+    if (!is_well) fprintf(stderr, "ulfm-mpirun: %s can't be copied\n", options.program);
+    free(bytes);
+    return is_well;
 }
 
 void remove_copies(void) {

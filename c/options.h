@@ -24,6 +24,7 @@ struct options {
     uint64_t seed;
     double timeout;
     bool sends_wait, tag, every_stop, same_output, all;
+    bool is_alone;   /* the program was started by itself */
     int jobs, report, capacity, rounds;
     const char *program;
     char **words;

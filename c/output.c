@@ -79,6 +79,7 @@ void close_output(struct rank *rank) {
    its stream may be broken. */
 void write_rests(bool all) {
     REAL(fflush);
+    if (all && options.is_alone) real_fflush(0);
     if (pthread_mutex_trylock(&closing)) return;
     for (int k = 0; k < options.ranks; k++) {
         if (!ranks[k].out || ftrylockfile(ranks[k].out)) continue;
@@ -124,7 +125,7 @@ int fflush(FILE *file) {
 
 int setvbuf(FILE *file, char *buffer, int mode, size_t size) {
     REAL(setvbuf);
-    return me && file == stdout ? 0 : real_setvbuf(file, buffer, mode, size);
+    return me && me->out && file == stdout ? 0 : real_setvbuf(file, buffer, mode, size);
 }
 
 void setbuf(FILE *file, char *buffer) { setvbuf(file, buffer, buffer ? _IOFBF : _IONBF, BUFSIZ); }

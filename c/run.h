@@ -7,10 +7,16 @@
 extern struct rank ranks[MAX_RANKS];
 extern __thread struct rank *me __attribute__((tls_model("initial-exec")));
 
-/* launch.c, load.c, words.c */
+/* alone.c */
+bool begin_alone(void);
+
+/* launch.c, load.c, image.c, words.c */
+void prepare_rank(struct rank *rank, int number);
+uint32_t make_ranks(void);
 int read_words(int count, char **words);
 char *quoted(const char *word);
 bool copy_programs(void);
+bool mend_program(char *bytes, size_t size);
 void remove_copies(void);
 /* Whether a rank crashed, so that the process ends: a program that can't be loaded then is no fault. */
 extern volatile sig_atomic_t is_crashed;

@@ -25,7 +25,7 @@ int MPI_Init_thread(int *argc, char ***argv, int required, int *provided) {
     (void)argv;
     if (!me) refuse("MPI_Init", "was called outside of a rank's first thread");
     if (me->has_begun) refuse("MPI_Init", "was called twice");
-    if (!make_world()) refuse("MPI_Init", "found no memory");
+    if ((options.is_alone && !begin_alone()) || !make_world()) refuse("MPI_Init", "found no memory");
     me->has_begun = true;
     me->place = (struct place){.call = "MPI_Init", .from = __builtin_return_address(0), .peer = MPI_UNDEFINED, .tag = MPI_UNDEFINED};
     me->provided = required < MPI_THREAD_FUNNELED ? MPI_THREAD_SINGLE : MPI_THREAD_FUNNELED;

@@ -22,7 +22,8 @@ void be_launcher(void) {
 /* Whether this process has the ranks, and isn't one that a rank forked: that ends as any process does. */
 bool is_launcher(void) { return getpid() == launcher; }
 
-static bool is_rank(void) { return me && is_launcher(); }
+/* Whether what ends a process ends a rank alone. */
+static bool is_rank(void) { return me && !options.is_alone && is_launcher(); }
 
 /* The rank stops here; its thread goes on at its bottom. */
 void stop_here(int status) {
@@ -52,7 +53,7 @@ struct farewell {
 /* What a rank's program leaves is done by the rank, since it may make calls of MPI; the C library would do it when the run is over. */
 int __cxa_atexit(void (*function)(void *), void *of, void *object) {
     Dl_info info;
-    if (me && object && dladdr(object, &info) && !strcmp(info.dli_fname, me->path)) {
+    if (me && me->path && object && dladdr(object, &info) && !strcmp(info.dli_fname, me->path)) {
         struct farewell *made = malloc(sizeof *made);
         if (!made) return -1;
         *made = (struct farewell){me->farewells, function, of};
@@ -86,7 +87,7 @@ void exit(int status) {
         say_farewells();
         stop_here(status);
     }
-    if (me) close_output(me);
+    if (me && me->out) close_output(me);
     ending *end = (ending *)real("exit");
     end(status);
     __builtin_unreachable();

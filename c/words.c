@@ -25,6 +25,7 @@ static const char usage[] =
     "  --jobs N           with --every-stop: N runs at the same time; if left out, as many as there are processors\n"
     "  --all              with --every-stop: a line for each place, not only for those where something is wrong\n"
     "  --rounds N         agreements that can be made on each communicator (1024)\n"
+    "  --version          tells the version\n"
     "\n"
     "Its status is 0 where each rank that wasn't stopped by plan ended with 0, else that of the first rank that did not. MPI_Abort: its code.\n"
     "96: an error was fatal. 98: nobody could move any more. 99: the time was over. 128 + S: a rank crashed by signal S. 2: a wrong command line.\n";
@@ -125,6 +126,10 @@ int read_words(int count, char **words) {
     for (; k < count && words[k][0] == '-'; k++) {
         if (!strcmp(words[k], "--help") || !strcmp(words[k], "-h")) {
             fputs(usage, stdout);
+            return -1;
+        }
+        if (!strcmp(words[k], "--version") || !strcmp(words[k], "-V")) {
+            puts("ulfm-mpirun (Cufandrize " ULFM_VERSION "): MPI 4.0 and ULFM");
             return -1;
         }
         if (read_flag(words[k])) continue;
