@@ -1,18 +1,7 @@
 /* Attributes of communicators (MPI 4.0, 7.7 and 9.1): those that are there, and a program's own, with what copies and deletes them. */
-#include "run.h"
+#include "attribute.h"
 #include <stdlib.h>
 
-struct keyval {
-    MPI_Comm_copy_attr_function *copies;
-    MPI_Comm_delete_attr_function *deletes;
-    void *more;
-};
-
-struct attribute {
-    struct attribute *next;
-    int keyval;
-    void *value;
-};
 enum { FIRST_OWN = 64 };
 
 int MPI_COMM_NULL_COPY_FN(MPI_Comm comm, int keyval, void *more, void *in, void *out, int *flag) {
@@ -33,40 +22,52 @@ int MPI_COMM_NULL_DELETE_FN(MPI_Comm comm, int keyval, void *value, void *more) 
     return MPI_SUCCESS;
 }
 
-static struct keyval *keyval_at(int keyval) {
-    return keyval >= FIRST_OWN && keyval - FIRST_OWN < me->keyval_count ? &me->keyvals[keyval - FIRST_OWN] : 0;
+static struct keyval *keyval_at(int keyval, bool is_of_types) {
+    struct keyval *at = keyval >= FIRST_OWN && keyval - FIRST_OWN < me->keyval_count ? &me->keyvals[keyval - FIRST_OWN] : 0;
+    return at && at->is_of_types == is_of_types ? at : 0;
+}
+
+int create_keyval(const struct keyval *made, int *keyval) {
+    WRITES(0, keyval);
+    if (!grow(&me->keyvals, me->keyval_count, sizeof *me->keyvals)) return fail(0, MPI_ERR_NO_MEM);
+    me->keyvals[me->keyval_count] = *made;
+    *keyval = FIRST_OWN + me->keyval_count++;
+    return MPI_SUCCESS;
 }
 
 /* MPI_COMM_NULL_COPY_FN and MPI_COMM_NULL_DELETE_FN are null pointers in MPICH, and programs pass null for them. */
 int MPI_Comm_create_keyval(MPI_Comm_copy_attr_function *copies, MPI_Comm_delete_attr_function *deletes, int *keyval, void *more) {
     ENTER_LOOK(0, MPI_UNDEFINED, MPI_UNDEFINED);
-    WRITES(0, keyval);
-    if (!grow(&me->keyvals, me->keyval_count, sizeof *me->keyvals)) return fail(0, MPI_ERR_NO_MEM);
-    me->keyvals[me->keyval_count] = (struct keyval){copies ? copies : MPI_COMM_NULL_COPY_FN, deletes ? deletes : MPI_COMM_NULL_DELETE_FN, more};
-    *keyval = FIRST_OWN + me->keyval_count++;
-    return MPI_SUCCESS;
+    struct keyval made = {.more = more};
+    made.comm.copies = copies ? copies : MPI_COMM_NULL_COPY_FN;
+    made.comm.deletes = deletes ? deletes : MPI_COMM_NULL_DELETE_FN;
+    return create_keyval(&made, keyval);
 }
 
 /* The handle goes; attributes with it stay (7.7.2). */
-int MPI_Comm_free_keyval(int *keyval) {
-    ENTER_LOOK(0, MPI_UNDEFINED, MPI_UNDEFINED);
+int free_keyval(int *keyval, bool is_of_types) {
     WRITES(0, keyval);
-    if (!keyval_at(*keyval)) return fail(0, MPI_ERR_KEYVAL);
+    if (!keyval_at(*keyval, is_of_types)) return fail(0, MPI_ERR_KEYVAL);
     *keyval = MPI_KEYVAL_INVALID;
     return MPI_SUCCESS;
 }
 
-static struct attribute **place_of(struct comm *comm, int keyval) {
-    struct attribute **at = &comm->attributes;
+int MPI_Comm_free_keyval(int *keyval) {
+    ENTER_LOOK(0, MPI_UNDEFINED, MPI_UNDEFINED);
+    return free_keyval(keyval, false);
+}
+
+static struct attribute **place_of(struct attribute **at, int keyval) {
     while (*at && (*at)->keyval != keyval) at = &(*at)->next;
     return at;
 }
 
 /* Takes an attribute away, where its deletion allows that. */
-static int delete_at(struct comm *comm, struct attribute **at) {
+static int delete_at(const struct bearer *bearer, struct attribute **at) {
     struct attribute *attribute = *at;
-    const struct keyval *keyval = keyval_at(attribute->keyval);
-    int code = keyval->deletes(handle_of(comm), attribute->keyval, attribute->value, keyval->more);
+    const struct keyval *keyval = &me->keyvals[attribute->keyval - FIRST_OWN];
+    int code = keyval->is_of_types ? keyval->type.deletes(bearer->type, attribute->keyval, attribute->value, keyval->more)
+                                   : keyval->comm.deletes(bearer->comm, attribute->keyval, attribute->value, keyval->more);
     if (code != MPI_SUCCESS) return code;
     *at = attribute->next;
     free(attribute);
@@ -82,23 +83,84 @@ static int add(struct attribute **at, int keyval, void *value) {
     return MPI_SUCCESS;
 }
 
+int set_attribute(const struct bearer *bearer, int keyval, void *value) {
+    if (!keyval_at(keyval, !bearer->comm)) return MPI_ERR_KEYVAL;
+    struct attribute **at = place_of(bearer->first, keyval);
+    int code = *at ? delete_at(bearer, at) : MPI_SUCCESS;
+    return code != MPI_SUCCESS ? code : add(bearer->first, keyval, value);
+}
+
+int delete_attribute(const struct bearer *bearer, int keyval) {
+    if (!keyval_at(keyval, !bearer->comm)) return MPI_ERR_KEYVAL;
+    struct attribute **at = place_of(bearer->first, keyval);
+    return *at ? delete_at(bearer, at) : MPI_SUCCESS;
+}
+
+int get_attribute(const struct bearer *bearer, int keyval, void *value, int *flag) {
+    if (!keyval_at(keyval, !bearer->comm)) return MPI_ERR_KEYVAL;
+    const struct attribute *own = *place_of(bearer->first, keyval);
+    *flag = own != 0;
+    if (own) *(void **)value = own->value;
+    return MPI_SUCCESS;
+}
+
+/* A duplicate gets those whose copy function says so (7.7.2), in the same order, so that the last one that was set is the first to be deleted
+   there too. */
+int copy_all_attributes(const struct bearer *from, struct attribute **end) {
+    int code = MPI_SUCCESS;
+    for (struct attribute *of = *from->first; of && code == MPI_SUCCESS; of = of->next) {
+        const struct keyval *keyval = &me->keyvals[of->keyval - FIRST_OWN];
+        void *value = 0;
+        int flag = 0;
+        code = keyval->is_of_types ? keyval->type.copies(from->type, of->keyval, keyval->more, of->value, &value, &flag)
+                                   : keyval->comm.copies(from->comm, of->keyval, keyval->more, of->value, &value, &flag);
+        if (code == MPI_SUCCESS && flag) code = add(end, of->keyval, value);
+        if (*end) end = &(*end)->next;
+    }
+    return code;
+}
+
+/* Deletes all, the last one first. The first error ends it. */
+int delete_all_attributes(const struct bearer *bearer) {
+    int code = MPI_SUCCESS;
+    while (*bearer->first && code == MPI_SUCCESS) code = delete_at(bearer, bearer->first);
+    return code;
+}
+
+void free_attributes(struct attribute *first) {
+    while (first) {
+        struct attribute *next = first->next;
+        free(first);
+        first = next;
+    }
+}
+
+static struct bearer bearer_of(struct comm *comm) { return (struct bearer){handle_of(comm), MPI_DATATYPE_NULL, &comm->attributes}; }
+
+int copy_attributes(struct comm *from, struct comm *to) {
+    struct bearer bearer = bearer_of(from);
+    return copy_all_attributes(&bearer, &to->attributes);
+}
+
+int delete_attributes(struct comm *comm) {
+    struct bearer bearer = bearer_of(comm);
+    return delete_all_attributes(&bearer);
+}
+
 int MPI_Comm_set_attr(MPI_Comm comm, int keyval, void *value) {
     struct comm *of = comm_at(comm);
     ENTER_LOOK(of, MPI_UNDEFINED, MPI_UNDEFINED);
     if (!of) return fail(0, MPI_ERR_COMM);
-    if (!keyval_at(keyval)) return fail(of, MPI_ERR_KEYVAL);
-    struct attribute **at = place_of(of, keyval);
-    int code = *at ? delete_at(of, at) : MPI_SUCCESS;
-    return fail(of, code != MPI_SUCCESS ? code : add(&of->attributes, keyval, value));
+    struct bearer bearer = bearer_of(of);
+    return fail(of, set_attribute(&bearer, keyval, value));
 }
 
 int MPI_Comm_delete_attr(MPI_Comm comm, int keyval) {
     struct comm *of = comm_at(comm);
     ENTER_LOOK(of, MPI_UNDEFINED, MPI_UNDEFINED);
     if (!of) return fail(0, MPI_ERR_COMM);
-    if (!keyval_at(keyval)) return fail(of, MPI_ERR_KEYVAL);
-    struct attribute **at = place_of(of, keyval);
-    return fail(of, *at ? delete_at(of, at) : MPI_SUCCESS);
+    struct bearer bearer = bearer_of(of);
+    return fail(of, delete_attribute(&bearer, keyval));
 }
 
 /* The attributes that are there: the value is a pointer to a number. */
@@ -122,42 +184,11 @@ int MPI_Comm_get_attr(MPI_Comm comm, int keyval, void *value, int *flag) {
     if (!of) return fail(0, MPI_ERR_COMM);
     WRITES(of, value && flag);
     int *there = value_of(keyval);
-    if (!there && !keyval_at(keyval)) return fail(of, MPI_ERR_KEYVAL);
-    struct attribute *own = *place_of(of, keyval);
-    *flag = there || own;
-    if (*flag) *(void **)value = there ? (void *)there : own->value;
+    struct bearer bearer = bearer_of(of);
+    if (!there) return fail(of, get_attribute(&bearer, keyval, value, flag));
+    *flag = 1;
+    *(void **)value = there;
     return MPI_SUCCESS;
-}
-
-/* A duplicate gets those whose copy function says so (7.7.2), in the same order, so that the last one that was set is the first to be deleted
-   there too. */
-int copy_attributes(struct comm *from, struct comm *to) {
-    struct attribute **end = &to->attributes;
-    int code = MPI_SUCCESS;
-    for (struct attribute *of = from->attributes; of && code == MPI_SUCCESS; of = of->next) {
-        const struct keyval *keyval = keyval_at(of->keyval);
-        void *value = 0;
-        int flag = 0;
-        code = keyval->copies(handle_of(from), of->keyval, keyval->more, of->value, &value, &flag);
-        if (code == MPI_SUCCESS && flag) code = add(end, of->keyval, value);
-        if (*end) end = &(*end)->next;
-    }
-    return code;
-}
-
-/* Deletes all, the last one first. The first error ends it. */
-int delete_attributes(struct comm *comm) {
-    int code = MPI_SUCCESS;
-    while (comm->attributes && code == MPI_SUCCESS) code = delete_at(comm, &comm->attributes);
-    return code;
-}
-
-void free_attributes(struct comm *comm) {
-    while (comm->attributes) {
-        struct attribute *next = comm->attributes->next;
-        free(comm->attributes);
-        comm->attributes = next;
-    }
 }
 
 /* What a program added to the errors goes too: one of the attributes that are there points to it. */
@@ -169,7 +200,6 @@ void clear_keyvals(void) {
 }
 
 /* The older names (16.1). A report has the newer one. */
-#define ALSO(name, of) extern __typeof__(of) name __attribute__((alias(#of)))
 ALSO(MPI_NULL_COPY_FN, MPI_COMM_NULL_COPY_FN);
 ALSO(MPI_DUP_FN, MPI_COMM_DUP_FN);
 ALSO(MPI_NULL_DELETE_FN, MPI_COMM_NULL_DELETE_FN);

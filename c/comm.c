@@ -104,7 +104,7 @@ bool make_world(void) {
 void free_comm(struct comm *comm) {
     if (--comm->chain->users == 0) free(comm->chain);
     free(comm->cart);
-    free_attributes(comm);
+    free_attributes(comm->attributes);
     free(comm);
 }
 

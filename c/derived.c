@@ -1,87 +1,8 @@
-/* Derived datatypes (MPI 4.0, 5.1.2 to 5.1.4): each is made of pieces, several elements of another type in a row at a displacement. */
+/* Derived datatypes (MPI 4.0, 5.1.2): each is made of pieces, several elements of another type in a row at a displacement. */
 #include "type.h"
 #include <limits.h>
 #include <stdlib.h>
 #include <string.h>
-
-/* So many elements of a type, the first one at a displacement in bytes. */
-struct piece {
-    int count;
-    ptrdiff_t at;
-    const struct type *type;
-};
-
-/* Where the data begin and end. */
-void bounds_of_data(const struct type *type, ptrdiff_t *least, ptrdiff_t *most) {
-    *least = *most = 0;
-    for (size_t k = 0; k < type->blocks; k++) {
-        ptrdiff_t first = type->block[k].at, end = first + (ptrdiff_t)type->block[k].length;
-        if (k == 0 || first < *least) *least = first;
-        if (k == 0 || end > *most) *most = end;
-    }
-}
-
-/* Appends a block, to the one before where it goes on with the same elements. */
-static void append(struct type *type, struct block block) {
-    struct block *last = type->blocks ? &type->block[type->blocks - 1] : 0;
-    type->size += block.length;
-    bool is_alike = last && last->element == block.element && last->alignment == block.alignment;
-    if (is_alike && last->at + (ptrdiff_t)last->length == block.at) last->length += block.length;
-    else type->block[type->blocks++] = block;
-}
-
-/* The bounds of a type are those of its pieces; where some of them were set, of these alone. */
-static void bound(struct type *type, const struct piece *pieces, int count) {
-    bool has_any = false, had_lower = false, had_upper = false;
-    for (int k = 0; k < count; k++) {
-        type->has_lower = type->has_lower || (pieces[k].count > 0 && pieces[k].type->has_lower);
-        type->has_upper = type->has_upper || (pieces[k].count > 0 && pieces[k].type->has_upper);
-    }
-    for (int k = 0; k < count; k++) {
-        const struct piece *piece = &pieces[k];
-        bool is_empty = piece->count == 0 || (piece->type->blocks == 0 && !piece->type->has_lower && !piece->type->has_upper);
-        if (is_empty) continue;
-        has_any = true;
-        ptrdiff_t reach = extent_of(piece->type) * (piece->count - 1), back = reach < 0 ? reach : 0, forth = reach > 0 ? reach : 0;
-        ptrdiff_t lower = piece->at + piece->type->lower + back, upper = piece->at + piece->type->upper + forth;
-        if (piece->type->has_lower == type->has_lower && (!had_lower || lower < type->lower)) type->lower = lower, had_lower = true;
-        if (piece->type->has_upper == type->has_upper && (!had_upper || upper > type->upper)) type->upper = upper, had_upper = true;
-    }
-    if (!has_any) type->lower = type->upper = 0;
-}
-
-/* Whether the data are one piece from 0 to the upper bound. */
-static bool is_plain(const struct type *type) {
-    ptrdiff_t end = 0;
-    for (size_t k = 0; k < type->blocks; k++) {
-        if (type->block[k].at != end) return false;
-        end += (ptrdiff_t)type->block[k].length;
-    }
-    return type->lower == 0 && type->upper == end;
-}
-
-/* The type of pieces, or null where there is no memory. */
-static struct type *join(const struct piece *pieces, int count) {
-    struct type *type = calloc(1, sizeof *type);
-    size_t blocks = 0;
-    for (int k = 0; k < count; k++) blocks += (size_t)pieces[k].count * pieces[k].type->blocks;
-    if (type) type->block = malloc((blocks + 1) * sizeof *type->block);
-    if (!type || !type->block) {
-        free(type);
-        return 0;
-    }
-    for (int k = 0; k < count; k++)
-        for (int j = 0; j < pieces[k].count; j++)
-            for (size_t b = 0; b < pieces[k].type->blocks; b++) {
-                struct block block = pieces[k].type->block[b];
-                block.at += pieces[k].at + j * extent_of(pieces[k].type);
-                append(type, block);
-            }
-    bound(type, pieces, count);
-    type->is_plain = is_plain(type);
-    type->users = 1;
-    return type;
-}
 
 /* Why a type of `count` pieces of one type can't be made, or MPI_SUCCESS. */
 static int check(int count, MPI_Datatype of, const void *made) {
@@ -90,11 +11,18 @@ static int check(int count, MPI_Datatype of, const void *made) {
     return made ? MPI_SUCCESS : MPI_ERR_ARG;
 }
 
+/* Makes the type of pieces, and its handle. */
+static int make(const struct piece *pieces, size_t count, MPI_Datatype *made) {
+    struct type *type;
+    int code = join(pieces, count, &type);
+    return code == MPI_SUCCESS ? add_type(type, made) : code;
+}
+
 static int contiguous(int count, MPI_Datatype of, MPI_Datatype *made) {
     int code = check(count, of, made);
     if (code != MPI_SUCCESS) return code;
-    struct piece piece = {count, 0, type_at(of)};
-    return add_type(join(&piece, 1), made);
+    struct type *type = type_at(of);
+    return make(&(struct piece){(size_t)count, 0, extent_of(type), type}, 1, made);
 }
 
 int MPI_Type_contiguous(int count, MPI_Datatype type, MPI_Datatype *made) {
@@ -107,48 +35,64 @@ int MPI_Type_dup(MPI_Datatype type, MPI_Datatype *made) {
     ENTER_LOOK(0, MPI_UNDEFINED, MPI_UNDEFINED);
     struct arguments arguments = {.combiner = MPI_COMBINER_DUP, .types = 1, .type = &type};
     int code = describe(contiguous(1, type, made), made, &arguments);
-    if (code == MPI_SUCCESS) type_at(*made)->is_committed = type_at(type)->is_committed;
+    if (code != MPI_SUCCESS) return fail(0, code);
+    type_at(*made)->is_committed = type_at(type)->is_committed;
+    code = copy_type_attributes(type, *made);
+    if (code == MPI_SUCCESS) return MPI_SUCCESS;
+    drop_type(*made);   /* a copy function failed: there is no duplicate (7.7.4) */
+    *made = MPI_DATATYPE_NULL;
     return fail(0, code);
 }
 
-/* Makes a type of blocks of one type: lengths in elements, or all of `length`; displacements in bytes (`at`), in extents (`displs`), or by a
-   stride in bytes. */
+/* Blocks of one type: lengths in elements, or all of `length`; displacements in bytes (`at`), or in extents (`displs`). */
 struct blocks {
     int count, length;
     const int *lengths, *displs;
     const MPI_Aint *at;
-    ptrdiff_t stride;
 };
 
 static int make_blocks(const struct blocks *blocks, MPI_Datatype of, MPI_Datatype *made) {
     int code = check(blocks->count, of, made);
     if (code != MPI_SUCCESS) return code;
     struct piece *pieces = malloc(((size_t)blocks->count + 1) * sizeof *pieces);
-    const struct type *type = type_at(of);
+    struct type *type = type_at(of);
     if (!pieces) return MPI_ERR_NO_MEM;
     for (int k = 0; k < blocks->count && code == MPI_SUCCESS; k++) {
-        ptrdiff_t at = blocks->at ? blocks->at[k] : blocks->displs ? blocks->displs[k] * extent_of(type) : k * blocks->stride;
-        pieces[k] = (struct piece){blocks->lengths ? blocks->lengths[k] : blocks->length, at, type};
-        if (pieces[k].count < 0) code = MPI_ERR_ARG;
+        int length = blocks->lengths ? blocks->lengths[k] : blocks->length;
+        ptrdiff_t at = blocks->at ? blocks->at[k] : 0;
+        bool is_over = !blocks->at && __builtin_mul_overflow(blocks->displs[k], extent_of(type), &at);
+        pieces[k] = (struct piece){(size_t)length, at, extent_of(type), type};
+        if (length < 0 || is_over) code = MPI_ERR_ARG;
     }
-    if (code == MPI_SUCCESS) code = add_type(join(pieces, blocks->count), made);
+    if (code == MPI_SUCCESS) code = make(pieces, (size_t)blocks->count, made);
     free(pieces);
+    return code;
+}
+
+/* As many blocks of one length, `stride` bytes from one to the next. */
+static int vector(int count, int length, ptrdiff_t stride, MPI_Datatype of, MPI_Datatype *made) {
+    struct type *row, *type = type_at(of);
+    int code = check(count, of, made);
+    if (code == MPI_SUCCESS && length < 0) code = MPI_ERR_ARG;
+    if (code == MPI_SUCCESS) code = join(&(struct piece){(size_t)length, 0, extent_of(type), type}, 1, &row);
+    if (code != MPI_SUCCESS) return code;
+    code = make(&(struct piece){length ? (size_t)count : 0, 0, stride, row}, 1, made);
+    free_type(row);
     return code;
 }
 
 int MPI_Type_vector(int count, int length, int stride, MPI_Datatype type, MPI_Datatype *made) {
     ENTER_LOOK(0, MPI_UNDEFINED, MPI_UNDEFINED);
-    const struct type *of = type_at(type);
-    struct blocks blocks = {.count = count, .length = length, .stride = of ? stride * extent_of(of) : 0};
+    ptrdiff_t bytes = 0;
+    if (type_at(type) && __builtin_mul_overflow(stride, extent_of(type_at(type)), &bytes)) return fail(0, MPI_ERR_ARG);
     struct arguments arguments = {MPI_COMBINER_VECTOR, {{1, &count}, {1, &length}, {1, &stride}}, 0, 0, 1, &type};
-    return fail(0, describe(make_blocks(&blocks, type, made), made, &arguments));
+    return fail(0, describe(vector(count, length, bytes, type, made), made, &arguments));
 }
 
 int MPI_Type_create_hvector(int count, int length, MPI_Aint stride, MPI_Datatype type, MPI_Datatype *made) {
     ENTER_LOOK(0, MPI_UNDEFINED, MPI_UNDEFINED);
-    struct blocks blocks = {.count = count, .length = length, .stride = stride};
     struct arguments arguments = {MPI_COMBINER_HVECTOR, {{1, &count}, {1, &length}}, 1, &stride, 1, &type};
-    return fail(0, describe(make_blocks(&blocks, type, made), made, &arguments));
+    return fail(0, describe(vector(count, length, stride, type, made), made, &arguments));
 }
 
 int MPI_Type_indexed(int count, const int lengths[], const int displs[], MPI_Datatype type, MPI_Datatype *made) {
@@ -184,14 +128,11 @@ int MPI_Type_create_hindexed_block(int count, int length, const MPI_Aint displs[
 }
 
 /* The upper bound of a structure is rounded up, so that the next one is aligned as C has it (5.1.6). */
-static void align(struct type *type) {
-    ptrdiff_t most = 1, extent = extent_of(type);
-    for (size_t k = 0; k < type->blocks; k++) {
-        ptrdiff_t alignment = (ptrdiff_t)type->block[k].alignment;
-        if (alignment > most && alignment <= (ptrdiff_t)_Alignof(max_align_t)) most = alignment;
-    }
-    if (!type->has_upper && extent % most) type->upper += most - extent % most;
-    type->is_plain = is_plain(type);
+static int align(struct type *type) {
+    ptrdiff_t most = type->alignment && type->alignment <= _Alignof(max_align_t) ? (ptrdiff_t)type->alignment : 1, rest = extent_of(type) % most;
+    ptrdiff_t upper = type->upper;
+    if (!type->has_upper && rest && __builtin_add_overflow(upper, most - rest, &upper)) return MPI_ERR_ARG;
+    return set_bounds(type, type->lower, upper);
 }
 
 int MPI_Type_create_struct(int count, const int lengths[], const MPI_Aint displs[], const MPI_Datatype types[], MPI_Datatype *made) {
@@ -201,14 +142,17 @@ int MPI_Type_create_struct(int count, const int lengths[], const MPI_Aint displs
     struct piece *pieces = malloc(((size_t)count + 1) * sizeof *pieces);
     int code = pieces ? MPI_SUCCESS : MPI_ERR_NO_MEM;
     for (int k = 0; k < count && code == MPI_SUCCESS; k++) {
-        pieces[k] = (struct piece){lengths[k], displs[k], type_at(types[k])};
-        if (!pieces[k].type) code = MPI_ERR_TYPE;
+        struct type *of = type_at(types[k]);
+        pieces[k] = (struct piece){(size_t)lengths[k], displs[k], of ? extent_of(of) : 0, of};
+        if (!of) code = MPI_ERR_TYPE;
         else if (lengths[k] < 0) code = MPI_ERR_ARG;
     }
-    struct type *type = code == MPI_SUCCESS ? join(pieces, count) : 0;
-    if (type) align(type);
+    struct type *type = 0;
     MPI_Datatype handle = MPI_DATATYPE_NULL;   /* `made` may be one of `types` */
+    if (code == MPI_SUCCESS) code = join(pieces, (size_t)count, &type);
+    if (code == MPI_SUCCESS) code = align(type);
     if (code == MPI_SUCCESS) code = add_type(type, &handle);
+    else if (type) free_type(type);
     free(pieces);
     struct arguments arguments = {MPI_COMBINER_STRUCT, {{1, &count}, {count, lengths}}, count, displs, count, types};
     code = describe(code, &handle, &arguments);
@@ -216,58 +160,17 @@ int MPI_Type_create_struct(int count, const int lengths[], const MPI_Aint displs
     return fail(0, code);
 }
 
-/* Another lower bound and extent of the same data. */
-static struct type *resize(const struct type *of, ptrdiff_t lower, ptrdiff_t extent) {
-    struct piece piece = {1, 0, of};
-    struct type *type = join(&piece, 1);
-    if (!type) return 0;
-    type->lower = lower;
-    type->upper = lower + extent;
-    type->has_lower = type->has_upper = true;
-    type->is_plain = is_plain(type);
-    return type;
-}
-
 int MPI_Type_create_resized(MPI_Datatype type, MPI_Aint lower, MPI_Aint extent, MPI_Datatype *made) {
     ENTER_LOOK(0, MPI_UNDEFINED, MPI_UNDEFINED);
     struct arguments arguments = {.combiner = MPI_COMBINER_RESIZED, .addresses = 2, .address = (MPI_Aint[]){lower, extent}, .types = 1, .type = &type};
+    struct type *sized;
     int code = check(0, type, made);
-    if (code == MPI_SUCCESS) code = add_type(resize(type_at(type), lower, extent), made);
+    if (code == MPI_SUCCESS) code = resize(type_at(type), lower, extent, &sized);
+    if (code == MPI_SUCCESS) code = add_type(sized, made);
     return fail(0, describe(code, made, &arguments));
 }
 
-/* A part of an array, of which each dimension has its size, the size of the part, and where it starts; the first dimension varies the slowest,
-   or with MPI_ORDER_FORTRAN the fastest (5.1.3). */
-static struct type *subarray(int dims, const int whole[], const int part[], const int starts[], bool is_fortran, const struct type *of) {
-    struct piece piece = {1, 0, of};
-    struct type *type = join(&piece, 1);
-    ptrdiff_t stride = extent_of(of), first = 0;
-    for (int k = 0; k < dims && type; k++) {
-        int at = is_fortran ? k : dims - 1 - k;
-        struct piece *pieces = malloc((size_t)part[at] * sizeof *pieces);
-        for (int j = 0; pieces && j < part[at]; j++) pieces[j] = (struct piece){1, j * stride, type};
-        struct type *row = pieces ? join(pieces, part[at]) : 0;
-        free(pieces);
-        free_type(type);
-        type = row;
-        first += starts[at] * stride;
-        stride *= whole[at];
-    }
-    if (!type) return 0;
-    for (size_t b = 0; b < type->blocks; b++) type->block[b].at += first;
-    struct type *sized = resize(type, 0, stride);
-    free_type(type);
-    return sized;
-}
-
-int MPI_Type_create_subarray(int dims, const int sizes[], const int subsizes[], const int starts[], int order, MPI_Datatype type, MPI_Datatype *made) {
-    ENTER_LOOK(0, MPI_UNDEFINED, MPI_UNDEFINED);
-    int code = check(0, type, made);
-    if (code != MPI_SUCCESS) return fail(0, code);
-    if (dims < 1 || !sizes || !subsizes || !starts || (order != MPI_ORDER_C && order != MPI_ORDER_FORTRAN)) return fail(0, MPI_ERR_ARG);
-    for (int k = 0; k < dims; k++)
-        if (sizes[k] < 1 || subsizes[k] < 1 || subsizes[k] > sizes[k] || starts[k] < 0 || starts[k] > sizes[k] - subsizes[k]) return fail(0, MPI_ERR_ARG);
-    code = add_type(subarray(dims, sizes, subsizes, starts, order == MPI_ORDER_FORTRAN, type_at(type)), made);
-    struct arguments arguments = {MPI_COMBINER_SUBARRAY, {{1, &dims}, {dims, sizes}, {dims, subsizes}, {dims, starts}, {1, &order}}, 0, 0, 1, &type};
-    return fail(0, describe(code, made, &arguments));
-}
+/* Of MPI-1 (17.1). */
+ALSO(MPI_Type_struct, MPI_Type_create_struct);
+ALSO(MPI_Type_hindexed, MPI_Type_create_hindexed);
+ALSO(MPI_Type_hvector, MPI_Type_create_hvector);

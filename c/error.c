@@ -181,3 +181,8 @@ void clear_handlers(void) {
     me->handlers = 0;
     me->handler_count = 0;
 }
+
+/* Of MPI-1 (17.1). */
+ALSO(MPI_Errhandler_create, MPI_Comm_create_errhandler);
+ALSO(MPI_Errhandler_set, MPI_Comm_set_errhandler);
+ALSO(MPI_Errhandler_get, MPI_Comm_get_errhandler);

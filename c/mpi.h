@@ -121,6 +121,8 @@ int MPI_Type_create_hindexed_block(int count, int length, const MPI_Aint displs[
 int MPI_Type_create_struct(int count, const int lengths[], const MPI_Aint displs[], const MPI_Datatype types[], MPI_Datatype *made);
 int MPI_Type_create_subarray(int dims, const int sizes[], const int subsizes[], const int starts[], int order, MPI_Datatype type,
                              MPI_Datatype *made);
+int MPI_Type_create_darray(int size, int rank, int dims, const int sizes[], const int distribs[], const int dargs[], const int psizes[], int order,
+                           MPI_Datatype type, MPI_Datatype *made);
 int MPI_Type_create_resized(MPI_Datatype type, MPI_Aint lower, MPI_Aint extent, MPI_Datatype *made);
 int MPI_Type_dup(MPI_Datatype type, MPI_Datatype *made);
 int MPI_Type_get_envelope(MPI_Datatype type, int *ints, int *addresses, int *types, int *combiner);
@@ -132,6 +134,9 @@ int MPI_Type_free(MPI_Datatype *type);
 int MPI_Pack(const void *buffer, int count, MPI_Datatype type, void *packed, int room, int *position, MPI_Comm comm);
 int MPI_Unpack(const void *packed, int room, int *position, void *buffer, int count, MPI_Datatype type, MPI_Comm comm);
 int MPI_Pack_size(int count, MPI_Datatype type, MPI_Comm comm, int *size);
+int MPI_Pack_external(const char form[], const void *buffer, int count, MPI_Datatype type, void *packed, MPI_Aint room, MPI_Aint *position);
+int MPI_Unpack_external(const char form[], const void *packed, MPI_Aint room, MPI_Aint *position, void *buffer, int count, MPI_Datatype type);
+int MPI_Pack_external_size(const char form[], int count, MPI_Datatype type, MPI_Aint *size);
 
 /* ---- Communicators and groups (7). MPI_Comm_get_parent gives MPI_COMM_NULL (11.8.2); MPI_Comm_disconnect is MPI_Comm_free (11.10.4). ---- */
 int MPI_Comm_size(MPI_Comm comm, int *size);
@@ -162,28 +167,6 @@ int MPI_Group_excl(MPI_Group group, int count, const int ranks[], MPI_Group *mad
 int MPI_Group_range_incl(MPI_Group group, int count, int ranges[][3], MPI_Group *made);
 int MPI_Group_range_excl(MPI_Group group, int count, int ranges[][3], MPI_Group *made);
 int MPI_Group_free(MPI_Group *group);
-
-/* ---- Attributes of communicators (7.7). The value of one that is there is a pointer to an int (9.1.2). ---- */
-typedef int MPI_Comm_copy_attr_function(MPI_Comm comm, int keyval, void *more, void *in, void *out, int *flag);
-typedef int MPI_Comm_delete_attr_function(MPI_Comm comm, int keyval, void *value, void *more);
-MPI_Comm_copy_attr_function MPI_COMM_NULL_COPY_FN, MPI_COMM_DUP_FN;
-MPI_Comm_delete_attr_function MPI_COMM_NULL_DELETE_FN;
-int MPI_Comm_create_keyval(MPI_Comm_copy_attr_function *copies, MPI_Comm_delete_attr_function *deletes, int *keyval, void *more);
-int MPI_Comm_free_keyval(int *keyval);
-int MPI_Comm_set_attr(MPI_Comm comm, int keyval, void *value);
-int MPI_Comm_get_attr(MPI_Comm comm, int keyval, void *value, int *flag);
-int MPI_Comm_delete_attr(MPI_Comm comm, int keyval);
-
-/* The same by their older names (16.1). */
-typedef MPI_Comm_copy_attr_function MPI_Copy_function;
-typedef MPI_Comm_delete_attr_function MPI_Delete_function;
-MPI_Copy_function MPI_NULL_COPY_FN, MPI_DUP_FN;
-MPI_Delete_function MPI_NULL_DELETE_FN;
-int MPI_Keyval_create(MPI_Copy_function *copies, MPI_Delete_function *deletes, int *keyval, void *more);
-int MPI_Keyval_free(int *keyval);
-int MPI_Attr_put(MPI_Comm comm, int keyval, void *value);
-int MPI_Attr_get(MPI_Comm comm, int keyval, void *value, int *flag);
-int MPI_Attr_delete(MPI_Comm comm, int keyval);
 
 /* ---- Cartesian topologies (8.5). ---- */
 int MPI_Cart_create(MPI_Comm comm, int ndims, const int dims[], const int periods[], int reorder, MPI_Comm *made);
@@ -290,6 +273,9 @@ int MPIX_Comm_get_failed(MPI_Comm comm, MPI_Group *failed);
 int MPIX_Comm_ack_failed(MPI_Comm comm, int count, int *acknowledged);
 int MPIX_Comm_failure_ack(MPI_Comm comm);
 int MPIX_Comm_failure_get_acked(MPI_Comm comm, MPI_Group *failed);
+
+#include "ulfm_mpi_attributes.h"
+#include "ulfm_mpi_older.h"
 
 /* Each of these calls by its other name too, PMPI_Send or PMPIX_Comm_agree (15.2). `make` writes this file. */
 #include "ulfm_mpi_profile.h"

@@ -4,37 +4,66 @@
 #include <stdlib.h>
 #include <string.h>
 
+struct motion {
+    char *packed;
+    size_t left;
+    bool is_out;
+};
+
+/* Moves the bytes of a block, from or to one place after the other. */
+static void move_bytes(struct motion *motion, char *place, const struct block *block) {
+    char *packed = motion->packed;
+    size_t left = motion->left;
+    for (size_t k = 0; k < block->count && left > 0; k++, place += block->stride) {
+        size_t length = block->length < left ? block->length : left;
+        memcpy(motion->is_out ? packed : place, motion->is_out ? place : packed, length);
+        packed += length;
+        left -= length;
+    }
+    motion->packed = packed;
+    motion->left = left;
+}
+
+static void move_type(struct motion *motion, char *place, const struct type *type) {
+    for (size_t b = 0; b < type->blocks && motion->left > 0; b++) {
+        const struct block *block = &type->block[b];
+        if (!block->of) move_bytes(motion, place + block->at, block);
+        else
+            for (size_t k = 0; k < block->count && motion->left > 0; k++)
+                move_type(motion, place + block->at + (ptrdiff_t)k * block->stride, block->of);
+    }
+}
+
 /* Copies the data of so many elements from memory to `packed`, or back: at most `bytes` of them. */
 void move_data(const struct type *type, int count, void *memory, void *packed, size_t bytes, bool is_out) {
-    char *at = memory, *to = packed;
-    for (int k = 0; k < count && bytes > 0; k++, at += extent_of(type))
-        for (size_t b = 0; b < type->blocks && bytes > 0; b++) {
-            const struct block *block = &type->block[b];
-            size_t length = block->length < bytes ? block->length : bytes;
-            memcpy(is_out ? to : at + block->at, is_out ? at + block->at : to, length);
-            to += length;
-            bytes -= length;
-        }
+    struct motion motion = {packed, bytes, is_out};
+    for (int k = 0; k < count && motion.left > 0; k++) move_type(&motion, (char *)memory + k * extent_of(type), type);
+}
+
+struct copying {
+    char *to;
+    const char *from;
+};
+
+static bool copy_run(void *of, ptrdiff_t at, const struct block *block) {
+    const struct copying *copying = of;
+    memcpy(copying->to + at, copying->from + at, block->length);
+    return true;
 }
 
 /* Copies the data of so many elements, and nothing between them, to memory that is laid out alike. */
 void copy_data(const void *from, void *to, int count, MPI_Datatype handle) {
     const struct type *type = type_at(handle);
-    for (int k = 0; k < count; k++)
-        for (size_t b = 0; b < type->blocks; b++) {
-            ptrdiff_t at = k * extent_of(type) + type->block[b].at;
-            memcpy((char *)to + at, (const char *)from + at, type->block[b].length);
-        }
+    struct copying copying = {to, from};
+    for (int k = 0; k < count; k++) each_run(type, k * extent_of(type), copy_run, &copying);
 }
 
 /* The bytes of memory that so many elements reach from their address, all of the last one's extent among them; false where they begin before it. */
 bool reach_of_data(int count, MPI_Datatype handle, size_t *bytes) {
     const struct type *type = type_at(handle);
-    ptrdiff_t least, most;
-    bounds_of_data(type, &least, &most);
-    if (extent_of(type) > most) most = extent_of(type);
+    ptrdiff_t most = extent_of(type) > type->most ? extent_of(type) : type->most;
     *bytes = count > 0 ? (size_t)((count - 1) * extent_of(type) + most) : 0;
-    return least >= 0 && extent_of(type) >= 0;
+    return type->least >= 0 && extent_of(type) >= 0;
 }
 
 bool is_plain_type(MPI_Datatype handle) { return type_at(handle)->is_plain; }

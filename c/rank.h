@@ -144,6 +144,7 @@ struct rank {
     struct errhandler *handlers;
     struct type **types;
     char (*type_names)[MPI_MAX_OBJECT_NAME];  /* that the program gave basic types, or null */
+    struct attribute **basic_attributes;      /* of basic types, or null */
     struct op *ops;
     struct keyval *keyvals;
     struct info **infos;

@@ -157,7 +157,7 @@ void free_start(struct start *start);
 /* attribute.c */
 int copy_attributes(struct comm *from, struct comm *to);
 int delete_attributes(struct comm *comm);
-void free_attributes(struct comm *comm);
+void free_attributes(struct attribute *first);
 void clear_keyvals(void);
 
 /* exchange.c */
@@ -205,6 +205,9 @@ int spread(struct comm *comm, void *bytes, size_t length, int root);
 int check_broadcast(struct comm *comm, const void *buf, int count, MPI_Datatype type, int root, size_t *bytes);
 int spread_verdict(struct comm *comm, int code, void *buffer, size_t length);
 enum { VERDICT = 16 };   /* bytes before a result: what follows is aligned for each type */
+
+/* An older name of a call. A report has the newer one. */
+#define ALSO(name, of) extern __typeof__(of) name __attribute__((alias(#of)))
 
 /* Begins a call that a program makes: `counts` where it begins something or waits. */
 void enter_call(const char *call, const void *from, struct comm *comm, int peer, int tag, bool counts);

@@ -138,6 +138,8 @@ int MPI_Get_address(const void *location, MPI_Aint *address) {
     return MPI_SUCCESS;
 }
 
+ALSO(MPI_Address, MPI_Get_address);
+
 MPI_Aint MPI_Aint_add(MPI_Aint base, MPI_Aint displacement) { return (MPI_Aint)((size_t)base + (size_t)displacement); }
 
 MPI_Aint MPI_Aint_diff(MPI_Aint address, MPI_Aint other) { return (MPI_Aint)((size_t)address - (size_t)other); }

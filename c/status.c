@@ -2,34 +2,34 @@
 #include "type.h"
 #include <limits.h>
 
-/* The basic elements of one of a type. */
-static size_t elements_of(const struct type *type) {
-    size_t each = 0;
-    for (size_t k = 0; k < type->blocks; k++) each += type->block[k].length / type->block[k].element;
-    return each;
-}
+/* The basic elements of one of a block. */
+static size_t elements_of(const struct block *block) { return block->of ? block->of->elements : block->length / block->element; }
 
 /* The bytes of so many basic elements of a type's data. */
 static size_t bytes_of(const struct type *type, size_t elements) {
-    size_t each = elements_of(type), rest = each ? elements % each : 0, bytes = each ? elements / each * type->size : 0;
+    size_t each = type->elements, rest = each ? elements % each : 0, bytes = each ? elements / each * type->size : 0;
     for (size_t k = 0; k < type->blocks && rest > 0; k++) {
         const struct block *block = &type->block[k];
-        size_t here = block->length / block->element, taken = rest < here ? rest : here;
-        bytes += taken * block->element;
-        rest -= taken;
+        size_t here = elements_of(block), taken = here && rest / here < block->count ? rest / here : block->count;
+        bytes += taken * block->length;
+        rest -= taken * here;
+        if (taken == block->count || rest == 0) continue;
+        return bytes + (block->of ? bytes_of(block->of, rest) : rest * block->element);
     }
     return bytes;
 }
 
 /* The basic elements in so many bytes of a type's data, or MPI_UNDEFINED where an element isn't whole. */
 static MPI_Count elements_in(const struct type *type, size_t bytes) {
-    size_t rest = type->size ? bytes % type->size : bytes, elements = type->size ? bytes / type->size * elements_of(type) : 0;
+    size_t rest = type->size ? bytes % type->size : bytes, elements = type->size ? bytes / type->size * type->elements : 0;
     for (size_t k = 0; k < type->blocks && rest > 0; k++) {
         const struct block *block = &type->block[k];
-        size_t part = rest < block->length ? rest : block->length;
-        if (part % block->element) return MPI_UNDEFINED;
-        elements += part / block->element;
-        rest -= part;
+        size_t taken = rest / block->length < block->count ? rest / block->length : block->count;
+        elements += taken * elements_of(block);
+        rest -= taken * block->length;
+        if (taken == block->count || rest == 0) continue;
+        MPI_Count part = block->of ? elements_in(block->of, rest) : rest % block->element ? MPI_UNDEFINED : (MPI_Count)(rest / block->element);
+        return part == MPI_UNDEFINED ? MPI_UNDEFINED : (MPI_Count)elements + part;
     }
     return rest ? MPI_UNDEFINED : (MPI_Count)elements;
 }

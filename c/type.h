@@ -4,11 +4,27 @@
 
 #include "run.h"
 
+/* What an element of a block is in the form "external32" (14.5.2): as long as here, an integer of half the
+   bytes, one without sign, or a number of 16 bytes. */
+enum external { SAME, HALF, UNSIGNED_HALF, QUAD };
+
+/* Bytes at one place or several, each `stride` bytes further than the one before; or another type so. */
 struct block {
     ptrdiff_t at;        /* bytes from the buffer's address */
-    size_t length;       /* bytes */
+    size_t count;
+    ptrdiff_t stride;
+    struct type *of;     /* null: bytes */
+    size_t length;       /* the bytes of one */
     uint32_t element;    /* the bytes of one basic element */
     uint32_t alignment;  /* what C aligns such an element to: of a complex number, less than its bytes */
+    enum external external;
+};
+
+/* So many elements of a type, the first one at a displacement in bytes, the others `stride` bytes further each. */
+struct piece {
+    size_t count;
+    ptrdiff_t at, stride;
+    struct type *type;
 };
 
 struct recipe;
@@ -19,16 +35,22 @@ struct type {
     bool is_plain;          /* its data are its extent: nothing has to be packed */
     bool has_lower, has_upper;  /* bounds that MPI_Type_create_resized set: types made of it have them too (5.1.7) */
     size_t size;            /* bytes of data */
+    size_t elements;        /* basic ones */
+    size_t external;        /* bytes of data in the form "external32" */
     ptrdiff_t lower, upper; /* bounds; the extent is between them */
+    ptrdiff_t least, most;  /* where the data begin and end */
+    uint32_t alignment;     /* the largest one of its elements */
     size_t blocks;
     struct block *block;    /* in the order in which data are sent */
     struct recipe *recipe;  /* how the program made it; null of a basic one */
+    struct attribute *attributes;  /* but of a basic one */
+    MPI_Datatype handle;    /* which it was made with */
     char name[MPI_MAX_OBJECT_NAME];
 };
-enum { BASIC_TYPES = 39 };
+enum { BASIC_TYPES = 41 };
 
 /* The arguments of a call that makes a type, in the order in which MPI_Type_get_contents tells them (5.1.13): lists of ints, addresses, types. */
-enum { INT_LISTS = 5 };
+enum { INT_LISTS = 8 };
 struct arguments {
     int combiner;
     struct {
@@ -50,12 +72,22 @@ int add_type(struct type *type, MPI_Datatype *made);
 void free_type(struct type *type);
 MPI_Datatype handle_of_basic(const struct type *type);
 
+/* typeattribute.c */
+int copy_type_attributes(MPI_Datatype from, MPI_Datatype to);
+int delete_type_attributes(MPI_Datatype handle);
+void clear_basic_attributes(void);
+
 /* describe.c */
 int describe(int code, MPI_Datatype *made, const struct arguments *arguments);
 void free_recipe(struct recipe *recipe);
 
-/* derived.c */
-void bounds_of_data(const struct type *type, ptrdiff_t *least, ptrdiff_t *most);
+/* blocks.c */
+int join(const struct piece *pieces, size_t count, struct type **made);
+int set_bounds(struct type *type, ptrdiff_t lower, ptrdiff_t upper);
+bool each_run(const struct type *type, ptrdiff_t at, bool (*visit)(void *of, ptrdiff_t at, const struct block *block), void *of);
+
+/* array.c */
+int resize(struct type *of, ptrdiff_t lower, ptrdiff_t extent, struct type **made);
 
 /* pack.c */
 void move_data(const struct type *type, int count, void *memory, void *packed, size_t bytes, bool is_out);

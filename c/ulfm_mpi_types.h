@@ -90,6 +90,10 @@ typedef void MPI_User_function(void *, void *, int *, MPI_Datatype *);
 #define MPI_DIST_GRAPH 3
 #define MPI_ORDER_C 0
 #define MPI_ORDER_FORTRAN 1
+#define MPI_DISTRIBUTE_BLOCK 121
+#define MPI_DISTRIBUTE_CYCLIC 122
+#define MPI_DISTRIBUTE_NONE 123
+#define MPI_DISTRIBUTE_DFLT_DARG (-49767)
 #define MPI_THREAD_SINGLE 0
 #define MPI_THREAD_FUNNELED 1
 #define MPI_THREAD_SERIALIZED 2
@@ -217,6 +221,9 @@ typedef void MPI_User_function(void *, void *, int *, MPI_Datatype *);
 #define MPI_C_COMPLEX MPI_C_FLOAT_COMPLEX
 #define MPI_C_DOUBLE_COMPLEX ULFM_MPI_TYPE(37)
 #define MPI_C_LONG_DOUBLE_COMPLEX ULFM_MPI_TYPE(38)
+/* Marks of a bound in MPI_Type_struct (17.1), of MPI-1: MPI_Type_create_resized serves better. */
+#define MPI_LB ULFM_MPI_TYPE(39)
+#define MPI_UB ULFM_MPI_TYPE(40)
 #define MPI_CXX_BOOL MPI_C_BOOL
 #define MPI_CXX_FLOAT_COMPLEX MPI_C_FLOAT_COMPLEX
 #define MPI_CXX_DOUBLE_COMPLEX MPI_C_DOUBLE_COMPLEX
