@@ -65,7 +65,7 @@ def page(command=None):
 
 def commands():
     """All commands, in the order of the program's page."""
-    return re.findall(r"^  ([a-z]+)  +", page().text.partition("\nOptions:")[0], re.M)
+    return re.findall(r"^  ([a-z]+)  +", page().text.partition("\nCommands:\n")[2].partition("\n\n")[0], re.M)
 
 
 def likeness(word, name):
