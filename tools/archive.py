@@ -24,7 +24,7 @@ PAGES = [":(glob)*.md", "docs", "crates/ulfm/data", "c/examples/*.*", ":!*/.giti
 # Where pages stand below the archive's folder. There they have the places that they have here, so that their links lead on.
 DOC = "share/doc/ulfm"
 # Libraries that any Linux with glibc has.
-OF_GLIBC = {"libc.so.6", "libm.so.6", "libpthread.so.0", "libdl.so.2", "ld-linux-x86-64.so.2", "libgcc_s.so.1"}
+OF_GLIBC = {"libc.so.6", "libm.so.6", "libpthread.so.0", "libdl.so.2", "ld-linux-x86-64.so.2"}
 
 
 class CannotPack(Exception):
