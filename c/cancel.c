@@ -18,7 +18,7 @@ int MPI_Request_free(MPI_Request *handle) {
     ENTER_LOOK(0, MPI_UNDEFINED, MPI_UNDEFINED);
     WRITES(0, handle);
     struct request *request = active_at(*handle), *own = request_at(*handle);
-    if (!own || own->kind == COLLECTIVE || own->kind == RECOVERY) return fail(0, MPI_ERR_REQUEST);
+    if (!own || own->kind == COLLECTIVE || own->kind == RECOVERY || (request && request->kind == COLLECTIVE)) return fail(0, MPI_ERR_REQUEST);
     *handle = MPI_REQUEST_NULL;
     if (own->kind == PERSISTENT) free_request(own);
     if (request) give_up(request);

@@ -1,10 +1,8 @@
 /* Cartesian topologies (MPI 4.0, 8.5): a grid of the first ranks of a communicator, the last dimension varies the fastest. Ranks keep their order. */
-#include "run.h"
+#include "graph.h"
 #include <limits.h>
 #include <stdlib.h>
 #include <string.h>
-
-enum { MAX_DIMS = 32 };
 
 struct cart {
     int dims, size[MAX_DIMS], is_periodic[MAX_DIMS];
@@ -142,12 +140,44 @@ int MPI_Cart_sub(MPI_Comm comm, const int remains[], MPI_Comm *made) {
     return fail(of, make_cart(of, &cart, color, of->position, made));
 }
 
+/* The neighbours along each dimension, below and above; MPI_PROC_NULL outside of the grid (8.6). How many. */
+int neighbors_of_cart(const struct comm *comm, int neighbors[]) {
+    const struct cart *cart = comm->cart;
+    int coords[MAX_DIMS];
+    coords_of(cart, comm->position, coords);
+    for (int k = 0; k < 2 * cart->dims; k++) {
+        int step = k % 2 ? 1 : -1;
+        coords[k / 2] += step;
+        int at = rank_at(cart, coords);
+        coords[k / 2] -= step;
+        neighbors[k] = at < 0 ? MPI_PROC_NULL : at;
+    }
+    return 2 * cart->dims;
+}
+
+/* Where a rank would stand: ranks keep their order. */
+int MPI_Cart_map(MPI_Comm comm, int ndims, const int dims[], const int periods[], int *rank) {
+    struct comm *of = comm_at(comm);
+    long long nodes = 1;
+    ENTER_LOOK(of, MPI_UNDEFINED, MPI_UNDEFINED);
+    if (!of) return fail(0, MPI_ERR_COMM);
+    if (!rank || (ndims > 0 && (!dims || !periods))) return fail(of, MPI_ERR_ARG);
+    if (ndims < 0 || ndims > MAX_DIMS) return fail(of, MPI_ERR_DIMS);
+    for (int k = 0; k < ndims && nodes <= of->size; k++) {
+        if (dims[k] <= 0) return fail(of, MPI_ERR_DIMS);
+        nodes *= dims[k];
+    }
+    if (nodes > of->size) return fail(of, MPI_ERR_DIMS);
+    *rank = of->position < nodes ? of->position : MPI_UNDEFINED;
+    return MPI_SUCCESS;
+}
+
 int MPI_Topo_test(MPI_Comm comm, int *status) {
     struct comm *of = comm_at(comm);
     ENTER_LOOK(of, MPI_UNDEFINED, MPI_UNDEFINED);
     if (!of) return fail(0, MPI_ERR_COMM);
     WRITES(of, status);
-    *status = of->cart ? MPI_CART : MPI_UNDEFINED;
+    *status = of->cart ? MPI_CART : of->graph ? of->graph->kind : MPI_UNDEFINED;
     return MPI_SUCCESS;
 }
 

@@ -5,14 +5,17 @@
 #include <stdlib.h>
 #include <string.h>
 
-enum { NUMBERS = 4096 };
+enum { NUMBERS = 4096, SINGLE = 3072 };   /* of each plane, and of them those of collectives that begin once */
 
-static int tag_of(const struct comm *comm) { return comm->plane * NUMBERS + (int)(comm->begun % NUMBERS); }
+static int tag_of(const struct comm *comm) {
+    unsigned number = comm->repeats ? SINGLE + comm->repeats % (NUMBERS - SINGLE) : comm->begun % SINGLE;
+    return comm->plane * NUMBERS + (int)number;
+}
 
 /* Begins a collective, with the next number. One that was shrunk has no hidden context either where it was revoked before it was adopted here. */
 int begin_collective(struct comm *comm) {
     if (!comm) return MPI_ERR_COMM;
-    comm->begun++;
+    if (!comm->repeats) comm->begun++;
     progress();
     if (is_revoked(comm)) return MPIX_ERR_REVOKED;
     return comm->size > 1 && comm->hidden == NO_CONTEXT_LEFT ? NO_COLLECTIVES : MPI_SUCCESS;
@@ -20,7 +23,7 @@ int begin_collective(struct comm *comm) {
 
 /* A collective whose arguments are wrong here has its number too: the next one then meets those of the others. */
 int refuse_collective(struct comm *comm, int code) {
-    if (comm) comm->begun++;
+    if (comm && !comm->repeats) comm->begun++;
     return code;
 }
 

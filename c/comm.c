@@ -1,5 +1,5 @@
 /* Communicators (MPI 4.0, 7.4). Each has a context of the engine for its messages. */
-#include "run.h"
+#include "graph.h"
 #include <stdlib.h>
 #include <string.h>
 
@@ -104,6 +104,7 @@ bool make_world(void) {
 void free_comm(struct comm *comm) {
     if (--comm->chain->users == 0) free(comm->chain);
     free(comm->cart);
+    free_graph(comm->graph);
     free_attributes(comm->attributes);
     free(comm);
 }

@@ -2,7 +2,7 @@
    chain: its first context, the duplicate of that, which all of them share for their collectives, the duplicate of the duplicate, and so on. A plane is
    a communicator's place in the chain. The members agree on it, so that those that missed one that others made, since a failure met it, agree with
    them again; and a plane that all of them freed is used again. */
-#include "run.h"
+#include "graph.h"
 #include <stdlib.h>
 #include <string.h>
 
@@ -164,7 +164,8 @@ static int duplicate(struct comm *of, MPI_Comm *made) {
     if (code == MPI_SUCCESS) code = make_another(of, made);
     if (code != MPI_SUCCESS) return code;
     comm_at(*made)->cart = copy_cart(of->cart);
-    code = copy_attributes(of, comm_at(*made));
+    code = copy_graph(of, comm_at(*made));
+    if (code == MPI_SUCCESS) code = copy_attributes(of, comm_at(*made));
     /* A copy function failed: there is no duplicate here (7.7.2). */
     if (code != MPI_SUCCESS) (void)release(comm_at(*made), made);
     if (code != MPI_SUCCESS) *made = MPI_COMM_NULL;

@@ -168,17 +168,6 @@ int MPI_Group_range_incl(MPI_Group group, int count, int ranges[][3], MPI_Group 
 int MPI_Group_range_excl(MPI_Group group, int count, int ranges[][3], MPI_Group *made);
 int MPI_Group_free(MPI_Group *group);
 
-/* ---- Cartesian topologies (8.5). ---- */
-int MPI_Cart_create(MPI_Comm comm, int ndims, const int dims[], const int periods[], int reorder, MPI_Comm *made);
-int MPI_Cart_get(MPI_Comm comm, int maxdims, int dims[], int periods[], int coords[]);
-int MPI_Cartdim_get(MPI_Comm comm, int *ndims);
-int MPI_Cart_rank(MPI_Comm comm, const int coords[], int *rank);
-int MPI_Cart_coords(MPI_Comm comm, int rank, int maxdims, int coords[]);
-int MPI_Cart_shift(MPI_Comm comm, int direction, int displacement, int *source, int *dest);
-int MPI_Cart_sub(MPI_Comm comm, const int remains[], MPI_Comm *made);
-int MPI_Dims_create(int nodes, int ndims, int dims[]);
-int MPI_Topo_test(MPI_Comm comm, int *status);
-
 /* ---- Collectives (6). ---- */
 int MPI_Barrier(MPI_Comm comm);
 int MPI_Bcast(void *buf, int count, MPI_Datatype type, int root, MPI_Comm comm);
@@ -276,6 +265,8 @@ int MPIX_Comm_failure_get_acked(MPI_Comm comm, MPI_Group *failed);
 
 #include "ulfm_mpi_attributes.h"
 #include "ulfm_mpi_older.h"
+#include "ulfm_mpi_repeated.h"
+#include "ulfm_mpi_topologies.h"
 
 /* Each of these calls by its other name too, PMPI_Send or PMPIX_Comm_agree (15.2). `make` writes this file. */
 #include "ulfm_mpi_profile.h"

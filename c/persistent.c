@@ -1,6 +1,6 @@
 /* Persistent requests (MPI 4.0, 3.9): the arguments of a send or a receive, which is started as often as wanted. Its handle stays when what it
    started is over. */
-#include "run.h"
+#include "repeated.h"
 #include <stdlib.h>
 
 struct start {
@@ -68,6 +68,7 @@ static int start(MPI_Request handle) {
     if (!request || request->kind != PERSISTENT || request->active) return fail(0, MPI_ERR_REQUEST);
     const struct start *of = request->start;
     int code;
+    if (request->repeated) return start_repeated(request->repeated, request->comm, &request->active);
     if (of->is_receive) code = begin_receive(of->buf, of->count, of->type, request->peer, request->tag, request->comm, &request->active);
     else code = begin_send(of->buf, of->count, of->type, request->peer, request->tag, request->comm, of->waits, &request->active);
     return fail(request->comm, code);

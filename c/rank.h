@@ -44,6 +44,7 @@ struct comm {
     struct chain *chain;
     int plane;             /* its number in the chain, in the tags of its collectives */
     unsigned begun;        /* how many collectives began */
+    unsigned repeats;      /* the number of the persistent one that is started now, or 0 */
     int size, position;
     uint8_t members[MAX_RANKS];  /* world ranks */
     uint8_t place[MAX_RANKS];    /* where each member stands in the context's group */
@@ -54,6 +55,7 @@ struct comm {
     uint32_t acknowledged;       /* how many failures are */
     char name[MPI_MAX_OBJECT_NAME];
     struct cart *cart;           /* its topology, or null */
+    struct graph *graph;         /* so too */
     struct attribute *attributes;   /* the last one that was set first */
 };
 
@@ -95,6 +97,7 @@ struct parcel {
 enum kind { SENT, SYNCHRONOUS, RECEIVE, EXCHANGE, COLLECTIVE, RECOVERY, PERSISTENT, NOTHING };
 
 struct landing;
+struct repeated;
 struct start;
 struct reduction;
 
@@ -109,6 +112,7 @@ struct request {
     uint64_t id;            /* the engine's number of the receive */
     struct parcel *parcel;  /* of a synchronous send */
     struct start *start;     /* of a persistent request: what it starts */
+    struct repeated *repeated;   /* of a persistent collective: its arguments */
     struct request *active;  /* of a persistent request: what it started, until its end is told */
     struct landing *landing; /* of a receive whose data aren't in one piece */
     bool over, freed;       /* its status is known; the program freed it */
@@ -160,6 +164,7 @@ struct rank {
     _Atomic int self_revoked;
     _Atomic bool has_begun, has_finalized, has_stopped;
     bool is_planned;          /* it stopped by plan */
+    bool is_starting;         /* MPI_Start makes a call of its own */
     int provided;             /* the level of threads that it was given */
     struct place place;
     int recoveries;           /* requests of shrinks and agreements */

@@ -1,5 +1,5 @@
 /* Requests: what was begun and isn't over, and what is over and wasn't told. */
-#include "run.h"
+#include "repeated.h"
 #include <stddef.h>
 #include <stdlib.h>
 #include <string.h>
@@ -60,6 +60,7 @@ void free_request(struct request *request) {
     if (request->parcel) let_go(request->parcel);
     free_landing(request->landing);
     free_start(request->start);
+    free_repeated(request->repeated);
     free_reduction(request->reduction);
     if (request->kind == RECOVERY) me->recoveries--;
     free(request->more);
@@ -211,6 +212,7 @@ void clear_requests(void) {
         if (request && request->parcel) let_go(request->parcel);
         if (request) free_landing(request->landing);
         if (request) free_start(request->start);
+        if (request) free_repeated(request->repeated);
         if (request) free_reduction(request->reduction);
         if (request) free(request->more);
         free(request);

@@ -16,6 +16,7 @@ void enter_call(const char *call, const void *from, struct comm *comm, int peer,
     if (!me) refuse(call, "was called outside of a rank's first thread");
     if (!me->has_begun) refuse(call, "was called before MPI_Init");
     if (me->has_finalized) refuse(call, "was called after MPI_Finalize");
+    if (me->is_starting) return;
     me->place = (struct place){.call = call, .from = from, .comm = comm, .peer = peer, .tag = tag};
     if (counts) plan_call();
 }
