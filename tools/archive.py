@@ -74,7 +74,8 @@ class Archive:
         self.commit = commit()
         self.time = int(of_clone("log", "-1", "--format=%ct"))
         self.date = of_clone("log", "-1", "--format=%cs")
-        self.name = f"ulfm-{self.said.split()[1]}-{self.commit}-x86_64-linux"
+        self.version = self.said.split()[1]
+        self.name = f"ulfm-{self.version}-{self.commit}-x86_64-linux"
         self.folder = room / self.name
         self.folder.mkdir()
 
@@ -93,10 +94,8 @@ class Archive:
 
     def filled(self, form):
         """A text of tools/archive with what this archive is."""
-        text = (FORMS / form).read_text()
-        for word, value in (("@SAID@", self.said), ("@COMMIT@", self.commit), ("@NAME@", self.name), ("@GLIBC@", self.glibc())):
-            text = text.replace(word, value)
-        return text
+        words = {"SAID": self.said, "VERSION": self.version, "COMMIT": self.commit, "NAME": self.name, "GLIBC": self.glibc()}
+        return re.sub("@([A-Z]+)@", lambda it: words[it[1]], (FORMS / form).read_text())
 
     def binaries(self):
         """The programs and the shared libraries."""
@@ -117,7 +116,7 @@ class Archive:
             raise CannotPack(f"the layer for C can't be made:\n{made.stdout}")
         for library in LIBRARIES:
             self.copy(library, f"lib/{library.name}")
-        self.copy(FORMS / "ulfm.pc", "lib/pkgconfig/ulfm.pc")
+        self.put(self.filled("ulfm.pc"), "lib/pkgconfig/ulfm.pc")
         # (the clone's path stands in what debuggers read, and the build's sum is over that too)
         subprocess.run(["strip", "--strip-debug", "--remove-section=.note.gnu.build-id", *self.binaries()], check=True)
         strangers = set(re.findall(r"\(NEEDED\).*\[(.*)\]", "".join(written("readelf", "-d", "--wide", it) for it in self.binaries())))
@@ -141,7 +140,7 @@ class Archive:
     def lay_words(self):
         """Man pages, and what completes words: made of what the programs say of themselves."""
         said = [helps.of_program(PROGRAM, "ulfm"), (helps.read("ulfm-mpirun", helps.written(self.folder / "bin/ulfm-mpirun", "--help")), [])]
-        source = " ".join(self.said.split()[:2])
+        source = f"ulfm {self.version}"
         for top, commands in said:
             self.put(manual.of_help(top, commands, source, self.date), f"share/man/man1/{top.name}.1")
             for place, made in completions.SHELLS.items():
