@@ -41,7 +41,7 @@ def of_clone(*words):
     try:
         return written("git", "-C", ROOT, *words).strip()
     except (OSError, subprocess.CalledProcessError) as fault:
-        raise CannotPack(f"this is no clone, so it has no commit: {fault}") from fault
+        raise CannotPack("git finds no clone here, and an archive is of a commit") from fault
 
 
 def commit():
@@ -53,11 +53,16 @@ def is_built(crate, *program):
     return subprocess.run([ROOT / "tools/is-built", crate, *program], check=False).returncode == 0
 
 
-def look_for_what_is_wanted():
-    """Says which tool isn't there, and what isn't built, or is older than its files, and which command builds it."""
+def look_for_tools():
+    """Says which tool isn't there, or that this is no clone."""
     missing = [tool for tool in TOOLS if not shutil.which(tool)]
     if missing:
-        raise CannotPack(f"{', '.join(missing)}: not there")
+        raise CannotPack(f"not there: {', '.join(missing)}")
+    commit()
+
+
+def look_for_what_is_built():
+    """Says what isn't built, or is older than its files, and which command builds it."""
     if not is_built("ulfm"):
         raise CannotPack("the program isn't built of what stands here: ./ulfm build")
     sources = [ENGINE, ROOT / "c/ulfm.c", ROOT / "c/ulfm.h", ROOT / "c/exports.h"]
@@ -177,7 +182,8 @@ class Archive:
 
 def make(room, to):
     """Lays the archive out in a folder, and packs it into another. Returns it, and its file."""
-    look_for_what_is_wanted()
+    look_for_tools()
+    look_for_what_is_built()
     archive = Archive(room)
     archive.lay_programs()
     archive.lay_pages()
