@@ -180,31 +180,3 @@ int MPI_Topo_test(MPI_Comm comm, int *status) {
     *status = of->cart ? MPI_CART : of->graph ? of->graph->kind : MPI_UNDEFINED;
     return MPI_SUCCESS;
 }
-
-/* Divides nodes among the dimensions that are 0, each at most as large as the one before: the largest one as small as can be, then the next one. */
-static bool divide(int nodes, int most, int count, int *parts) {
-    if (count == 0) return nodes == 1;
-    for (int part = 1; part <= most && part <= nodes; part++) {
-        if (nodes % part) continue;
-        parts[0] = part;
-        if (divide(nodes / part, part, count - 1, parts + 1)) return true;
-    }
-    return false;
-}
-
-int MPI_Dims_create(int nodes, int ndims, int dims[]) {
-    ENTER_LOOK(0, MPI_UNDEFINED, MPI_UNDEFINED);
-    int fixed = 1, count = 0, parts[MAX_DIMS], next = 0;
-    if (ndims < 0 || ndims > MAX_DIMS) return fail(0, MPI_ERR_DIMS);
-    if (nodes <= 0 || (ndims && !dims)) return fail(0, MPI_ERR_ARG);
-    for (int k = 0; k < ndims; k++) {
-        if (dims[k] < 0) return fail(0, MPI_ERR_DIMS);
-        if (dims[k] > 0) fixed *= dims[k];
-        count += dims[k] == 0;
-    }
-    if (fixed == 0 || nodes % fixed || (count == 0 && nodes != fixed)) return fail(0, MPI_ERR_DIMS);
-    if (!divide(nodes / fixed, nodes, count, parts)) return fail(0, MPI_ERR_DIMS);
-    for (int k = 0; k < ndims; k++)
-        if (dims[k] == 0) dims[k] = parts[next++];
-    return MPI_SUCCESS;
-}

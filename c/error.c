@@ -113,6 +113,7 @@ static bool is_handler(MPI_Errhandler handler) {
 static void end_by(struct comm *comm, int code) {
     const char *call = me->place.call;
     char line[256];
+    begin_report();
     fprintf(stderr, "ulfm-mpirun: rank %d: %s%s: %s; errors are fatal on %s: the run ends\n", me->number, call,
             line_of(me, line, sizeof line), text_of(code), comm->name[0] ? comm->name : "this communicator");
     write_rests(true);

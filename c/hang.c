@@ -1,30 +1,9 @@
-/* What is told where a run can't go on: what each rank waits for, and by `addr2line` where in the program. */
+/* What is told where a run can't go on: what each rank waits for, and where in the program. */
 #define _GNU_SOURCE
 #include "run.h"
-#include <dlfcn.h>
 #include <stdlib.h>
 #include <string.h>
 #include <unistd.h>
-
-/* " at FILE:LINE" of the program that made the rank's call, or "" where that isn't known. */
-char *line_of(const struct rank *rank, char *text, size_t room) {
-    char *command, *file, line[256] = "";
-    Dl_info info;
-    *text = 0;
-    if (!rank->place.from || !dladdr(rank->place.from, &info) || !(file = quoted(info.dli_fname))) return text;
-    size_t offset = (size_t)((const char *)rank->place.from - (const char *)info.dli_fbase);
-    int length = asprintf(&command, "addr2line -s -e %s 0x%zx 2>/dev/null", file, offset - 1);
-    free(file);
-    if (length < 0) return text;
-    FILE *said = popen(command, "r");
-    free(command);
-    if (!said) return text;
-    if (!fgets(line, sizeof line, said)) *line = 0;
-    pclose(said);
-    line[strcspn(line, " \n")] = 0;
-    if (*line && *line != '?' && !strstr(line, ":?") && !strstr(line, ":0")) snprintf(text, room, " at %s", line);
-    return text;
-}
 
 static const char *name_of(const struct comm *comm, char *name, size_t room) {
     if (!comm) return "";
@@ -86,10 +65,15 @@ void tell_places(void) {
     for (int k = 0; k < options.ranks; k++) tell_place(&ranks[k]);
 }
 
-/* Nobody can move: says so, and ends the run. */
-void tell_stuck(void) {
+/* What ends the run is told once: who comes second waits for that end. */
+void begin_report(void) {
     static pthread_mutex_t lock = PTHREAD_MUTEX_INITIALIZER;
     pthread_mutex_lock(&lock);
+}
+
+/* Nobody can move: says so, and ends the run. */
+void tell_stuck(void) {
+    begin_report();
     fprintf(stderr, "ulfm-mpirun: nobody can move any more:\n");
     tell_places();
     write_rests(true);

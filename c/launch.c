@@ -41,57 +41,6 @@ void report(const char *format, ...) {
     pthread_mutex_unlock(&lock);
 }
 
-volatile sig_atomic_t is_crashed;
-
-/* Ends a process that a rank forked as if it had no handler. */
-static void end_child(int number) {
-    signal(number, SIG_DFL);
-    raise(number);
-}
-
-static const char *words_of_signal(int number) {
-    return number == SIGSEGV ? "segmentation fault" : number == SIGABRT ? "aborted by the C library" : "see signal(7)";
-}
-
-/* A rank crashed: the process can't go on. */
-static void crashed(int number) {
-    char line[200];
-    if (!is_launcher()) end_child(number);
-    const char *call = me && me->place.call ? me->place.call : "its start";
-    int length = snprintf(line, sizeof line, "ulfm-mpirun: rank %d crashed by signal %d (%s), in or after %s (call %d)\n", me ? me->number : -1,
-                          number, words_of_signal(number), call, me ? me->calls : 0);
-    if (write(2, line, (size_t)length) < 0) length = 0;
-    report("crash %d %d\n", me ? me->number : -1, number);
-    if (!is_crashed) {
-        is_crashed = 1;
-        write_rests(false);
-    }
-    remove_copies();
-    signal(number, SIG_DFL);
-    end_run(128 + number);
-}
-
-/* The run is ended from outside. */
-static void ended(int number) {
-    if (!is_launcher()) end_child(number);
-    end_run(128 + number);
-}
-
-static void handle(int number, void (*handler)(int)) {
-    struct sigaction old, action = {.sa_handler = handler, .sa_flags = SA_ONSTACK | SA_NODEFER};
-    if (sigaction(number, 0, &old) == 0 && !(old.sa_flags & SA_SIGINFO) && old.sa_handler == SIG_DFL) sigaction(number, &action, 0);
-}
-
-static void handle_signals(void) {
-    static const int crashes[] = {SIGSEGV, SIGBUS, SIGFPE, SIGILL, SIGABRT};
-    static const int ends[] = {SIGINT, SIGTERM, SIGHUP, SIGQUIT, SIGPIPE, SIGALRM, SIGUSR1, SIGUSR2, SIGVTALRM, SIGPROF, SIGXCPU, SIGXFSZ};
-    for (size_t k = 0; k < sizeof crashes / sizeof *crashes; k++) handle(crashes[k], crashed);
-    for (size_t k = 0; k < sizeof ends / sizeof *ends; k++) handle(ends[k], ended);
-}
-
-/* Whether a signal's handler is the launcher's, and not the program's. */
-bool is_own_handler(void (*handler)(int)) { return handler == crashed || handler == ended; }
-
 static void clear_rank(void) {
     clear_requests();
     clear_messages();
@@ -106,11 +55,21 @@ static void clear_rank(void) {
     me->attached = 0;
 }
 
+static void find_stack(struct rank *rank) {
+    pthread_attr_t attributes;
+    void *at;
+    size_t size;
+    if (pthread_getattr_np(pthread_self(), &attributes)) return;
+    if (pthread_attr_getstack(&attributes, &at, &size) == 0) rank->stack = at;
+    pthread_attr_destroy(&attributes);
+}
+
 static void *run_rank(void *of) {
-    static __thread char room[16384];
+    static __thread char room[65536];   /* where a crash is told */
     stack_t stack = {.ss_sp = room, .ss_size = sizeof room}, old;
     if (sigaltstack(0, &old) == 0 && old.ss_flags & SS_DISABLE) sigaltstack(&stack, 0);   /* AddressSanitizer has one of its own */
     me = of;
+    find_stack(me);
     if (setjmp(me->bottom) == 0) {
         int status = run_program(me);
         say_farewells();
@@ -171,6 +130,7 @@ static void wait_for_ends(void) {
     pthread_mutex_lock(&end_lock);
     while (ended_count < options.ranks)
         if (pthread_cond_timedwait(&end_came, &end_lock, &until) == ETIMEDOUT) {
+            begin_report();
             fprintf(stderr, "ulfm-mpirun: the time is over after %g seconds:\n", options.timeout);
             tell_places();
             write_rests(true);

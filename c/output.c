@@ -48,7 +48,7 @@ static bool add(struct rank *rank, char byte) {
 
 static ssize_t take(void *of, const char *bytes, size_t length) {
     struct rank *rank = of;
-    for (size_t k = 0; k < length; k++) {
+    for (size_t k = 0; k < length && !rank->has_closed; k++) {
         if (!add(rank, bytes[k])) return 0;
         if (bytes[k] == '\n') hand_on(rank);
     }
@@ -120,6 +120,15 @@ int fflush(FILE *file) {
         write_rest(me);
         funlockfile(me->out);
     }
+    return code;
+}
+
+/* The rank's own stream ends, and not that of the others. */
+int fclose(FILE *file) {
+    REAL(fclose);
+    if (!me || !me->out || file != stdout) return real_fclose(file);
+    int code = fflush(stdout);
+    me->has_closed = true;
     return code;
 }
 

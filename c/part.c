@@ -54,6 +54,15 @@ int MPI_Comm_split_type(MPI_Comm comm, int type, int key, MPI_Info info, MPI_Com
 
 static bool is_member(const struct group *group) { return position_in(group, me->number) != MPI_UNDEFINED; }
 
+/* Whether each member of a group is one of the communicator's. */
+static bool is_within(const struct group *group, const struct comm *of) {
+    struct group all;
+    group_of(of, &all);
+    for (int k = 0; k < group->size; k++)
+        if (position_in(&all, group->members[k]) == MPI_UNDEFINED) return false;
+    return true;
+}
+
 int MPI_Comm_create(MPI_Comm comm, MPI_Group group, MPI_Comm *made) {
     struct comm *of = comm_at(comm);
     const struct group *members = group_at(group);
@@ -62,7 +71,7 @@ int MPI_Comm_create(MPI_Comm comm, MPI_Group group, MPI_Comm *made) {
     ENTER(of, MPI_UNDEFINED, MPI_UNDEFINED);
     if (!of) return fail(0, MPI_ERR_COMM);
     WRITES(of, made);
-    if (!members) return fail(of, MPI_ERR_GROUP);
+    if (!members || !is_within(members, of)) return fail(of, refuse_collective(of, MPI_ERR_GROUP));
     *made = MPI_COMM_NULL;
     int code = begin_collective(of);
     if (code == MPI_SUCCESS) code = agree_on_plane(of, &plane, &plans);
@@ -79,7 +88,7 @@ int MPI_Comm_create_group(MPI_Comm comm, MPI_Group group, int tag, MPI_Comm *mad
     ENTER(of, MPI_UNDEFINED, tag);
     if (!of) return fail(0, MPI_ERR_COMM);
     WRITES(of, made);
-    if (!members) return fail(of, MPI_ERR_GROUP);
+    if (!members || !is_within(members, of)) return fail(of, MPI_ERR_GROUP);
     *made = MPI_COMM_NULL;
     if (tag < 0 || tag > MPI_TAG_UB_VALUE) return fail(of, MPI_ERR_TAG);
     if (!is_member(members)) return MPI_SUCCESS;

@@ -20,7 +20,7 @@ static struct {
     _Alignas(LINE) _Atomic int sleepers;
     _Atomic uint32_t wakes;   /* how often they were woken */
 } beds;
-static int processors;
+static _Atomic int processors;
 
 static void wake(void) {
     if (atomic_load(&beds.sleepers) == 0) return;

@@ -140,6 +140,7 @@ struct rank {
     _Alignas(128) int number;  /* no rank writes to another one's cache lines but where it has to */
     ulfm_slot *slot, home;     /* slot: home */
     pthread_t thread;
+    char *stack;              /* its lowest byte */
     jmp_buf bottom;
     struct comm **comms, **old_comms;  /* those that the program freed too */
     struct group **groups;
@@ -174,6 +175,7 @@ struct rank {
     int status;               /* of main */
     uint64_t random;
     FILE *out;
+    bool has_closed;          /* the program closed its standard output */
     char *line;
     size_t line_length, line_room;
     void *program;

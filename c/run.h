@@ -6,6 +6,8 @@
 
 extern struct rank ranks[MAX_RANKS];
 extern __thread struct rank *me __attribute__((tls_model("initial-exec")));
+/* Of a further thread of a rank: whose it is. */
+extern __thread struct rank *owner __attribute__((tls_model("initial-exec")));
 
 /* alone.c */
 bool begin_alone(void);
@@ -24,7 +26,8 @@ int run_program(struct rank *rank);
 int every_stop(const char *launcher);
 int ulfm_mpirun(int count, char **words);
 void end_run(int status) __attribute__((noreturn));
-bool is_own_handler(void (*handler)(int));
+void handle_signals(void);
+bool is_own_handler(const struct sigaction *action);
 void report(const char *format, ...) __attribute__((format(printf, 1, 2)));
 
 /* output.c */
@@ -48,8 +51,10 @@ void marked(void);
 void wait_until(bool (*is_done)(void *, bool is_settled), void *of, bool is_dear);
 bool all_are_gone(void *unused, bool is_settled);
 
-/* hang.c */
+/* line.c, hang.c */
+char *line_before(const void *at, char *text, size_t room);
 char *line_of(const struct rank *rank, char *text, size_t room);
+void begin_report(void);
 void tell_places(void);
 void tell_stuck(void);
 

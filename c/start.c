@@ -8,7 +8,10 @@
 
 /* Says why a call can't be, where there is no communicator that could, and ends the run. */
 static void refuse(const char *call, const char *why) {
-    fprintf(stderr, "ulfm-mpirun: %s %s\n", call, why);
+    begin_report();
+    fprintf(stderr, "ulfm-mpirun: ");
+    if (me || owner) fprintf(stderr, "rank %d: ", (me ? me : owner)->number);
+    fprintf(stderr, "%s %s\n", call, why);
     end_run(STATUS_FATAL);
 }
 
@@ -82,6 +85,7 @@ int MPI_Abort(MPI_Comm comm, int errorcode) {
     if (me) {
         char line[256];
         me->place.from = __builtin_return_address(0);
+        begin_report();
         fprintf(stderr, "ulfm-mpirun: rank %d called MPI_Abort with %d%s: the run ends\n", me->number, errorcode, line_of(me, line, sizeof line));
         write_rests(true);
         report("abort %d %d\n", me->number, errorcode);

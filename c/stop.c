@@ -82,7 +82,18 @@ void clear_farewells(void) {
     }
 }
 
+/* A further thread of a rank ends the process: it can't end its rank, which runs beside it. */
+static void end_by_thread(const char *call, int status) {
+    if (me || !owner || options.is_alone || !is_launcher()) return;
+    begin_report();
+    fprintf(stderr, "ulfm-mpirun: rank %d called %s with %d in a further thread: the run ends\n", owner->number, call, status);
+    write_rests(true);
+    report("abort %d %d\n", owner->number, status);
+    end_run(status & 255);
+}
+
 void exit(int status) {
+    end_by_thread("exit", status);
     if (is_rank()) {
         say_farewells();
         stop_here(status);
@@ -94,6 +105,7 @@ void exit(int status) {
 }
 
 void _exit(int status) {
+    end_by_thread("_exit", status);
     if (is_rank()) stop_here(status);
     ending *end = (ending *)real("_exit");
     end(status);
@@ -102,6 +114,14 @@ void _exit(int status) {
 
 void _Exit(int status) { _exit(status); }
 void quick_exit(int status) { _exit(status); }
+
+/* The first thread of a rank leaves: as a return from main, for nobody would know when the rank's other threads have ended. */
+void pthread_exit(void *value) {
+    if (is_rank()) exit(0);
+    void (*end)(void *) = (void (*)(void *))real("pthread_exit");
+    end(value);
+    __builtin_unreachable();
+}
 
 void abort(void) {
     if (is_rank()) stop_here(128 + SIGABRT);
@@ -158,8 +178,9 @@ static bool ends_by(int number) {
     if (number == SIGKILL) return true;
     if (number == 0 || number == SIGCHLD || number == SIGCONT || number == SIGURG || number == SIGWINCH) return false;
     if (sigaction(number, 0, &action)) return false;
+    if (is_own_handler(&action)) return true;
     if (action.sa_flags & SA_SIGINFO) return number == SIGSEGV || number == SIGBUS || number == SIGFPE || number == SIGILL;   /* a sanitizer's */
-    return action.sa_handler == SIG_DFL || is_own_handler(action.sa_handler);
+    return action.sa_handler == SIG_DFL;
 }
 
 int raise(int number) {

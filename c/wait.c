@@ -4,7 +4,7 @@
 #include "run.h"
 #include <stdlib.h>
 
-/* The status of no request (3.7.3). */
+/* The status of no request (3.7.3), with its error. */
 const MPI_Status empty_status = {.MPI_SOURCE = MPI_ANY_SOURCE, .MPI_TAG = MPI_ANY_TAG};
 
 struct waiting {
@@ -50,15 +50,17 @@ static void tell_place(const struct request *request) {
     me->place.tag = request->tag;
 }
 
-/* Whether there is nothing to wait for: no request, or a persistent one that isn't active. */
-static bool is_idle(MPI_Request handle) { return handle == MPI_REQUEST_NULL || request_at(handle); }
+/* Where there is nothing to wait for: no request, or a persistent one that isn't active. */
+static int tell_idle(MPI_Request handle, MPI_Status *status) {
+    if (status) *status = empty_status;
+    return handle == MPI_REQUEST_NULL || request_at(handle) ? MPI_SUCCESS : fail(0, MPI_ERR_REQUEST);
+}
 
 int MPI_Wait(MPI_Request *handle, MPI_Status *status) {
     ENTER(0, MPI_UNDEFINED, MPI_UNDEFINED);
     WRITES(0, handle);
     struct request *request = active_at(*handle);
-    tell_status(status, &empty_status);
-    if (!request) return is_idle(*handle) ? MPI_SUCCESS : fail(0, MPI_ERR_REQUEST);
+    if (!request) return tell_idle(*handle, status);
     tell_place(request);
     struct comm *comm = request->comm;
     return fail(comm, wait_for(request) ? pending(request, status) : release(handle, request, status));
@@ -68,9 +70,8 @@ int MPI_Test(MPI_Request *handle, int *flag, MPI_Status *status) {
     ENTER_LOOK(0, MPI_UNDEFINED, MPI_UNDEFINED);
     WRITES(0, handle && flag);
     struct request *request = active_at(*handle);
-    tell_status(status, &empty_status);
     *flag = 1;
-    if (!request) return is_idle(*handle) ? MPI_SUCCESS : fail(0, MPI_ERR_REQUEST);
+    if (!request) return tell_idle(*handle, status);
     struct comm *comm = request->comm;
     progress();
     int pends = look_at(request);
@@ -84,9 +85,8 @@ int MPI_Request_get_status(MPI_Request handle, int *flag, MPI_Status *status) {
     struct request *request = active_at(handle);
     ENTER_LOOK(0, MPI_UNDEFINED, MPI_UNDEFINED);
     WRITES(0, flag);
-    tell_status(status, &empty_status);
     *flag = 1;
-    if (!request) return is_idle(handle) ? MPI_SUCCESS : fail(0, MPI_ERR_REQUEST);
+    if (!request) return tell_idle(handle, status);
     progress();
     look_at(request);
     *flag = request->over;
@@ -187,7 +187,8 @@ static int release_all(struct several *several, MPI_Status statuses[]) {
         MPI_Status *status = statuses ? &statuses[k] : 0;
         int error = !request ? MPI_SUCCESS : look_at(request) ? MPIX_ERR_PROC_FAILED_PENDING : MPI_ERR_PENDING;
         if (request && request->over) error = release(&several->handles[k], request, status);
-        else tell_status(status, request ? &request->status : &empty_status);
+        else if (request) tell_status(status, &request->status);
+        else if (status) *status = empty_status;
         if (status && result != MPI_SUCCESS) status->MPI_ERROR = error;
     }
     return fail(comm, result);
@@ -219,8 +220,8 @@ int MPI_Testall(int count, MPI_Request handles[], int *flag, MPI_Status statuses
 
 /* Tells of one that is over or pends. */
 static int release_one(struct several *several, int *index, MPI_Status *status) {
-    tell_status(status, &empty_status);
     *index = several->first < 0 ? MPI_UNDEFINED : several->first;
+    if (several->first < 0 && status) *status = empty_status;
     if (several->first < 0) return MPI_SUCCESS;
     struct request *request = active_at(several->handles[several->first]);
     struct comm *comm = request->comm;

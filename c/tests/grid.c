@@ -65,6 +65,28 @@ static void scattered(void) {
     CHECK(in[0] == rank);
 }
 
+/* As balanced as can be: what MPICH has of each number to 2,000, and of some large ones. */
+static void divided(void) {
+    int hash = 0;
+    for (int nodes = 1; nodes <= 20000; nodes += nodes < 2000 ? 1 : 97)
+        for (int count = 2; count <= 4; count++) {
+            int dims[4] = {0};
+            MPI_Dims_create(nodes, count, dims);
+            for (int k = 0; k < count; k++) hash = hash * 31 + dims[k];
+        }
+    if (rank == 0) printf("dims: %d\n", hash);
+}
+
+/* A group that isn't a part makes no communicator. */
+static void outside(void) {
+    MPI_Group all;
+    MPI_Comm made = MPI_COMM_NULL;
+    MPI_Comm_set_errhandler(MPI_COMM_SELF, MPI_ERRORS_RETURN);
+    MPI_Comm_group(world, &all);
+    CHECK(size == 1 || class_of(MPI_Comm_create(MPI_COMM_SELF, all, &made)) == MPI_ERR_GROUP);
+    MPI_Group_free(&all);
+}
+
 int main(int argc, char **argv) {
     int all = 0, kind, dims[3] = {0, 0, 0};
     MPI_Init(&argc, &argv);
@@ -75,6 +97,8 @@ int main(int argc, char **argv) {
     CHECK(kind == MPI_UNDEFINED && class_of(MPI_Cartdim_get(world, &kind)) == MPI_ERR_TOPOLOGY);
     MPI_Dims_create(24, 3, dims);
     CHECK(dims[0] == 4 && dims[1] == 3 && dims[2] == 2);
+    divided();
+    outside();
     grid();
     shared();
     scattered();

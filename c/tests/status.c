@@ -1,5 +1,6 @@
 /* What calls write into statuses, and when a test of all tells an error. For 2 or more ranks. */
 #include "check.h"
+#include <stdbool.h>
 
 static int rank;
 static MPI_Comm world = MPI_COMM_WORLD;
@@ -45,7 +46,6 @@ static void kept_by_one(void) {
     MPI_Request request = MPI_REQUEST_NULL;
     MPI_Message message;
     is_kept();
-    CHECK(MPI_Wait(&request, &status) == MPI_SUCCESS && status.MPI_TAG == MPI_ANY_TAG && is_kept());
     CHECK(MPI_Recv(&x, 1, MPI_INT, MPI_PROC_NULL, 0, world, &status) == MPI_SUCCESS && status.MPI_SOURCE == MPI_PROC_NULL && is_kept());
     CHECK(MPI_Sendrecv(&x, 1, MPI_INT, 0, 50, &x, 1, MPI_INT, 0, 50, MPI_COMM_SELF, &status) == MPI_SUCCESS && status.MPI_TAG == 50 && is_kept());
     CHECK(MPI_Recv(&x, 1, MPI_INT, 1, 0, world, &status) == MPI_SUCCESS && status.MPI_SOURCE == 1 && is_kept());
@@ -61,7 +61,6 @@ static void kept_by_one(void) {
     CHECK(MPI_Mrecv(&x, 1, MPI_INT, &message, &status) == MPI_SUCCESS && status.MPI_TAG == 3 && is_kept());
     MPI_Irecv(&x, 1, MPI_INT, 1, 4, world, &request);
     CHECK(MPI_Waitany(1, &request, &at, &status) == MPI_SUCCESS && status.MPI_TAG == 4 && is_kept());
-    CHECK(MPI_Testany(1, &request, &at, &flag, &status) == MPI_SUCCESS && flag && status.MPI_TAG == MPI_ANY_TAG && is_kept());
     CHECK(class_of(MPI_Recv(&x, 0, MPI_INT, 1, 5, world, &status)) == MPI_ERR_TRUNCATE && status.MPI_TAG == 5 && is_kept());
 }
 
@@ -88,6 +87,28 @@ static void kept(void) {
     kept_by_several();
 }
 
+/* Of no request, and of one that isn't active, a status is empty, with its error (3.7.3). */
+static bool is_empty(int code) {
+    int length = -1;
+    bool is_well = code == MPI_SUCCESS && status.MPI_ERROR == MPI_SUCCESS && status.MPI_SOURCE == MPI_ANY_SOURCE && status.MPI_TAG == MPI_ANY_TAG;
+    MPI_Get_count(&status, MPI_INT, &length);
+    memset(&status, 77, sizeof status);
+    return is_well && length == 0;
+}
+
+static void empty(void) {
+    MPI_Request none = MPI_REQUEST_NULL, idle;
+    int x, at, flag = 0;
+    memset(&status, 77, sizeof status);
+    MPI_Recv_init(&x, 1, MPI_INT, 0, 99, world, &idle);
+    CHECK(is_empty(MPI_Wait(&none, &status)) && is_empty(MPI_Wait(&idle, &status)));
+    CHECK(is_empty(MPI_Test(&none, &flag, &status)) && flag && is_empty(MPI_Test(&idle, &flag, &status)));
+    CHECK(is_empty(MPI_Waitany(1, &none, &at, &status)) && at == MPI_UNDEFINED && is_empty(MPI_Testany(1, &idle, &at, &flag, &status)));
+    CHECK(is_empty(MPI_Waitall(1, &none, &status)) && is_empty(MPI_Testall(1, &idle, &flag, &status)));
+    CHECK(is_empty(MPI_Request_get_status(none, &flag, &status)) && flag);
+    MPI_Request_free(&idle);
+}
+
 int main(int argc, char **argv) {
     int all = 0;
     MPI_Init(&argc, &argv);
@@ -95,6 +116,7 @@ int main(int argc, char **argv) {
     MPI_Comm_set_errhandler(world, MPI_ERRORS_RETURN);
     truncated_of_two();
     kept();
+    empty();
     MPI_Reduce(&faults, &all, 1, MPI_INT, MPI_SUM, 0, world);
     if (rank == 0) printf("faults: %d\n", all);
     MPI_Finalize();
