@@ -128,7 +128,7 @@ int MPI_Type_create_hindexed_block(int count, int length, const MPI_Aint displs[
 }
 
 /* The upper bound of a structure is rounded up, so that the next one is aligned as C has it (5.1.6). */
-static int align(struct type *type) {
+int align_type(struct type *type) {
     ptrdiff_t most = type->alignment && type->alignment <= _Alignof(max_align_t) ? (ptrdiff_t)type->alignment : 1, rest = extent_of(type) % most;
     ptrdiff_t upper = type->upper;
     if (!type->has_upper && rest && __builtin_add_overflow(upper, most - rest, &upper)) return MPI_ERR_ARG;
@@ -150,7 +150,7 @@ int MPI_Type_create_struct(int count, const int lengths[], const MPI_Aint displs
     struct type *type = 0;
     MPI_Datatype handle = MPI_DATATYPE_NULL;   /* `made` may be one of `types` */
     if (code == MPI_SUCCESS) code = join(pieces, (size_t)count, &type);
-    if (code == MPI_SUCCESS) code = align(type);
+    if (code == MPI_SUCCESS) code = align_type(type);
     if (code == MPI_SUCCESS) code = add_type(type, &handle);
     else if (type) free_type(type);
     free(pieces);
@@ -168,6 +168,11 @@ int MPI_Type_create_resized(MPI_Datatype type, MPI_Aint lower, MPI_Aint extent, 
     if (code == MPI_SUCCESS) code = resize(type_at(type), lower, extent, &sized);
     if (code == MPI_SUCCESS) code = add_type(sized, made);
     return fail(0, describe(code, made, &arguments));
+}
+
+/* MPI_Count is as wide as MPI_Aint. */
+int MPI_Type_create_resized_c(MPI_Datatype type, MPI_Count lower, MPI_Count extent, MPI_Datatype *made) {
+    return MPI_Type_create_resized(type, (MPI_Aint)lower, (MPI_Aint)extent, made);
 }
 
 /* Of MPI-1 (17.1). */

@@ -130,6 +130,8 @@ int fail(struct comm *comm, int code) {
     if (number < FIRST_OWN || !is_handler(comm->handler)) end_by(comm, code);
     MPI_Comm handle = handle_of(comm);
     int told = code;
+    me->is_starting = false;   /* the handler may jump out of the call */
+    comm->repeats = 0;
     me->handlers[number - FIRST_OWN].function(&handle, &told);
     return code;
 }

@@ -264,6 +264,7 @@ int MPIX_Comm_failure_ack(MPI_Comm comm);
 int MPIX_Comm_failure_get_acked(MPI_Comm comm, MPI_Group *failed);
 
 #include "ulfm_mpi_attributes.h"
+#include "ulfm_mpi_large.h"
 #include "ulfm_mpi_older.h"
 #include "ulfm_mpi_repeated.h"
 #include "ulfm_mpi_topologies.h"

@@ -78,3 +78,7 @@ int MPI_Status_set_cancelled(MPI_Status *status, int flag) {
     status->cancelled = flag != 0;
     return MPI_SUCCESS;
 }
+
+/* By the names of MPI 4.0. */
+ALSO(MPI_Get_elements_c, MPI_Get_elements_x);
+ALSO(MPI_Status_set_elements_c, MPI_Status_set_elements_x);

@@ -246,3 +246,8 @@ void clear_types(void) {
     me->type_names = 0;
     me->type_count = 0;
 }
+
+/* By the names of MPI 4.0. */
+ALSO(MPI_Type_size_c, MPI_Type_size_x);
+ALSO(MPI_Type_get_extent_c, MPI_Type_get_extent_x);
+ALSO(MPI_Type_get_true_extent_c, MPI_Type_get_true_extent_x);

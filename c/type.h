@@ -86,6 +86,9 @@ int join(const struct piece *pieces, size_t count, struct type **made);
 int set_bounds(struct type *type, ptrdiff_t lower, ptrdiff_t upper);
 bool each_run(const struct type *type, ptrdiff_t at, bool (*visit)(void *of, ptrdiff_t at, const struct block *block), void *of);
 
+/* derived.c */
+int align_type(struct type *type);
+
 /* array.c */
 int resize(struct type *of, ptrdiff_t lower, ptrdiff_t extent, struct type **made);
 

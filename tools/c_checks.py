@@ -18,6 +18,8 @@ RUNS = [
     ("neighbors", 1, "", "", 0, r"\nfaults: 0\n\Z", ""),
     ("repeated", 4, "", "", 0, r"\Afaults: 0\n\Z", ""),
     ("repeated", 6, "--sends wait --seed 5", "", 0, r"\Afaults: 0\n\Z", ""),
+    ("large", 4, "", "", 0, r"\Afaults: 0\n\Z", ""),
+    ("large", 7, "--sends wait", "", 0, r"\Afaults: 0\n\Z", ""),
     ("attribute", 3, "", "", 0, r"\Afaults: 0\nends: 1\n\Z", ""),
     ("start", 2, "", "", 0, r"\Aself 2\nself 1\nworld 3\nfaults: 0\n\Z", ""),
     ("start", 2, "", "alone", 0, r"\nfaults: 0\n\Z", ""),
