@@ -134,6 +134,7 @@ int MPI_Type_create_darray(int size, int rank, int dims, const int sizes[], cons
     if (code == MPI_SUCCESS && all != size) code = MPI_ERR_ARG;
     if (code == MPI_SUCCESS) code = make_array(&(struct array){dims, sizes, order == MPI_ORDER_FORTRAN, type_at(type)}, take_division, &division, made);
     free(division.place);
-    struct arguments arguments = {MPI_COMBINER_DARRAY, {{1, &size}, {1, &rank}, {1, &dims}, {dims, sizes}, {dims, distribs}, {dims, dargs}, {dims, psizes}, {1, &order}}, 0, 0, 1, &type};
+    struct arguments arguments = {MPI_COMBINER_DARRAY, {{1, &size}, {1, &rank}, {1, &dims}, {dims, sizes}, {dims, distribs}, {dims, dargs}, {dims, psizes},
+                                                        {1, &order}}, 0, 0, 1, &type};
     return fail(0, describe(code, made, &arguments));
 }

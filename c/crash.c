@@ -84,7 +84,8 @@ static void crashed(int number, siginfo_t *told, void *context) {
         length = snprintf(line, sizeof line, "ulfm-mpirun: rank %d crashed by signal %d (%s)%s, in or after %s (call %d)\n", rank->number, number, words, spot.line,
                           rank->place.call ? rank->place.call : "its start", rank->calls);
     if (spot.library && options.ranks > 1)
-        length += snprintf(line + length, sizeof line - (size_t)length, "ulfm-mpirun: it was in %.200s, whose variables all ranks share: linked statically, each rank has its own\n", spot.library);
+        length += snprintf(line + length, sizeof line - (size_t)length,
+                           "ulfm-mpirun: it was in %.200s, whose variables all ranks share: linked statically, each rank has its own\n", spot.library);
     if (write(2, line, (size_t)length) < 0) length = 0;
     report("crash %d %d\n", rank ? rank->number : -1, number);
     if (is_first) write_rests(false);

@@ -49,7 +49,8 @@ static void make_basics(void) {
         basics[k].external = (external == HALF || external == UNSIGNED_HALF ? first / 2 : external == QUAD ? first / part * 16 : first) + (is_pair ? sizeof(int) : 0);
     }
     for (int k = LOWER_MARK; k <= UPPER_MARK; k++)
-        basics[k] = (struct type){.users = 1, .is_committed = true, .is_basic = true, .is_plain = true, .alignment = 1, .has_lower = k == LOWER_MARK, .has_upper = k == UPPER_MARK};
+        basics[k] = (struct type){.users = 1, .is_committed = true, .is_basic = true, .is_plain = true, .alignment = 1,
+                                  .has_lower = k == LOWER_MARK, .has_upper = k == UPPER_MARK};
 }
 
 struct type *type_at(MPI_Datatype handle) {

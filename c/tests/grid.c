@@ -67,14 +67,14 @@ static void scattered(void) {
 
 /* As balanced as can be: what MPICH has of each number to 2,000, and of some large ones. */
 static void divided(void) {
-    int hash = 0;
+    unsigned hash = 0;
     for (int nodes = 1; nodes <= 20000; nodes += nodes < 2000 ? 1 : 97)
         for (int count = 2; count <= 4; count++) {
             int dims[4] = {0};
             MPI_Dims_create(nodes, count, dims);
-            for (int k = 0; k < count; k++) hash = hash * 31 + dims[k];
+            for (int k = 0; k < count; k++) hash = hash * 31 + (unsigned)dims[k];
         }
-    if (rank == 0) printf("dims: %d\n", hash);
+    if (rank == 0) printf("dims: %u\n", hash);
 }
 
 /* A group that isn't a part makes no communicator. */

@@ -28,16 +28,17 @@ static void divide(void) {
     for (int process = 0; process < all; process++) {
         MPI_Datatype type;
         MPI_Aint lower, extent;
-        int bytes, position = 0, hash = 0;
+        int bytes, position = 0;
+        unsigned hash = 0;
         MPI_Type_create_darray(all, process, dims, sizes, kinds, arguments, processes, order, MPI_INT, &type);
         MPI_Type_commit(&type);
         MPI_Type_size(type, &bytes);
         MPI_Type_get_extent(type, &lower, &extent);
         MPI_Pack(from, 1, type, packed, cells * (int)sizeof *packed, &position, MPI_COMM_SELF);
         CHECK(position == bytes && lower == 0 && extent == cells * (MPI_Aint)sizeof(int));
-        for (int k = 0; k < bytes / (int)sizeof(int); k++) hash = hash * 31 + packed[k];
+        for (int k = 0; k < bytes / (int)sizeof(int); k++) hash = hash * 31 + (unsigned)packed[k];
         seen += bytes / (int)sizeof(int);
-        if (rank == 0) printf("%d of %d: %d %d\n", process, all, bytes, hash);
+        if (rank == 0) printf("%d of %d: %d %u\n", process, all, bytes, hash);
         MPI_Type_free(&type);
     }
     CHECK(seen == cells);

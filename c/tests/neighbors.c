@@ -14,8 +14,8 @@ static void exchange(MPI_Comm comm, int sources, int targets, const char *what) 
     for (int k = 0; k < 32; k++) counts_out[k] = counts_in[k] = 1, displs_out[k] = 2 * k, displs_in[k] = k, bytes_out[k] = 4 * k, bytes_in[k] = 8 * k;
     MPI_Neighbor_allgather(&own, 1, MPI_INT, each, 1, MPI_INT, comm);
     MPI_Neighbor_alltoall(out, 2, MPI_INT, in, 2, MPI_INT, comm);
-    int hash = 0;
-    for (int k = 0; k < sources; k++) hash = hash * 31 + each[k] + 7 * in[2 * k] + in[2 * k + 1];
+    unsigned hash = 0, hashes[8];
+    for (int k = 0; k < sources; k++) hash = hash * 31 + (unsigned)(each[k] + 7 * in[2 * k] + in[2 * k + 1]);
     CHECK(in[2 * sources] == -1 && each[sources] == -1);
     if (*what == 'a' && rank > 0) {   /* two edges of one rank: in order. MPICH 4.0.2 has them the other way round */
         hash = 0;
@@ -48,9 +48,8 @@ static void exchange(MPI_Comm comm, int sources, int targets, const char *what) 
     }
     MPI_Request_free(&request);
 #endif
-    int hashes[8];
-    MPI_Gather(&hash, 1, MPI_INT, hashes, 1, MPI_INT, 0, world);
-    for (int k = 0; k < size && rank == 0; k++) printf("%s: %d of %d: %d\n", what, k, targets, hashes[k]);
+    MPI_Gather(&hash, 1, MPI_UNSIGNED, hashes, 1, MPI_UNSIGNED, 0, world);
+    for (int k = 0; k < size && rank == 0; k++) printf("%s: %d of %d: %u\n", what, k, targets, hashes[k]);
 }
 
 static void grids(void) {
