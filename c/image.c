@@ -114,7 +114,11 @@ static bool refuse(const char *what, const char *name) {
 bool mend_program(char *bytes, size_t size) {
     struct image image = {.at = bytes, .size = size};
     Elf64_Dyn *flags = read_head(&image) ? entry_of(&image, DT_FLAGS_1) : 0;
-    if (!flags || !(flags->d_un.d_val & DF_1_PIE) || !needs(&image, "libulfm_mpi.so")) return true;
+    if (!flags || !(flags->d_un.d_val & DF_1_PIE)) return true;
+    if (!needs(&image, "libulfm_mpi.so")) {
+        fprintf(stderr, "ulfm-mpirun: %s wasn't linked by ulfm-mpicc\n", options.program);
+        return false;
+    }
     if (part_of(&image, PT_TLS)) return refuse("variables of a thread", "");
     const char *name = mend_copies(&image);
     if (name) return refuse("a copy of a library's variable ", name);
