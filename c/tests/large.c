@@ -39,6 +39,30 @@ static void collectives(void) {
     MPI_Barrier(world);
 }
 
+/* Lists of counts and displacements. */
+static void lists(void) {
+    int own[16], all[64], sum[2], wanted = 0;
+    MPI_Count counts[8];
+    MPI_Aint displs[8];
+    MPI_Request request;
+    for (int k = 0; k < 16; k++) own[k] = 100 * rank + k;
+    for (int k = 0; k < size; k++) counts[k] = 2, displs[k] = 2 * k;
+    MPI_Allgatherv_c(own, 2, MPI_INT, all, counts, displs, MPI_INT, world);
+    for (int k = 0; k < 2 * size; k++) CHECK(all[k] == 100 * (k / 2) + k % 2);
+    MPI_Ialltoallv_c(own, counts, displs, MPI_INT, all, counts, displs, MPI_INT, world, &request);
+    MPI_Wait(&request, MPI_STATUS_IGNORE);
+    for (int k = 0; k < 2 * size; k++) CHECK(all[k] == 100 * (k / 2) + 2 * rank + k % 2);
+    MPI_Gatherv_c(own, 2, MPI_INT, all, rank ? 0 : counts, rank ? 0 : displs, MPI_INT, 0, world);
+    for (int k = 0; k < 2 * size && rank == 0; k++) CHECK(all[k] == 100 * (k / 2) + k % 2);
+    MPI_Scatterv_c(own, rank ? 0 : counts, rank ? 0 : displs, MPI_INT, all, 2, MPI_INT, 0, world);
+    CHECK(all[0] == 2 * rank && all[1] == 2 * rank + 1);
+    MPI_Reduce_scatter_c(own, sum, counts, MPI_INT, MPI_SUM, world);
+    for (int k = 0; k < size; k++) wanted += 100 * k + 2 * rank;
+    CHECK(sum[0] == wanted);
+    counts[0] = MANY;
+    CHECK(class_of(MPI_Allgatherv_c(own, 2, MPI_INT, all, counts, displs, MPI_INT, world)) == MPI_ERR_COUNT);
+}
+
 static void types(void) {
     MPI_Datatype many, listed, all;
     MPI_Count bytes, lower, extent, count;
@@ -91,6 +115,7 @@ int main(int argc, char **argv) {
     MPI_Type_commit(&nothing);
     messages();
     collectives();
+    lists();
     types();
     jumps();
     MPI_Type_free(&nothing);
