@@ -1,5 +1,5 @@
 /* MPI_Dims_create (MPI 4.0, 8.5.2): nodes are divided among the dimensions that are 0, the largest first, so that the largest and the smallest one differ by
-   as little as can be. Where several divisions do, it is the one whose smallest is the largest. */
+   as little as can be. Where several divisions do, it is the one whose smallest is the largest, then the next one. */
 #include "graph.h"
 #include <stdlib.h>
 #include <string.h>
@@ -42,8 +42,9 @@ static void find_divisors(struct search *search, int nodes) {
 static void divide(struct search *search, int at, int nodes) {
     int left = search->count - at;
     if (left == 0) {
-        int difference = search->parts[0] - search->parts[search->count - 1];
-        if (difference == search->difference && search->parts[0] <= search->best[0]) return;
+        int difference = search->parts[0] - search->parts[search->count - 1], k = search->count - 1;
+        while (k > 0 && search->parts[k] == search->best[k]) k--;
+        if (difference == search->difference && search->parts[k] <= search->best[k]) return;
         search->difference = difference;
         memcpy(search->best, search->parts, sizeof search->best);
         return;
