@@ -65,10 +65,10 @@ static void find_stack(struct rank *rank) {
 }
 
 static void *run_rank(void *of) {
-    static __thread char room[65536];   /* where a crash is told */
-    stack_t stack = {.ss_sp = room, .ss_size = sizeof room}, old;
-    if (sigaltstack(0, &old) == 0 && old.ss_flags & SS_DISABLE) sigaltstack(&stack, 0);   /* AddressSanitizer has one of its own */
+    static char rooms[MAX_RANKS][65536];   /* where a crash is told */
     me = of;
+    stack_t stack = {.ss_sp = rooms[me->number], .ss_size = sizeof *rooms}, old;
+    if (sigaltstack(0, &old) == 0 && old.ss_flags & SS_DISABLE) sigaltstack(&stack, 0);   /* AddressSanitizer has one of its own */
     find_stack(me);
     if (setjmp(me->bottom) == 0) {
         int status = run_program(me);
