@@ -34,6 +34,30 @@ uint32_t ulfm_flushed(ulfm_slot *slot, uint32_t *flushed)
     return ulfm_c_flushed(slot, flushed);
 }
 
+uint32_t ulfm_push(ulfm_slot *slot, uint32_t *moved)
+{
+    if (!slot || !moved) return ULFM_ENDED;
+    return ulfm_c_push(slot, moved);
+}
+
+uint32_t ulfm_take(ulfm_slot *slot, uint32_t source, uint32_t *took)
+{
+    if (!slot || !took) return ULFM_ENDED;
+    return ulfm_c_take(slot, source, took);
+}
+
+uint32_t ulfm_next(ulfm_slot *slot, uint32_t source, ulfm_next_item *item)
+{
+    if (!slot || !item) return ULFM_ENDED;
+    return ulfm_c_next(slot, source, item);
+}
+
+uint32_t ulfm_would(ulfm_slot *slot, uint64_t request, uint32_t *code)
+{
+    if (!slot || !code) return ULFM_ENDED;
+    return ulfm_c_would(slot, request, code);
+}
+
 uint32_t ulfm_me(ulfm_slot *slot, uint32_t *rank)
 {
     if (!slot || !rank) return ULFM_ENDED;

@@ -52,6 +52,25 @@ typedef struct {
     uint8_t members[8]; /* their world ranks, 0 to 7; 255 from `size` on */
 } ulfm_group;
 
+/* What stands first in the ring from a rank. */
+typedef struct {
+    uint32_t kind;   /* one of the kinds below */
+    uint32_t comm;   /* its communicator, 0 to 62. Of ULFM_NOTHING and ULFM_STOP_NOTICE 0 */
+    uint32_t tag;    /* of a message: its tag, 0 to 32,767. Else 0 */
+    uint64_t length; /* of a message: bytes of the body, 0 to 1,024. Else 0 */
+    uint64_t round;  /* of an entry into an agreement: its number on the communicator, from 0. Else 0 */
+} ulfm_next_item;
+
+/* Kinds of what stands first. */
+enum {
+    ULFM_NOTHING = 0,      /* nothing came that wasn't taken */
+    ULFM_MESSAGE = 1,
+    ULFM_STOP_NOTICE = 2,  /* the rank stopped */
+    ULFM_REVOCATION = 3,   /* of a communicator */
+    ULFM_SHRINK_ENTRY = 4, /* the rank entered the shrink of a communicator */
+    ULFM_AGREE_ENTRY = 5   /* the rank entered an agreement */
+};
+
 /* Any source, any tag. */
 #define ULFM_ANY UINT32_MAX
 
@@ -92,7 +111,7 @@ uint32_t ulfm_world(ulfm_slot *slots, size_t ranks, uint8_t capacity, uint16_t r
 uint32_t ulfm_end(ulfm_slot *slot);
 
 /* The rank stops, as if it failed there (ULFM: a process failure): the others learn it by a notice, which goes out by `ulfm_turn`. From then on
-   all its calls but `ulfm_turn`, `ulfm_flushed`, `ulfm_me`, `ulfm_group_of`, `ulfm_position`, `ulfm_stop` and `ulfm_end` answer 10. 16. */
+   all its calls but those of progress, `ulfm_me`, `ulfm_group_of`, `ulfm_position`, `ulfm_stop` and `ulfm_end` answer 10. 16. */
 uint32_t ulfm_stop(ulfm_slot *slot);
 
 /* ---- Progress ---- */
@@ -104,6 +123,24 @@ uint32_t ulfm_turn(ulfm_slot *slot, uint32_t *moved);
 
 /* *flushed: 1 where nothing waits to go out, to any rank; of a rank that stopped, where its notices went out. Else 0. 16. */
 uint32_t ulfm_flushed(ulfm_slot *slot, uint32_t *flushed);
+
+/* ---- Progress step by step ----
+
+   Who runs all ranks of a world, one call after the other, chooses with these what moves when: so a run can be played again exactly. */
+
+/* A half of a turn: pushes what waits to go out, to each rank as far as its ring has places, and takes nothing. *moved: 1 where anything
+   went, else 0. 16. */
+uint32_t ulfm_push(ulfm_slot *slot, uint32_t *moved);
+
+/* Takes the first item that came from the rank of number `source` in the world, if there is one and this rank runs, and pushes nothing. *took: 1
+   where one was taken, else 0. Where the next `ulfm_turn` begins to look stays. 16, 2 (no such rank), 12 (of a running rank). */
+uint32_t ulfm_take(ulfm_slot *slot, uint32_t source, uint32_t *took);
+
+/* *item: what `ulfm_take` of this source would take. It stays where it is. 16, 2 (no such rank). */
+uint32_t ulfm_next(ulfm_slot *slot, uint32_t source, ulfm_next_item *item);
+
+/* *code: what `ulfm_test` of this request would answer now: 0 where it is over, 17, 18, or a refusal, 10 or 7. It changes nothing. 16. */
+uint32_t ulfm_would(ulfm_slot *slot, uint64_t request, uint32_t *code);
 
 /* ---- Communicators and groups ---- */
 
