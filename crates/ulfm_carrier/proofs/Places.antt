@@ -2,7 +2,8 @@
 use Rattle.std.proofs.Common.{◌≡◌, ◌≢◌, ◌<◌, ◌≤◌, ◌+◌, ◌⊎◌, inl, inr, ◌++◌, ℕ, zero, suc, List, [], ◌∷◌, length, map, set, get_or, Some, refl, ap, sym, ◌∙◌, arith, subst, slice_get}
 use Rattle.std.proofs.lemmas.List.{map-set, length-map, get_or-set_other, get_or-set_same}
 use Rattle.std.proofs.lemmas.Option.{slice_get-get_or, slice_get_within, get_or_from_slice_get}
-use Rattle.ulfm_carrier.proofs.Common.{at, at_view}
+use mathlib.Core.List.{IsPrefix}
+use Rattle.ulfm_carrier.proofs.Common.{at, at_view, map-append}
 
 pub at_read : {X : Type 0} (xs : List X) (k : ℕ) {x : X} → k < length xs → x ≡ get_or xs k x → at xs k x
 at_read xs k {x} low here = slice_get-get_or xs k x low ∙ ap Some (sym here)
@@ -73,3 +74,10 @@ view_unpushed f [] x zero apart = absurd (apart refl)
 view_unpushed f [] x (suc k) apart = refl
 view_unpushed f (y ∷ xs) x zero apart = refl
 view_unpushed f (y ∷ xs) x (suc k) apart = view_unpushed f xs x k (λ e. apart (ap suc e))
+
+-- what grew at k grew there after the write
+pub prefix_here : {X Y : Type 0} (f : X → List Y) (xs : List X) (k : ℕ) {x : X} (y : X) → k < length xs → x ≡ get_or xs k x → IsPrefix (f x) (f y) → IsPrefix (get_or (map f xs) k []) (get_or (map f (set xs k y)) k [])
+prefix_here f xs k y low here more = (more.0, ap (λ l. l ++ more.0) (view_or f xs k [] (at_read xs k low here)) ∙ more.1 ∙ sym (view_here f xs k y [] low))
+
+pub prefix_map : {X Y : Type 0} (f : X → Y) (xs ys : List X) → IsPrefix xs ys → IsPrefix (map f xs) (map f ys)
+prefix_map f xs ys more = (map f more.0, sym (map-append f xs more.0) ∙ ap (map f) more.1)

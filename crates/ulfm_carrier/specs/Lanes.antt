@@ -13,6 +13,8 @@ use Rattle.ulfm_carrier.specs.declared.lane_ends.RingName.{RingName}
 use Rattle.ulfm_carrier.specs.declared.lane_ends.LaneName.{LaneName}
 use Rattle.ulfm_carrier.specs.declared.lane_ends.LaneEnds.{LaneEnds}
 use Rattle.ulfm_carrier.specs.Carried.{item_from}
+use Rattle.ulfm_carrier.specs.Head.{head_in}
+use Rattle.ulfm_carrier.specs.declared.head.Head.{Head}
 use Rattle.ulfm_carrier.specs.Family.{shown}
 use Rattle.ulfm_base.specs.Lists.{at}
 
@@ -67,6 +69,10 @@ lane_taken e s = slice_index_or (map taken_by e.ins.items) s []
 -- what the end has seen in the ring from the rank s and not taken
 abbrev pub seen_from : LaneEnds → ℕ → List Carried
 seen_from e s = slice_index_or (map seen_in e.ins.items) s []
+
+-- what is told of these items
+abbrev pub heads_from : LaneEnds → ℕ → List Head
+heads_from e s = map head_in (seen_from e s)
 
 -- how many places the end knows to be free in the ring to the rank d
 abbrev pub known_room : LaneEnds → ℕ → ℕ

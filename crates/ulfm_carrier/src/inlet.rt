@@ -1,9 +1,11 @@
 //! The receiver's end of the ring from one rank.
-ghost use Rattle.std.specs.Prelude.{◌≡◌, ◌+◌, ◌<◌, ◌≤◌, ◌++◌, ◌∷◌, ◌↔◌, [], List, None, length, map, vec_len, vec_capacity, IsTrue};
+ghost use Rattle.std.specs.Prelude.{◌≡◌, ◌+◌, ◌<◌, ◌≤◌, ◌++◌, ◌∷◌, ◌↔◌, [], List, None, Some, length, map, slice_get, vec_len, vec_capacity, IsTrue};
+ghost use mathlib.Core.List.{IsPrefix};
 ghost use Rattle.rtrb.specs.Ring.{sent, known_free, IsPair};
 ghost use Rattle.ulfm_base.specs.declared.item.Item.{Item as Sent};
 
 use crate::carried::{Carried, sign};
+use crate::head::Head;
 use rtrb::{Consumer, Producer};
 use ulfm_base::{Item, WorldRank};
 
@@ -19,6 +21,7 @@ pub(crate) struct Inlet {
 impl Inlet {
     ghost use Rattle.ulfm_base.specs.Items.{ComesFrom};
     ghost use Rattle.ulfm_carrier.specs.Carried.{item_from};
+    ghost use Rattle.ulfm_carrier.specs.Head.{head_in, head_of};
     ghost use Rattle.ulfm_carrier.specs.Lanes.{inlet_name, outlet_name, inlet_capacity, taken_by, pushed_into, seen_in};
     ghost use Rattle.ulfm_carrier.specs.inside.Tagged.{with_sender};
 
@@ -39,6 +42,7 @@ impl Inlet {
     pub(crate) fn has_item(&mut self) -> bool
         ensures name { (inlet_name self.new ≡ inlet_name self.old) × (inlet_capacity self.new ≡ inlet_capacity self.old) }
         ensures same { (self.new.source ≡ self.old.source) × (self.new.gathered ≡ self.old.gathered) × (taken_by self.new ≡ taken_by self.old) }
+        ensures stays { IsPrefix (seen_in self.old) (seen_in self.new) }
         ensures found { IsTrue result ↔ (0 < length (seen_in self.new)) }
     {
         !self.ring.is_empty()
@@ -50,11 +54,20 @@ impl Inlet {
         requires live { self.old.gathered ≡ None }
         ensures name { (inlet_name self.new ≡ inlet_name self.old) × (inlet_capacity self.new ≡ inlet_capacity self.old) }
         ensures same { (self.new.source ≡ self.old.source) × (self.new.gathered ≡ None) × (taken_by self.new ≡ taken_by self.old) }
+        ensures stays { IsPrefix (seen_in self.old) (seen_in self.new) }
         ensures out { (outlet_name out.new ≡ outlet_name out.old) × (sent out.new ≡ sent out.old) × (known_free out.old ≤ known_free out.new) }
         ensures found { IsTrue result ↔ (0 < length (seen_in self.new)) }
         ensures all { pushed_into self.old.source out.old ≡ taken_by self.old ++ map (item_from self.old.source) (seen_in self.new) }
     {
         self.ring.slots_beside(out) > 0
+    }
+
+    /// What is told of the item that was found. It stays in the ring.
+    pub(crate) fn head(&self) -> Head
+        requires { 0 < length (seen_in self.now) }
+        ensures { slice_get (map head_in (seen_in self.now)) 0 ≡ Some result }
+    {
+        Head::of(&self.ring.peek_known().item)
     }
 
     /// Takes the item that was found.
@@ -64,6 +77,7 @@ impl Inlet {
         ensures name { (inlet_name self.new ≡ inlet_name self.old) × (inlet_capacity self.new ≡ inlet_capacity self.old) }
         ensures same { (self.new.source ≡ self.old.source) × (self.new.gathered ≡ None) }
         ensures taken { ComesFrom self.old.source.number result × (taken_by self.new ≡ taken_by self.old ++ result ∷ []) }
+        ensures first { map head_in (seen_in self.old) ≡ head_of result ∷ map head_in (seen_in self.new) }
     {
         let mut item = self.ring.pop_known().item;
         sign(&mut item, self.source);

@@ -1,9 +1,11 @@
 //! A rank's ends of the rings to and from each rank.
-ghost use Rattle.std.specs.Prelude.{◌≡◌, ◌≢◌, ◌<◌, ◌≤◌, ◌+◌, ◌++◌, ◌↔◌, [], ◌∷◌, ℕ, length, map, vec_len, IsTrue, MatchResult, MatchOption, OnOk, OnErr, IsOk, IfNone, IfSome};
+ghost use Rattle.std.specs.Prelude.{◌≡◌, ◌≢◌, ◌<◌, ◌≤◌, ◌+◌, ◌++◌, ◌↔◌, [], ◌∷◌, ℕ, length, map, slice_get, vec_len, IsTrue, MatchResult, MatchOption, OnOk, OnErr, IsOk, IfNone, IfSome};
+ghost use mathlib.Core.List.{IsPrefix};
 
 use crate::carried::Carried;
 use crate::ends::Ends;
 use crate::gathering::gather_all;
+use crate::head::Head;
 use crate::inlet::Inlet;
 use crate::residue::Residue;
 use rtrb::Producer;
@@ -47,7 +49,8 @@ pub struct LaneEnds {
 impl LaneEnds {
     ghost use Rattle.ulfm_base.specs.Items.{ComesFrom};
     ghost use Rattle.ulfm_carrier.specs.Carried.{item_from};
-    ghost use Rattle.ulfm_carrier.specs.Lanes.{lane_name, lane_pushed, lane_taken, known_room, seen_from, IsReady, IsFoundInTurn};
+    ghost use Rattle.ulfm_carrier.specs.Head.{head_of};
+    ghost use Rattle.ulfm_carrier.specs.Lanes.{heads_from, lane_name, lane_pushed, lane_taken, known_room, seen_from, IsReady, IsFoundInTurn};
 
     /// `push` without an `rt`, so it waits for nobody.
     ///
@@ -97,15 +100,58 @@ impl LaneEnds {
         let start = self.next;
         for step in 0..count {
             let peer = ((start as u16 + step as u16) % count as u16) as u8;
-            if !self.has_item_from(peer) {
-                continue;
+            if let Some(item) = self.pop_from(peer) {
+                self.next = peer + 1;
+                return Some((WorldRank { number: peer }, item));
             }
-            self.next = peer + 1;
-            let inlet = &mut self.ins[peer as usize];
-            let item = inlet.take();
-            return Some((WorldRank { number: peer }, item));
         }
         None
+    }
+
+    /// Takes the next item out of the ring from one rank, if one is found. Where the next pop begins to look stays.
+    pub fn pop_from(&mut self, source: u8) -> Option<Item>
+        requires ready { IsReady self.old }
+        requires source { source < vec_len self.old.outs }
+        ensures name { (lane_name self.new ≡ lane_name self.old) × (self.new.me ≡ self.old.me) × (vec_len self.new.outs ≡ vec_len self.old.outs) × IsReady self.new }
+        ensures pushed { (p : ℕ) → lane_pushed self.new p ≡ lane_pushed self.old p }
+        ensures sender { IfSome result (λ item. ComesFrom source item) }
+        ensures taken { MatchOption result ((p : ℕ) → lane_taken self.new p ≡ lane_taken self.old p)
+            (λ item. (lane_taken self.new source ≡ lane_taken self.old source ++ item ∷ []) × ((p : ℕ) → p ≢ source → lane_taken self.new p ≡ lane_taken self.old p)) }
+        ensures first { IfSome result (λ item. IsPrefix (heads_from self.old source) (head_of item ∷ heads_from self.new source)) }
+        ensures nothing_seen { IfNone result (seen_from self.new source ≡ []) }
+        ensures own { IfNone result (source ≡ self.old.me.number → lane_pushed self.new source ≡ lane_taken self.new source) }
+        ensures others_seen { (p : ℕ) → p ≢ source → seen_from self.new p ≡ seen_from self.old p }
+        ensures next { self.new.next ≡ self.old.next }
+        ensures rooms { (p : ℕ) → known_room self.old p ≤ known_room self.new p }
+        ensures other_rooms { (p : ℕ) → p ≢ self.old.me.number → known_room self.new p ≡ known_room self.old p }
+    {
+        if !self.has_item_from(source) {
+            return None;
+        }
+        let inlet = &mut self.ins[source as usize];
+        let item = inlet.take();
+        Some(item)
+    }
+
+    /// What is told of the item that the next `pop_from` of this rank takes, if one is found. It stays in the ring.
+    pub fn first_from(&mut self, source: u8) -> Option<Head>
+        requires ready { IsReady self.old }
+        requires source { source < vec_len self.old.outs }
+        ensures name { (lane_name self.new ≡ lane_name self.old) × (self.new.me ≡ self.old.me) × (vec_len self.new.outs ≡ vec_len self.old.outs) × IsReady self.new }
+        ensures next { self.new.next ≡ self.old.next }
+        ensures first { result ≡ slice_get (heads_from self.new source) 0 }
+        ensures stays { IsPrefix (seen_from self.old source) (seen_from self.new source) }
+        ensures own { IfNone result (source ≡ self.old.me.number → lane_pushed self.new source ≡ lane_taken self.new source) }
+        ensures others_seen { (p : ℕ) → p ≢ source → seen_from self.new p ≡ seen_from self.old p }
+        ensures taken { (p : ℕ) → lane_taken self.new p ≡ lane_taken self.old p }
+        ensures pushed { (p : ℕ) → lane_pushed self.new p ≡ lane_pushed self.old p }
+        ensures rooms { (p : ℕ) → known_room self.old p ≤ known_room self.new p }
+        ensures other_rooms { (p : ℕ) → p ≢ self.old.me.number → known_room self.new p ≡ known_room self.old p }
+    {
+        if !self.has_item_from(source) {
+            return None;
+        }
+        Some(self.ins[source as usize].head())
     }
 
     /// Whether an item is found in the ring from one rank. It stays there.
@@ -116,6 +162,7 @@ impl LaneEnds {
         ensures next { self.new.next ≡ self.old.next }
         ensures found { IsTrue result ↔ (0 < length (seen_from self.new peer)) }
         ensures own { peer ≡ self.old.me.number → lane_pushed self.new peer ≡ lane_taken self.new peer ++ map (item_from self.old.me) (seen_from self.new peer) }
+        ensures stays { IsPrefix (seen_from self.old peer) (seen_from self.new peer) }
         ensures others_seen { (p : ℕ) → p ≢ peer → seen_from self.new p ≡ seen_from self.old p }
         ensures taken { (p : ℕ) → lane_taken self.new p ≡ lane_taken self.old p }
         ensures pushed { (p : ℕ) → lane_pushed self.new p ≡ lane_pushed self.old p }
@@ -136,6 +183,7 @@ impl LaneEnds {
         ensures next { self.new.next ≡ self.old.next }
         ensures found { IsTrue result ↔ (0 < length (seen_from self.new self.old.me.number)) }
         ensures own { lane_pushed self.new self.old.me.number ≡ lane_taken self.new self.old.me.number ++ map (item_from self.old.me) (seen_from self.new self.old.me.number) }
+        ensures stays { IsPrefix (seen_from self.old self.old.me.number) (seen_from self.new self.old.me.number) }
         ensures others_seen { (p : ℕ) → p ≢ self.old.me.number → seen_from self.new p ≡ seen_from self.old p }
         ensures taken { (p : ℕ) → lane_taken self.new p ≡ lane_taken self.old p }
         ensures pushed { (p : ℕ) → lane_pushed self.new p ≡ lane_pushed self.old p }

@@ -12,6 +12,7 @@ mod carried;
 mod emptying;
 mod ends;
 mod gathering;
+mod head;
 mod inbox;
 mod inlet;
 mod lane_ends;
@@ -23,6 +24,7 @@ mod wiring;
 
 pub use carried::Carried;
 pub use ends::Ends;
+pub use head::Head;
 pub use inbox::{InOrder, InboxPass, PassView, Role, SharedInbox};
 pub use lane_ends::{LaneEnds, LaneName, RingName};
 pub use residue::Residue;

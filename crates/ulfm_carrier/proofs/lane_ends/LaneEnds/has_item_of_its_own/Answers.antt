@@ -1,7 +1,7 @@
 use Rattle.std.proofs.Common.{◌≡◌, ◌<◌, ◌↔◌, [], length, map, get_or, ap, sym, ◌∙◌, refl, arith, subst, IsTrue}
 use Rattle.ulfm_carrier.proofs.Common.{known_free, map-set_same, outlet_name, same_rank, seen_in, taken_by}
 use Rattle.ulfm_carrier.proofs.Owned.{rooms_grow, own_rest}
-use Rattle.ulfm_carrier.proofs.Places.{at_read, view_here, view_other}
+use Rattle.ulfm_carrier.proofs.Places.{at_read, prefix_here, view_here, view_other}
 use Rattle.ulfm_carrier.proofs.Rings.{inlet_names, ready_both, sent_same, own_pair}
 use Rattle.ulfm_carrier.proofs.lane_ends.LaneEnds.has_item_of_its_own.Goals as goal
 
@@ -30,6 +30,7 @@ returns c =
       next = refl;
       found = subst (λ seen. IsTrue c.has_item_beside.result ↔ (0 < length seen)) (sym (view_here seen_in e.ins.items me j [] inside)) looked.found;
       own = own_rest e.me e.outs.items e.ins.items me p q i j r.rings.inside inside out here (same_rank i.source e.me is.0) looked.out.1 looked.same.2 looked.all;
+      stays = prefix_here seen_in e.ins.items me j inside here looked.stays;
       others_seen = λ n apart. view_other seen_in e.ins.items me n j [] apart;
       taken = λ n. ap (λ l. get_or l n []) (map-set_same taken_by e.ins.items me j i (looked.same.2 ∙ ap taken_by here));
       pushed = λ n. ap (λ l. get_or l n []) (sent_same e.me me e.outs.items p q out looked.out.1);
