@@ -1,3 +1,4 @@
+pub mod Ahead
 pub mod Crossing
 pub mod Keeping
 pub mod Pushing

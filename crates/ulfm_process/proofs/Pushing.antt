@@ -1,14 +1,12 @@
 -- What the parts of a turn push, one after the other.
-use Rattle.std.proofs.Common.{◌≡◌, ◌≢◌, ◌↔◌, ℕ, ◌<◌, ◌==◌, Bool, true, false, cond, List, [], ◌∷◌, ◌++◌, length, length-append, refl, ap, sym, subst, ◌∙◌, arith, inl, inr, ◌⊎◌, IsTrue, IsSome, IfSome, is_some, Option, Some, None, get_or-set_other}
+use Rattle.std.proofs.Common.{◌≡◌, ◌≢◌, ◌↔◌, ℕ, ◌<◌, ◌==◌, Bool, true, false, cond, List, [], ◌∷◌, ◌++◌, length, length-append, refl, ap, sym, subst, ◌∙◌, arith, inl, inr, IsTrue, get_or-set_other}
 use Rattle.std.proofs.lemmas.Bool.{cases_lt, false≢true}
 use Rattle.std.proofs.lemmas.List.Sums.{sum_by-append, sum_by-cons}
 use Rattle.ulfm_base.specs.declared.item.Item.{Item}
 use Rattle.ulfm_log.specs.State.{GoesOut, State, mark_at, marked, no_mark, outbox}
-use Rattle.ulfm_base.specs.declared.rank.WorldRank.{WorldRank}
-use Rattle.ulfm_carrier.specs.Lanes.{IsFoundInTurn, in_turn}
-use Rattle.ulfm_process.specs.Turning.{GoOut, IsSameProcess, IsStuck, IsTurn, Takes, with_came}
+use Rattle.ulfm_process.specs.Turning.{GoesOn, GoOut, IsSameProcess, TakesNone}
 use Rattle.ulfm_process.specs.View.{ProcessView}
-use Rattle.ulfm_process.specs.inside.Pushing.{GoesOn, PushesOne, TakesNone}
+use Rattle.ulfm_process.specs.inside.Pushing.{PushesOne}
 
 pub same-then : {a b c : ProcessView} → IsSameProcess a b → IsSameProcess b c → IsSameProcess a c
 same-then h k = record { end = k.end ∙ h.end; board = k.board ∙ h.board; known = k.known ∙ h.known }
@@ -72,44 +70,3 @@ goes-none-by h = record {
   rooms = λ p. omega (arith, h.rooms p);
   takes_none = h.takes_none;
 }
-
--- what comes leaves the number of ranks
-pub came-ranks : (r : State) (came : Option (WorldRank × Item)) → (with_came r came).ranks ≡ r.ranks
-came-ranks r None = refl
-came-ranks r (Some x) = refl
-
--- it is told whether one came or went
-told-turn : {X : Type 0} (took went : Bool) (came : Option X) (n : ℕ) → took ≡ is_some came → (IsTrue went ↔ (0 < n)) → {moved : Bool} → moved ≡ cond took true went → IsTrue moved ↔ (IsSome came ⊎ (0 < n))
-told-turn {X} took went came n is told {moved} told_is = subst (λ b. IsTrue b ↔ (IsSome came ⊎ (0 < n))) (sym (told_is ∙ ap (λ b. cond b true went) is)) (by came)
-  where
-    by : (o : Option X) → IsTrue (cond (is_some o) true went) ↔ (IsSome o ⊎ (0 < n))
-    by None = (λ t. inr (told.0 t), λ e. elim e [ inl none ↦ absurd (cc) | inr l ↦ told.1 l ])
-    by (Some x) = (λ t. inl refl, λ e. refl)
-
--- what was found in turn still was, after pushes
-found-then : (a b c : ProcessView) (s : ℕ) → IsFoundInTurn a.end b.end s → TakesNone b c → IsFoundInTurn a.end c.end s
-found-then a b c s f t = record { passed = f.passed; turn = f.turn; nothing_seen = λ j low. t.seen (in_turn a.end j) ∙ f.nothing_seen j low; next = t.next ∙ f.next }
-
--- and so it is of what came, if anything did
-came-then : (a b c : ProcessView) (came : Option (WorldRank × Item)) → IfSome came (λ x. IsFoundInTurn a.end b.end x.0.number) → TakesNone b c → IfSome came (λ x. IsFoundInTurn a.end c.end x.0.number)
-came-then a b c None f t = tt
-came-then a b c (Some x) f t = found-then a b c x.0.number f t
-
--- a turn
-pub turn-of : {a b c : ProcessView} (took went : Bool) {moved : Bool} → Takes a b took → GoesOn b c went → ((d : ℕ) → d < b.rank.ranks → IsStuck c d) → moved ≡ cond took true went → IsTurn a c moved
-turn-of {a} {b} {c} took went h g stuck is =
-    let ranks : b.rank.ranks ≡ a.rank.ranks = ap (λ (r : State). r.ranks) h.only ∙ came-ranks a.rank h.came in
-    record {
-      came = h.came;
-      runs = h.runs;
-      in_turn = came-then a b c h.came h.in_turn g.takes_none;
-      same_turn = λ e. g.takes_none.next ∙ h.same_turn e;
-      none_seen = λ e. elim (h.none_seen e) [ inl stopped ↦ inl stopped | inr none ↦ inr (λ s. g.takes_none.seen s ∙ none s) ];
-      own_taken = h.own_taken;
-      went = g.went;
-      only = subst (λ (r : State). GoOut g.went r c.rank) h.only g.out;
-      rooms = λ d. omega (arith, h.rooms d, g.rooms d);
-      all_out = λ d l. stuck d (omega (arith, l, ranks));
-      told = told-turn took went h.came (length g.went) h.told g.told is;
-      same = same-then h.same g.takes_none.same;
-    }

@@ -5,12 +5,15 @@
 //!     let request = process.irecv(comm, None, None, 64)?;
 //!     while let TestAnswer::NotYet = process.test(request)? { process.turn()?; }
 //!
-//! No call waits. [`Process::turn`] moves what came in and what goes out. Contracts see a process as its rank's state, its end, and what
+//! No call waits. [`Process::turn`] moves what came in and what goes out. Who chooses what moves when calls its halves, [`Process::push`] and
+//! [`Process::take_from`], and asks before what comes: [`Process::next_from`], [`Process::would`]. Contracts see a process as its rank's state, its end, and what
 //! its seat knows (`ProcessView`, specs/View.antt); of a process its end pushed what its rank let go out, and took what its rank took.
 #![tactic(auto)]
 
 mod making;
+mod outlook;
 mod process;
 
 pub use making::world;
+pub use outlook::Outlook;
 pub use process::Process;

@@ -1,5 +1,6 @@
 //! A rank and what it goes by.
 
+mod ahead;
 mod communicators;
 mod deciding;
 mod letters;
@@ -7,7 +8,7 @@ mod probes;
 mod recovery;
 mod turning;
 
-ghost use Rattle.std.specs.Prelude.{◌≡◌, false, vec_len, IfOk, IfErr};
+ghost use Rattle.std.specs.Prelude.{◌≡◌, ◌<◌, ◌≤◌, false, vec_len, IfOk, IfErr};
 ghost use Rattle.ulfm_carrier.specs.Family.{IsFresh};
 ghost use Rattle.ulfm_carrier.specs.Lanes.{IsReady, lane_pushed, lane_taken};
 ghost use Rattle.ulfm_carrier.specs.declared.lane_ends.LaneEnds.{LaneEnds as Lanes};
@@ -82,5 +83,16 @@ impl Process {
         ensures { result ≡ is_stopped self.now.rank.log }
     {
         self.rank.is_stopped()
+    }
+
+    /// The rank of a number, if the world has it.
+    fn peer(&self, number: u8) -> Result<WorldRank, CallError>
+        ensures there { IfOk result (λ peer. (peer.number ≡ number) × (number < self.now.rank.ranks)) }
+        ensures refused { IfErr result (λ error. (error ≡ CallError.BadRank) × (self.now.rank.ranks ≤ number)) }
+    {
+        if number >= self.rank.ranks() {
+            return Err(CallError::BadRank);
+        }
+        Ok(WorldRank { number })
     }
 }

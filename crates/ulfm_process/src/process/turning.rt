@@ -1,12 +1,12 @@
 //! What comes in, and what goes out.
-ghost use Rattle.std.specs.Prelude.{◌≡◌, ◌<◌, ◌↔◌, ℕ, [], false, IsTrue, IfOk, OnErr};
+ghost use Rattle.std.specs.Prelude.{◌≡◌, ◌<◌, ◌↔◌, ℕ, [], false, IsTrue, IfOk, IfErr, OnOk, OnErr};
 ghost use Rattle.ulfm_log.specs.Facts.{is_stopped};
-ghost use Rattle.ulfm_process.specs.Turning.{IsStuck, IsTurn, Takes};
-ghost use Rattle.ulfm_process.specs.inside.Pushing.{GoesOn, PushesOne, PushesTo};
+ghost use Rattle.ulfm_process.specs.Turning.{IsTakeRefusal, IsTurn, Pushes, Takes, TakesFrom};
+ghost use Rattle.ulfm_process.specs.inside.Pushing.{PushesOne, PushesTo};
 ghost use Rattle.ulfm_log.specs.State.{outbox};
 
 use super::Process;
-use ulfm_base::OutOfMemory;
+use ulfm_base::{CallError, OutOfMemory};
 
 impl Process {
     /// Takes an item that came, if there is one, and pushes what waits to go out, to each rank as far as its end knows of places in
@@ -22,7 +22,7 @@ impl Process {
         ensures runs { OnErr result (is_stopped self.old.rank.log ≡ false) }
     {
         let came = self.take_one()?;
-        let went = self.push_all();
+        let went = self.push();
         if came {
             return Ok(true);
         }
@@ -39,6 +39,46 @@ impl Process {
             }
         }
         true
+    }
+
+    /// Pushes what waits to go out, to each rank as far as its end knows of places in the ring. Whether anything went.
+    pub fn push(&mut self) -> bool
+        ensures { Pushes self.old self.new result }
+    {
+        let mut moved = false;
+        for dest in 0..self.rank.ranks() {
+            if self.push_to(dest) {
+                moved = true;
+            }
+        }
+        moved
+    }
+
+    /// Takes the first item that came from one rank, if there is one and the rank runs. Whether one was taken. Where the next turn
+    /// begins to look stays.
+    ///
+    /// # Errors
+    ///
+    /// `BadRank` where the world has no such rank, else `OutOfMemory` where the rank runs and a growth was refused. Then nothing
+    /// changed.
+    pub fn take_from(&mut self, source: u8) -> Result<bool, CallError>
+        ensures takes { IfOk result (TakesFrom self.old self.new source) }
+        ensures rank { OnOk result (source < self.old.rank.ranks) }
+        ensures refused { IfErr result (IsTakeRefusal self.old source) }
+        ensures unchanged { OnErr result (self.new ≡ self.old) }
+    {
+        let peer = self.peer(source)?;
+        if self.rank.is_stopped() {
+            return Ok(false);
+        }
+        self.rank.prepare()?;
+        match self.end.pop_from(source) {
+            Some(item) => {
+                self.rank.take(peer, item);
+                Ok(true)
+            }
+            None => Ok(false),
+        }
     }
 
     /// Takes an item that came, if there is one and the rank runs. Whether one was taken.
@@ -58,20 +98,6 @@ impl Process {
             }
             None => Ok(false),
         }
-    }
-
-    /// Pushes to each rank upwards, while there is something to push and a place for it. Whether anything went.
-    fn push_all(&mut self) -> bool
-        ensures goes_on { GoesOn self.old self.new result }
-        ensures stuck { (d : ℕ) → d < self.old.rank.ranks → IsStuck self.new d }
-    {
-        let mut moved = false;
-        for dest in 0..self.rank.ranks() {
-            if self.push_to(dest) {
-                moved = true;
-            }
-        }
-        moved
     }
 
     /// Pushes to one rank, while there is something to push and a place for it. Whether anything went.

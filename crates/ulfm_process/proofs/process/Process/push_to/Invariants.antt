@@ -1,6 +1,7 @@
 use Rattle.std.proofs.Common.{length}
 use Rattle.ulfm_log.specs.State.{outbox}
-use Rattle.ulfm_process.specs.inside.Pushing.{GoesOn, OthersStayStuck}
+use Rattle.ulfm_process.specs.Turning.{GoesOn}
+use Rattle.ulfm_process.specs.inside.Pushing.{OthersStayStuck}
 use Rattle.ulfm_process.proofs.process.Process.push_to.Given as goal
 
 abbrev pub invariant-loop-moved : goal.invariant-loop-moved

@@ -1,4 +1,4 @@
-use Rattle.std.proofs.Common.{ap, sym, subst, ◌∙◌, arith}
+use Rattle.std.proofs.Common.{ap, sym, subst, refl, ◌∙◌, arith, Some}
 use Rattle.ulfm_rank.proofs.Joining.{joined-returned, joined-taken}
 use Rattle.ulfm_rank.proofs.Signed.{from_signed}
 use Rattle.ulfm_log.specs.State.{logged}
@@ -23,3 +23,21 @@ invariant_of-self-in-None c =
     let t = c.in-None.ensures in let h = c.self.invariant in let end = c.pop_now.new.self in
     subst (λ (r : State). IsAtEnd r end) (sym c.in_ok-prepare.ensures.state)
     (joined-returned end 0 h (ap (λ (r : WorldRank). r.number) t.name.1) t.name.2 t.name.3 t.taken (λ p _. t.pushed p) (t.pushed 0))
+
+pub returns-in-Some-clause-takes : goal.returns-in-Some-clause-takes
+returns-in-Some-clause-takes c =
+    let t = c.in-Some.ensures in
+    rw (sym c.self.view_is) (record {
+      came = Some (c.in-Some.source, c.in-Some.item);
+      takes = record {
+        runs = λ _. sym c.is_stopped.ensures ∙ c.if-is_stopped.false;
+        only = c.take.ensures ∙ ap (λ (r : State). logged r (Took c.in-Some.source c.in-Some.item)) c.in_ok-prepare.ensures.state;
+        rooms = t.rooms;
+        told = refl;
+        same = record { end = t.name.0; board = refl; known = refl };
+      };
+      in_turn = t.in_turn;
+      same_turn = λ none. absurd (cc);
+      none_seen = λ none. absurd (cc);
+      own_taken = λ none. absurd (cc);
+    })

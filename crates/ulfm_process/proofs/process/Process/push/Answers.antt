@@ -3,8 +3,8 @@ use Rattle.std.proofs.lemmas.Bool.{cases_eq}
 use Rattle.ulfm_process.proofs.Pushing.{go-ranks, goes-none, goes-then}
 use Rattle.ulfm_process.specs.Turning.{IsStuck}
 use Rattle.ulfm_process.specs.View.{ProcessView}
-use Rattle.ulfm_process.proofs.process.Process.push_all.Goals.{then-push_to, else-push_to}
-use Rattle.ulfm_process.proofs.process.Process.push_all.Goals as goal
+use Rattle.ulfm_process.proofs.process.Process.push.Goals.{then-push_to, else-push_to}
+use Rattle.ulfm_process.proofs.process.Process.push.Goals as goal
 
 pub loop-dest-init : goal.loop-dest-init
 loop-dest-init c = (goes-none c.args.self.now, λ k l. absurd (omega (arith, l)))
@@ -25,3 +25,10 @@ loop-dest-preserved c =
       | then-push_to w ↦ (goes-then c.push_to.result inv.0 push.goes_on (w.moved-is ∙ ap (λ b. cond b true c.loop-dest.moved) (sym w.if-push_to.true)), stuck)
       | else-push_to w ↦ (goes-then c.push_to.result inv.0 push.goes_on (w.moved-is ∙ ap (λ b. cond b true c.loop-dest.moved) (sym w.if-push_to.false)), stuck)
     ]
+
+pub returns : goal.returns
+returns c =
+    let inv = c.loop-dest.invariant in let ranks = go-ranks inv.0.went _ _ inv.0.out in record {
+      goes_on = inv.0;
+      all_out = λ d l. inv.1 d (omega (arith, l, c.loop-dest-test.false, c.ranks-dest-end.ensures, ap (λ (v : ProcessView). v.rank.ranks) c.self.view_is, ranks));
+    }
