@@ -12,10 +12,11 @@ struct agreement {
     ulfm_group missing;
 };
 
-/* Whether each member is in the agreement that this rank is in, was in it, or has left: else there can't be a decision, and the engine needn't be asked. */
+/* Whether each member is in the agreement that this rank is in, was in it, or has left: else there can't be a decision, and the engine needn't be
+   asked. In a run that is played a rank goes by what it heard alone. */
 static bool can_be_agreed(const struct agreement *agreement) {
     uint32_t context = agreement->comm->context, own = atomic_load(&me->agreed[context]);
-    for (int k = 0; k < agreement->comm->size; k++) {
+    for (int k = 0; k < agreement->comm->size && !is_played; k++) {
         const struct rank *rank = &ranks[agreement->comm->members[k]];
         if (atomic_load(&rank->agreed[context]) < own && !atomic_load(&rank->is_gone)) return false;
     }

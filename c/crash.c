@@ -76,7 +76,7 @@ static void crashed(int number, siginfo_t *told, void *context) {
     if (!is_first && !pthread_equal(crashed_thread, pthread_self())) for (;;) pause();
     crashed_thread = pthread_self();
     is_crashed = 1;
-    if (is_first && rank) find_spot(rank, address_of(context), &spot);
+    if (is_first && rank && !options.seeds) find_spot(rank, address_of(context), &spot);
     const char *words = words_of_signal(number, me, told->si_addr);
     if (!rank) length = snprintf(line, sizeof line, "ulfm-mpirun: crashed by signal %d (%s)\n", number, words);
     else if (!me) length = snprintf(line, sizeof line, "ulfm-mpirun: a further thread of rank %d crashed by signal %d (%s)%s\n", rank->number, number, words, spot.line);
@@ -89,14 +89,15 @@ static void crashed(int number, siginfo_t *told, void *context) {
     if (write(2, line, (size_t)length) < 0) length = 0;
     report("crash %d %d\n", rank ? rank->number : -1, number);
     if (is_first) write_rests(false);
-    remove_copies();
-    signal(number, SIG_DFL);
+    if (!is_played) remove_copies();
+    if (!is_played) signal(number, SIG_DFL);
     end_run(128 + number);
 }
 
 /* The run is ended from outside. */
 static void ended(int number) {
     if (!is_launcher()) end_child(number);
+    if (stop_soon()) return;
     end_run(128 + number);
 }
 

@@ -123,6 +123,7 @@ static void end_by(struct comm *comm, int code) {
 
 /* Hands an error to the handler of its communicator, of MPI_COMM_WORLD where there is none (9.3), and returns it. */
 int fail(struct comm *comm, int code) {
+    if (is_played) look_as_played();   /* at what came in the call, which ends here */
     if (code == MPI_SUCCESS) return code;
     if (!comm) comm = comm_at(MPI_COMM_WORLD);
     uintptr_t number = (uintptr_t)comm->handler;

@@ -5,7 +5,7 @@
 #include "run.h"
 #include <sys/types.h>
 
-enum outcome { RIGHT, NOT_REACHED, OTHER_STATUS, OTHER_OUTPUT, FAILED, STUCK, LATE, FATAL, ABORTED, CRASHED, OUTCOMES };
+enum outcome { RIGHT, NOT_REACHED, OTHER_STATUS, OTHER_OUTPUT, FAILED, STUCK, LOOPS, LATE, FATAL, ABORTED, CRASHED, OUTCOMES };
 enum fate { NO_FATE, ENDED, STOPPED, FAILED_ITSELF };
 
 /* A place where a rank may stop: before a call, or inside it. */
@@ -33,6 +33,7 @@ struct job {
 
 /* jobs.c */
 bool start_job(struct job *job, const char *launcher, const struct spot *spot);
+void read_report(char *text, struct result *result);
 void read_result(const struct job *job, struct result *result);
 void close_job(struct job *job);
 char *read_all(int file);
@@ -41,6 +42,7 @@ char *read_all(int file);
 struct spot *read_spots(const struct job *job, int *count);
 
 /* table.c */
+const char *words_of_outcome(enum outcome outcome);
 void text_of_stop(const struct stop *stop, char *text, size_t room);
 void tell_command(FILE *to, const struct spot *spot, bool sends_wait);
 enum outcome judge(const struct result *base, const struct result *result, const struct spot *spot, char *why, size_t room);

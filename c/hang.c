@@ -57,7 +57,7 @@ static void tell_place(const struct rank *rank) {
     }
     report("at %d %s\n", rank->number, place->call);
     tell_peer(rank, peer, sizeof peer);
-    fprintf(stderr, "%s %s%s%s%s (call %d)\n", rank->idle ? "waits in" : "runs, after", place->call, peer,
+    fprintf(stderr, "%s %s%s%s%s (call %d)\n", rank->loops ? "loops over" : rank->idle ? "waits in" : "runs, after", place->call, peer,
             name_of(place->comm, name, sizeof name), line, rank->calls);
 }
 
@@ -77,6 +77,8 @@ void tell_stuck(void) {
     fprintf(stderr, "ulfm-mpirun: nobody can move any more:\n");
     tell_places();
     write_rests(true);
-    report("stuck\n");
+    bool loops = false;
+    for (int k = 0; k < options.ranks; k++) loops = loops || ranks[k].loops;
+    report(loops ? "loops\n" : "stuck\n");
     end_run(STATUS_STUCK);
 }

@@ -120,6 +120,7 @@ static void read_line(const char *line, struct result *result) {
     else if (sscanf(line, "end %d %d", &rank, &number) == 2) result->fate[rank] = ENDED, result->status[rank] = number;
     else if (sscanf(line, "at %d %47s", &rank, name) == 2) snprintf(result->detail + used, room, "%s %d in %s", used ? "," : "", rank, name);
     else if (!strncmp(line, "stuck", 5)) result->end = STUCK;
+    else if (!strncmp(line, "loops", 5)) result->end = LOOPS;
     else if (!strncmp(line, "late", 4)) result->end = LATE;
     else if (result->end != RIGHT) return;
     else if (sscanf(line, "fatal %d %47s %d", &rank, name, &number) == 3) {
@@ -134,10 +135,16 @@ static void read_line(const char *line, struct result *result) {
     }
 }
 
-void read_result(const struct job *job, struct result *result) {
-    char *text = read_all(job->files[2]), *rest;
+/* Reads a report, which is cut into its lines. */
+void read_report(char *text, struct result *result) {
+    char *rest;
     *result = (struct result){.end = RIGHT};
     for (char *line = text ? strtok_r(text, "\n", &rest) : 0; line; line = strtok_r(0, "\n", &rest)) read_line(line, result);
+}
+
+void read_result(const struct job *job, struct result *result) {
+    char *text = read_all(job->files[2]);
+    read_report(text, result);
     free(text);
     text = read_all(job->files[0]);
     result->output = sorted(text);

@@ -2,6 +2,7 @@
 #define _GNU_SOURCE
 #include "run.h"
 #include <errno.h>
+#include <limits.h>
 #include <malloc.h>
 #include <signal.h>
 #include <stdarg.h>
@@ -32,10 +33,11 @@ void report(const char *format, ...) {
     static pthread_mutex_t lock = PTHREAD_MUTEX_INITIALIZER;
     char line[160];
     va_list words;
-    if (options.report < 0) return;
+    if (options.report < 0 && !options.seeds) return;
     va_start(words, format);
     int length = vsnprintf(line, sizeof line, format, words);
     va_end(words);
+    if (note_report(line, (size_t)length)) return;
     pthread_mutex_lock(&lock);
     if (write(options.report, line, (size_t)length) != length) options.report = -1;
     pthread_mutex_unlock(&lock);
@@ -64,12 +66,8 @@ static void find_stack(struct rank *rank) {
     pthread_attr_destroy(&attributes);
 }
 
-static void *run_rank(void *of) {
-    static char rooms[MAX_RANKS][65536];   /* where a crash is told */
-    me = of;
-    stack_t stack = {.ss_sp = rooms[me->number], .ss_size = sizeof *rooms}, old;
-    if (sigaltstack(0, &old) == 0 && old.ss_flags & SS_DISABLE) sigaltstack(&stack, 0);   /* AddressSanitizer has one of its own */
-    find_stack(me);
+/* All that the rank does which runs. */
+void live(void) {
     if (setjmp(me->bottom) == 0) {
         int status = run_program(me);
         say_farewells();
@@ -80,6 +78,20 @@ static void *run_rank(void *of) {
     close_output(me);
     clear_rank();
     atomic_store(&me->is_ended, 1);
+}
+
+/* A stack for signals, since that of a rank may be used up. */
+static void have_stack_for_signals(void) {
+    static char rooms[MAX_RANKS][65536];   /* where a crash is told */
+    stack_t stack = {.ss_sp = rooms[me->number], .ss_size = sizeof *rooms}, old;
+    if (sigaltstack(0, &old) == 0 && old.ss_flags & SS_DISABLE) sigaltstack(&stack, 0);   /* AddressSanitizer has one of its own */
+}
+
+static void *run_rank(void *of) {
+    me = of;
+    have_stack_for_signals();
+    find_stack(me);
+    live();
     me = 0;
     marked();
     pthread_mutex_lock(&end_lock);
@@ -93,7 +105,7 @@ void prepare_rank(struct rank *rank, int number) {
     rank->number = number;
     rank->slot = &rank->home;
     pthread_mutex_init(&rank->parcels_lock, 0);
-    rank->random = options.seed * 0x9E3779B97F4A7C15u + (uint64_t)number * 0xBF58476D1CE4E5B9u + 1;
+    rank->random = options.yields * 0x9E3779B97F4A7C15u + (uint64_t)number * 0xBF58476D1CE4E5B9u + 1;
 }
 
 static bool start_rank(struct rank *rank, int number) {
@@ -101,7 +113,7 @@ static bool start_rank(struct rank *rank, int number) {
     prepare_rank(rank, number);
     if (!open_output(rank)) return false;
     pthread_attr_init(&attributes);
-    pthread_attr_setstacksize(&attributes, 32u << 20);
+    pthread_attr_setstacksize(&attributes, STACK);
     return pthread_create(&rank->thread, &attributes, run_rank, rank) == 0;
 }
 
@@ -110,6 +122,8 @@ static void keep_memory(void) {
     mallopt(M_MMAP_THRESHOLD, 32 << 20);
     mallopt(M_TRIM_THRESHOLD, 256 << 20);
     mallopt(M_TOP_PAD, 1 << 20);
+    if (is_played) mallopt(M_MMAP_MAX, 0);   /* so that all can be put back */
+    if (is_played) mallopt(M_TRIM_THRESHOLD, INT_MAX);
 }
 
 /* Makes the world, each rank in a slot that stands apart from the others': its calls write to it. The code of a refusal, or ULFM_OK. */
@@ -118,6 +132,16 @@ uint32_t make_ranks(void) {
     uint32_t code = ulfm_world(made, (size_t)options.ranks, (uint8_t)options.capacity, (uint16_t)options.rounds);
     for (int k = 0; k < options.ranks; k++) ranks[k].home = made[k];
     return code;
+}
+
+/* The time is over: says so, and ends the run. */
+void tell_late(void) {
+    begin_report();
+    fprintf(stderr, "ulfm-mpirun: the time is over after %g seconds:\n", options.timeout);
+    tell_places();
+    write_rests(true);
+    report("late\n");
+    end_run(STATUS_LATE);
 }
 
 /* Waits until all threads have ended, or the time is over. */
@@ -129,14 +153,7 @@ static void wait_for_ends(void) {
     until.tv_nsec = (long)((at - (double)until.tv_sec) * 1e9);
     pthread_mutex_lock(&end_lock);
     while (ended_count < options.ranks)
-        if (pthread_cond_timedwait(&end_came, &end_lock, &until) == ETIMEDOUT) {
-            begin_report();
-            fprintf(stderr, "ulfm-mpirun: the time is over after %g seconds:\n", options.timeout);
-            tell_places();
-            write_rests(true);
-            report("late\n");
-            end_run(STATUS_LATE);
-        }
+        if (pthread_cond_timedwait(&end_came, &end_lock, &until) == ETIMEDOUT) tell_late();
     pthread_mutex_unlock(&end_lock);
     for (int k = 0; k < options.ranks; k++) pthread_join(ranks[k].thread, 0);
 }
@@ -161,10 +178,31 @@ static void tell_unmet_stops(void) {
                     ranks[options.stop[k].rank].calls);
 }
 
+/* All ranks have ended: their slots and what they share end too. The status of the run. */
+int close_run(void) {
+    for (int k = 0; k < options.ranks; k++) ulfm_end(&ranks[k].home);
+    free_parcels();
+    free_marks();
+    tell_unmet_stops();
+    for (int k = 0; k < options.ranks; k++) free(ranks[k].words);
+    return status_of_run();
+}
+
+static int run_threads(void) {
+    for (int k = 0; k < options.ranks; k++)
+        if (!start_rank(&ranks[k], k)) {
+            fprintf(stderr, "ulfm-mpirun: no thread for rank %d\n", k);
+            end_run(STATUS_USAGE);
+        }
+    wait_for_ends();
+    return close_run();
+}
+
 int ulfm_mpirun(int count, char **words) {
     int refused = read_words(count, words);
     if (refused) return refused < 0 ? 0 : refused;
     if (options.every_stop) return every_stop(words[0]);
+    if (is_played) fix_addresses(words);
     be_launcher();
     handle_signals();   /* before there are copies, which each end takes away */
     if (!copy_programs()) return STATUS_USAGE;
@@ -174,16 +212,6 @@ int ulfm_mpirun(int count, char **words) {
         fprintf(stderr, "ulfm-mpirun: no world of %d ranks: code %u\n", options.ranks, code);
         return STATUS_USAGE;
     }
-    for (int k = 0; k < options.ranks; k++)
-        if (!start_rank(&ranks[k], k)) {
-            fprintf(stderr, "ulfm-mpirun: no thread for rank %d\n", k);
-            end_run(STATUS_USAGE);
-        }
-    wait_for_ends();
-    for (int k = 0; k < options.ranks; k++) ulfm_end(&ranks[k].home);
-    free_parcels();
-    free_marks();
-    tell_unmet_stops();
-    for (int k = 0; k < options.ranks; k++) free(ranks[k].words);
-    return status_of_run();
+    have_stack_for_signals();
+    return is_played ? play() : run_threads();
 }

@@ -48,5 +48,5 @@ char *line_before(const void *at, char *text, size_t room) {
     return text;
 }
 
-/* That of the rank's present call. */
-char *line_of(const struct rank *rank, char *text, size_t room) { return line_before(rank->place.from, text, room); }
+/* That of the rank's present call; of many schedules it isn't wanted. */
+char *line_of(const struct rank *rank, char *text, size_t room) { return line_before(options.seeds ? 0 : rank->place.from, text, room); }

@@ -8,7 +8,7 @@
 enum { MAX_STOPS = 16, ROUNDS = 1024 };
 
 /* Statuses of ulfm-mpirun besides those of programs. */
-enum { STATUS_USAGE = 2, STATUS_FATAL = 96, STATUS_STUCK = 98, STATUS_LATE = 99 };
+enum { STATUS_USAGE = 2, STATUS_FATAL = 96, STATUS_OTHER = 97, STATUS_STUCK = 98, STATUS_LATE = 99 };
 
 /* A stop of the plan. */
 struct stop {
@@ -21,7 +21,10 @@ struct stop {
 struct options {
     int ranks, stops;
     struct stop stop[MAX_STOPS];
-    uint64_t seed;
+    uint64_t yields;          /* how threads let others go first; 0: not at all */
+    uint64_t seed;            /* of a schedule by chance */
+    long seeds;               /* so many of them */
+    const char *schedule, *keep;   /* files: of a schedule that is played again, and where one is kept */
     double timeout;
     bool sends_wait, tag, every_stop, same_output, all;
     bool is_alone;   /* the program was started by itself */

@@ -16,7 +16,7 @@ static uint64_t next_random(void) {
 
 /* Lets others go first, by the seed. */
 static void vary(void) {
-    if (!options.seed) return;
+    if (!options.yields) return;
     uint64_t random = next_random();
     if (random % 16 == 0) {
         struct timespec wait = {0, (long)(random >> 8) % 200000};

@@ -41,9 +41,12 @@ void marked(void) {
     wake();
 }
 
+/* How often marks changed. */
+uint64_t count_of_marks(void) { return atomic_load(&marks.count); }
+
 /* How much all ranks did. Counts only rise, so where two sums are the same, no rank did anything from the first one's end to the other's begin. */
 static uint64_t all_moves(void) {
-    uint64_t sum = atomic_load(&marks.count);
+    uint64_t sum = count_of_marks();
     for (int k = 0; k < options.ranks; k++) sum += atomic_load(&moves[k].count);
     return sum;
 }
@@ -57,7 +60,7 @@ static bool turn(void) {
 }
 
 /* Something came, perhaps: tells the senders that wait for a match, and looks at shrinks and agreements that are open. */
-static void look_at_open(void) {
+void look_at_open(void) {
     if (me->has_stopped) return;
     if (atomic_load(&me->waited_for) > 0) look_at_all();
     if (me->recoveries > 0) look_at_recoveries();
@@ -65,7 +68,8 @@ static void look_at_open(void) {
 
 /* Moves what goes out, and takes one item that came. Whether anything moved. */
 bool move_once(void) {
-    if (!turn()) return false;
+    if (is_played) look_as_played();
+    if (is_played || !turn()) return false;
     look_at_open();
     return true;
 }
@@ -111,7 +115,8 @@ static int looks_before_yield(void) {
 /* Moves what goes out and comes in, for a call that looks once. A program may loop over such calls: where so many looks were in vain that a wait would
    yield, so does the loop. */
 void progress(void) {
-    if (move_much()) return;
+    if (is_played) look_as_played();
+    if (is_played || move_much()) return;
     if (me->vain < looks_before_yield()) me->vain++;
     else sched_yield();
 }
@@ -126,13 +131,17 @@ static void learn(bool has_slept) {
 /* Makes progress until `is_done` says so, which looks once each time: when something came, and `is_settled` where nothing did for some time. What it looks
    at changes by what comes, and by marks. A look that is dear is made when all that came was taken. */
 void wait_until(bool (*is_done)(void *, bool is_settled), void *of, bool is_dear) {
+    if (is_played) {
+        wait_as_played(is_done, of);
+        return;
+    }
     int looks = 0, most = looks_before_yield();
     bool has_slept = false;
     uint64_t seen = 0, asked_at = UINT64_MAX;
     for (;;) {
         if (looks >= most + YIELDS) seen = all_moves();   /* before the look: what comes after it is a further move */
         bool has_moved = is_dear ? move_much() : move_once();
-        uint64_t marked_at = atomic_load(&marks.count);
+        uint64_t marked_at = count_of_marks();
         bool is_settled = !has_moved && (looks == most || marked_at != asked_at);
         if ((has_moved || is_settled) && is_done(of, is_settled)) break;
         asked_at = marked_at;

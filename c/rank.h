@@ -12,7 +12,7 @@
 #include <stdbool.h>
 #include <stdio.h>
 
-enum { MAX_RANKS = 8, CONTEXTS = 63, BODY = 1024, PLANES = 7, NO_CONTEXT_LEFT = 255 };
+enum { MAX_RANKS = 8, CONTEXTS = 63, BODY = 1024, PLANES = 7, NO_CONTEXT_LEFT = 255, STACK = 32 << 20 };
 
 /* Error codes: the class, and a detail times 256, which MPI_Error_string tells. */
 enum {
@@ -166,6 +166,7 @@ struct rank {
     _Atomic bool has_begun, has_finalized, has_stopped;
     bool is_planned;          /* it stopped by plan */
     bool is_starting;         /* MPI_Start makes a call of its own */
+    bool loops;               /* over looks that find nothing (a run that is played) */
     int provided;             /* the level of threads that it was given */
     struct place place;
     int recoveries;           /* requests of shrinks and agreements */
@@ -173,6 +174,8 @@ struct rank {
     int impatience;           /* by how much it looks less before it yields, where looks were in vain */
     int calls, insides;       /* calls that count; places inside the last one */
     int status;               /* of main */
+    uint64_t times_asked;     /* calls of MPI_Wtime (a run that is played) */
+    uint32_t looks;           /* at the engine in its present call (a run that is played) */
     uint64_t random;
     FILE *out;
     bool has_closed;          /* the program closed its standard output */

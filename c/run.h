@@ -9,6 +9,9 @@ extern __thread struct rank *me __attribute__((tls_model("initial-exec")));
 /* Of a further thread of a rank: whose it is. */
 extern __thread struct rank *owner __attribute__((tls_model("initial-exec")));
 
+/* Whether a controller plays the run (play.h). */
+extern bool is_played;
+
 /* alone.c */
 bool begin_alone(void);
 
@@ -29,6 +32,23 @@ void end_run(int status) __attribute__((noreturn));
 void handle_signals(void);
 bool is_own_handler(const struct sigaction *action);
 void report(const char *format, ...) __attribute__((format(printf, 1, 2)));
+void live(void);
+void tell_late(void) __attribute__((noreturn));
+int close_run(void);
+
+/* played.c, controller.c */
+int play(void);
+void fix_addresses(char **words);
+void end_schedule(int status);
+void wait_as_played(bool (*is_done)(void *, bool is_settled), void *of);
+void look_as_played(void);
+
+/* unfollowed.c */
+void meet_thread(const void *from);
+
+/* seeds.c */
+bool note_report(const char *line, size_t length);
+bool stop_soon(void);
 
 /* output.c */
 bool open_output(struct rank *rank);
@@ -38,6 +58,7 @@ void write_rests(bool all);
 /* stop.c */
 void stop_here(int status) __attribute__((noreturn));
 void be_launcher(void);
+void leave_process(int status) __attribute__((noreturn));
 bool is_launcher(void);
 void say_farewells(void);
 void clear_farewells(void);
@@ -48,6 +69,8 @@ void progress(void);
 bool move_once(void);
 void moved(void);
 void marked(void);
+uint64_t count_of_marks(void);
+void look_at_open(void);
 void wait_until(bool (*is_done)(void *, bool is_settled), void *of, bool is_dear);
 bool all_are_gone(void *unused, bool is_settled);
 

@@ -21,6 +21,7 @@ void enter_call(const char *call, const void *from, struct comm *comm, int peer,
     if (me->has_finalized) refuse(call, "was called after MPI_Finalize");
     if (me->is_starting) return;
     me->place = (struct place){.call = call, .from = from, .comm = comm, .peer = peer, .tag = tag};
+    me->looks = 0;
     if (counts) plan_call();
 }
 
@@ -115,8 +116,10 @@ int MPI_Get_processor_name(char *name, int *length) {
     return MPI_SUCCESS;
 }
 
+/* In a run that is played the clock isn't asked: each call is a millisecond after the last one. */
 double MPI_Wtime(void) {
     struct timespec now;
+    if (is_played && me) return 1e-3 * (double)++me->times_asked;
     clock_gettime(CLOCK_MONOTONIC, &now);
     return (double)now.tv_sec + 1e-9 * (double)now.tv_nsec;
 }

@@ -15,8 +15,8 @@
 static pid_t launcher;
 
 void be_launcher(void) {
+    if (!launcher) atexit(remove_copies);
     launcher = getpid();
-    atexit(remove_copies);
 }
 
 /* Whether this process has the ranks, and isn't one that a rank forked: that ends as any process does. */
@@ -197,7 +197,13 @@ int kill(pid_t to, int number) {
 
 /* Ends the whole run, from any thread. */
 void end_run(int status) {
+    if (is_played && is_launcher()) end_schedule(status);   /* where a controller plays, it goes on */
     remove_copies();
+    leave_process(status);
+}
+
+/* Ends the process, whoever asks. */
+void leave_process(int status) {
     ending *end = (ending *)real("_exit");
     end(status);
     __builtin_unreachable();

@@ -3,9 +3,11 @@
 #include <stdlib.h>
 #include <string.h>
 
-static const char *const words_of_outcome[OUTCOMES] = {
-    "right", "not reached", "another status", "another output", "a rank failed that wasn't stopped", "nobody can move", "the time was over",
+static const char *const outcomes[OUTCOMES] = {
+    "right", "not reached", "another status", "another output", "a rank failed that wasn't stopped", "nobody can move", "looks that nobody ends", "the time was over",
     "an error was fatal", "the run was aborted", "a crash"};
+
+const char *words_of_outcome(enum outcome outcome) { return outcomes[outcome]; }
 
 /* A stop of the plan, as the command line has it. */
 void text_of_stop(const struct stop *stop, char *text, size_t room) {
@@ -49,16 +51,16 @@ static void first_difference(const char *base, const char *output, char *why, si
     else snprintf(why, room, ": '%.*s' is missing", missing, base);
 }
 
-/* How a run with a stop came out, compared with the one without, and why. */
+/* How a run with a stop came out, or without one, compared with how it should, and why. */
 enum outcome judge(const struct result *base, const struct result *result, const struct spot *spot, char *why, size_t room) {
     *why = 0;
     if (result->end != RIGHT) {
         snprintf(why, room, ":%s", result->detail);
         return result->end;
     }
-    if (result->fate[spot->rank] != STOPPED) return NOT_REACHED;
+    if (spot && result->fate[spot->rank] != STOPPED) return NOT_REACHED;
     for (int k = 0; k < options.ranks; k++) {
-        if (k == spot->rank || (base->fate[k] == STOPPED && result->fate[k] == STOPPED)) continue;
+        if ((spot && k == spot->rank) || (base->fate[k] == STOPPED && result->fate[k] == STOPPED)) continue;
         if (result->fate[k] != ENDED) {
             snprintf(why, room, ": rank %d", k);
             return FAILED;
@@ -78,7 +80,7 @@ void tell_outcome(const struct spot *spot, bool sends_wait, enum outcome outcome
     char stop[32];
     if (outcome == RIGHT && !options.all) return;
     snprintf(stop, sizeof stop, spot->inside ? "%d@%d.%d" : "%d@%d", spot->rank, spot->call, spot->inside);
-    printf("%-10s %-22s %-7s %s%s\n", stop, spot->name, sends_wait ? "wait" : "buffer", words_of_outcome[outcome], why);
+    printf("%-10s %-22s %-7s %s%s\n", stop, spot->name, sends_wait ? "wait" : "buffer", outcomes[outcome], why);
     tell_command(stdout, spot, sends_wait);
 }
 
@@ -91,7 +93,7 @@ void tell_counts(int counts[2][OUTCOMES]) {
         if (total) printf("%s: %d of %d places right", kind, counts[k][RIGHT], total);
         else printf("%s: not tried", kind);
         for (int outcome = 1; outcome < OUTCOMES; outcome++)
-            if (counts[k][outcome]) printf(", %d: %s", counts[k][outcome], words_of_outcome[outcome]);
+            if (counts[k][outcome]) printf(", %d: %s", counts[k][outcome], outcomes[outcome]);
         putchar('\n');
     }
 }

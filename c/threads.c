@@ -25,6 +25,7 @@ static void *begin(void *of) {
 int pthread_create(pthread_t *thread, const pthread_attr_t *attributes, starting *start, void *of) {
     creating *create = (creating *)dlsym(RTLD_NEXT, "pthread_create");
     struct rank *rank = me ? me : owner;
+    meet_thread(__builtin_return_address(0));
     struct beginning *beginning = rank ? malloc(sizeof *beginning) : 0;
     if (!beginning) return create(thread, attributes, start, of);
     *beginning = (struct beginning){start, of, rank};

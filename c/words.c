@@ -16,7 +16,11 @@ static const char usage[] =
     "  --stop R@K         rank R stops at its K-th call that begins something or waits\n"
     "  --stop R@K.J       it stops inside that call, at the J-th place: behind a message of a collective, or in a shrink or an agreement\n"
     "  --stop R@NAME:K    it stops at its K-th call of NAME, for example 2@MPI_Allreduce:3; NAME:K.J too\n"
-    "  --seed S           yields at calls, by the number S, so that schedules differ\n"
+    "  --yields S         threads let others go first at calls, by the number S, so that schedules differ\n"
+    "  --seed S           plays one schedule by chance, by the number S, the same each time\n"
+    "  --seeds N          plays N schedules by chance, by the numbers from 1 or from that of --seed on, and counts what comes out\n"
+    "  --keep FILE        with --seed: writes the schedule there, an event a line; with --seeds the first one that isn't right\n"
+    "  --schedule FILE    plays that schedule again\n"
     "  --sends wait       MPI_Send and MPI_Isend end as MPI_Ssend and MPI_Issend do\n"
     "  --timeout S        ends the run after S seconds\n"
     "  --tag              each line of output begins with its rank\n"
@@ -28,7 +32,8 @@ static const char usage[] =
     "  --version          tells the version\n"
     "\n"
     "Its status is 0 where each rank that wasn't stopped by plan ended with 0, else that of the first rank that did not. MPI_Abort: its code.\n"
-    "96: an error was fatal. 98: nobody could move any more. 99: the time was over. 128 + S: a rank crashed by signal S. 2: a wrong command line.\n";
+    "96: an error was fatal. 97: not the same again. 98: nobody could move any more. 99: the time was over.\n"
+    "128 + S: a rank crashed by signal S. 2: a wrong command line.\n";
 
 /* A word as a shell takes it, in memory that the caller frees; null where there is none. */
 char *quoted(const char *word) {
@@ -105,7 +110,11 @@ static bool read_value(const char *word, const char *value) {
     if (!strcmp(word, "--stop")) return read_stop(value);
     if (!strcmp(word, "--sends")) return (options.sends_wait = !strcmp(value, "wait")) || !strcmp(value, "buffer");
     if (!strcmp(word, "--timeout")) return read_seconds(value);
-    if (!strcmp(word, "--seed")) return read_number(value, 1, 2000000000, &number) && (options.seed = (uint64_t)number);
+    if (!strcmp(word, "--seed")) return read_number(value, 1, 2000000000, &number) && (options.seed = (uint64_t)number) && (is_played = true);
+    if (!strcmp(word, "--seeds")) return read_number(value, 1, 1000000000, &options.seeds) && (is_played = true);
+    if (!strcmp(word, "--yields")) return read_number(value, 1, 2000000000, &number) && (options.yields = (uint64_t)number);
+    if (!strcmp(word, "--schedule")) return (options.schedule = value) && (is_played = true);
+    if (!strcmp(word, "--keep")) return (options.keep = value) != 0;
     if (!strcmp(word, "--jobs")) return read_number(value, 1, 1024, &number) && (options.jobs = (int)number);
     if (!strcmp(word, "--rounds")) return read_number(value, 1, 65535, &number) && (options.rounds = (int)number);
     if (!strcmp(word, "--report")) return read_number(value, 0, 65535, &number) && (options.report = (int)number) >= 0;
@@ -118,6 +127,16 @@ static int refuse_option(const char *word, const char *value) {
     if (is_count && read_number(value, MAX_RANKS + 1, 1000000000, &wanted)) return refuse("8 ranks are the most, and not", value);
     fprintf(stderr, "ulfm-mpirun: '%s%s%s' isn't understood; --help tells how it is used\n", word, *value ? " " : "", value);
     return STATUS_USAGE;
+}
+
+/* Refuses options that don't go together; 0 where they do. */
+static int refuse_clash(void) {
+    const char *once = "--schedule plays one schedule again, which doesn't go with";
+    if (options.schedule && (options.seed || options.seeds)) return refuse(once, options.seeds ? "--seeds" : "--seed");
+    if (options.schedule && options.every_stop) return refuse(once, "--every-stop");
+    if (options.every_stop && options.seeds) return refuse("--every-stop plays each place once, which doesn't go with", "--seeds");
+    if (options.keep && (!is_played || options.every_stop)) return refuse("one schedule by chance is kept: --seed is missing, or too much stands beside", "--keep");
+    return 0;
 }
 
 /* Reads the command line into `options`. 0, or the status with which the launcher ends; -1: it ends with 0. */
@@ -139,6 +158,7 @@ int read_words(int count, char **words) {
     if (k == count) return refuse("a program is missing after", words[count - 1]);
     for (int stop = 0; stop < options.stops; stop++)
         if (options.stop[stop].rank >= options.ranks) return refuse("there are too few ranks for the stops, by", "-n");
+    if (refuse_clash()) return STATUS_USAGE;
     options.program = words[k];
     options.words = words + k + 1;
     options.count = count - k - 1;

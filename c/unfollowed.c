@@ -1,0 +1,145 @@
+/* What a controller doesn't follow: the clock, input, other processes and threads. Where a program uses it that is told, once for each kind, with the line.
+   The calls do what they do else. */
+#define _GNU_SOURCE
+#include "play.h"
+#include <dlfcn.h>
+#include <stdarg.h>
+#include <stdlib.h>
+#include <string.h>
+#include <sys/time.h>
+#include <time.h>
+#include <unistd.h>
+
+#define REAL(name) static __typeof__(name) *real_##name;  if (!real_##name) real_##name = (__typeof__(name) *)dlsym(RTLD_NEXT, #name)
+#define TELL(what) tell_unfollowed(what, __builtin_return_address(0))
+
+enum { MOST_NOTES = 32 };
+
+/* What was told, in memory that stays. */
+static struct notes {
+    int count;
+    const char *what[MOST_NOTES];
+    char text[MOST_NOTES][240];
+} *notes;
+
+bool begin_notes(void) { return (notes = shared_memory(sizeof *notes)) != 0; }
+
+void tell_notes(FILE *to) {
+    for (int k = 0; k < notes->count; k++) fputs(notes->text[k], to);
+}
+
+/* Told where it is met, or where many schedules are played below their table. */
+void tell_unfollowed(const char *what, const void *from) {
+    char line[120];
+    Dl_info info;
+    bool is_of_sanitizer = is_played && from && dladdr(from, &info) && strstr(info.dli_fname, "san.so");
+    if (!is_played || (!me && from) || is_of_sanitizer) return;
+    for (int k = 0; k < notes->count; k++)
+        if (notes->what[k] == what) return;
+    if (notes->count == MOST_NOTES) return;
+    char *text = notes->text[notes->count];
+    notes->what[notes->count++] = what;
+    size_t room = sizeof notes->text[0];
+    if (!from) snprintf(text, room, "ulfm-mpirun: a schedule %s: that isn't followed, so the next ones may differ\n", what);
+    else snprintf(text, room, "ulfm-mpirun: rank %d %s%s: that isn't followed, so another run of this schedule may differ\n", me->number, what,
+                  line_before(from, line, sizeof line));
+    if (!options.seeds) fputs(text, stderr);
+}
+
+int clock_gettime(clockid_t clock, struct timespec *time) {
+    REAL(clock_gettime);
+    TELL("asks the clock");
+    return real_clock_gettime(clock, time);
+}
+
+int gettimeofday(struct timeval *restrict time, void *restrict zone) {
+    REAL(gettimeofday);
+    TELL("asks the clock");
+    return real_gettimeofday(time, zone);
+}
+
+time_t time(time_t *at) {
+    REAL(time);
+    TELL("asks the clock");
+    return real_time(at);
+}
+
+clock_t clock(void) {
+    REAL(clock);
+    TELL("asks the clock");
+    return real_clock();
+}
+
+/* A process that a rank begins has no controller. */
+pid_t fork(void) {
+    REAL(fork);
+    TELL("begins a process");
+    pid_t pid = real_fork();
+    if (pid == 0 && me) is_played = false;
+    return pid;
+}
+
+int system(const char *command) {
+    REAL(system);
+    TELL("begins a process");
+    return real_system(command);
+}
+
+/* A rank begins a thread (threads.c). */
+void meet_thread(const void *from) {
+    tell_unfollowed("begins a thread", from);
+    if (is_played && me && options.seeds) refuse_seeds("a program with further threads is played once, by --seed");
+}
+
+/* ---- Input ---- */
+
+#define TELL_INPUT(file) if ((file) == stdin) TELL("reads input")
+
+ssize_t read(int file, void *bytes, size_t count) {
+    REAL(read);
+    if (file == 0) TELL("reads input");
+    return real_read(file, bytes, count);
+}
+
+char *fgets(char *text, int room, FILE *file) {
+    REAL(fgets);
+    TELL_INPUT(file);
+    return real_fgets(text, room, file);
+}
+
+size_t fread(void *bytes, size_t size, size_t count, FILE *file) {
+    REAL(fread);
+    TELL_INPUT(file);
+    return real_fread(bytes, size, count, file);
+}
+
+int fgetc(FILE *file) {
+    REAL(fgetc);
+    TELL_INPUT(file);
+    return real_fgetc(file);
+}
+
+#undef getc
+#undef getchar
+int getc(FILE *file) {
+    REAL(fgetc);
+    TELL_INPUT(file);
+    return real_fgetc(file);
+}
+
+int getchar(void) {
+    REAL(fgetc);
+    TELL_INPUT(stdin);
+    return real_fgetc(stdin);
+}
+
+#define SCAN(file) \
+    TELL_INPUT(file); \
+    va_list words; \
+    va_start(words, format); \
+    int count = vfscanf(file, format, words); \
+    va_end(words); \
+    return count
+
+int __isoc99_scanf(const char *format, ...) { SCAN(stdin); }
+int __isoc99_fscanf(FILE *file, const char *format, ...) { SCAN(file); }
