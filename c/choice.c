@@ -1,6 +1,6 @@
 /* The calls of the engine as the layer makes them (the linker's --wrap). Where a run is played, each one that others may see, or whose answer depends on
    what came, is an event: the rank gives the processor to the controller, which chooses when it goes on. What it sends goes out at once. */
-#include "play.h"
+#include "search.h"
 
 struct player players[MAX_RANKS];
 
@@ -51,6 +51,7 @@ static void stand_before(struct event call, uint64_t look) {
         to_controller();
     }
     own->is_granted = own->is_first = false;
+    if (footprints) begin_call(&call);
 }
 
 static struct event event_of(enum kind_of_event kind, uint32_t comm, uint32_t peer, uint32_t tag) {
@@ -68,6 +69,7 @@ static void before(struct event call) {
    something came since the rank began to look: then all of it is looked at, anew, and this look finds nothing more. */
 static bool before_look(struct event call, uint64_t request, bool is_vain) {
     struct player *own = &players[me->number];
+    if (footprints && own->in_wait && is_vain) note_silent(&call);
     if (own->in_wait && (is_vain || own->looks_anew)) return false;
     bool is_first = own->is_first;
     int taken = own->taken;
@@ -85,6 +87,12 @@ static void push(ulfm_slot *slot) {
     ulfm_push(slot, &moved);
 }
 
+static uint32_t bits_of_group(const ulfm_group *group) {
+    uint32_t bits = 0;
+    for (uint32_t k = 0; k < group->size; k++) bits |= 1u << group->members[k];
+    return bits;
+}
+
 #define REAL(name) __typeof__(ulfm_##name) __real_ulfm_##name, __wrap_ulfm_##name
 
 REAL(isend);
@@ -92,6 +100,7 @@ uint32_t __wrap_ulfm_isend(ulfm_slot *slot, uint32_t comm, uint32_t dest, uint32
     if (!is_played) return __real_ulfm_isend(slot, comm, dest, tag, body, length);
     before(event_of(SENDS, comm, dest, tag));
     uint32_t code = __real_ulfm_isend(slot, comm, dest, tag, body, length);
+    if (footprints) end_send(dest, code);
     push(slot);
     return code;
 }
@@ -99,7 +108,9 @@ uint32_t __wrap_ulfm_isend(ulfm_slot *slot, uint32_t comm, uint32_t dest, uint32
 REAL(irecv);
 uint32_t __wrap_ulfm_irecv(ulfm_slot *slot, uint32_t comm, uint32_t source, uint32_t tag, uint32_t room, uint64_t *request) {
     if (is_played) before(event_of(POSTS, comm, source, tag));
-    return __real_ulfm_irecv(slot, comm, source, tag, room, request);
+    uint32_t code = __real_ulfm_irecv(slot, comm, source, tag, room, request);
+    if (footprints) end_post(source, *request, code);
+    return code;
 }
 
 REAL(test);
@@ -109,6 +120,7 @@ uint32_t __wrap_ulfm_test(ulfm_slot *slot, uint64_t request, ulfm_status *status
     if (players[me->number].in_wait && ulfm_would(slot, request, &would) != ULFM_OK) would = ULFM_OK;
     if (!before_look(event_of(TESTS, 0, NOBODY, (uint32_t)request), request, would == ULFM_NOT_YET)) return ULFM_NOT_YET;
     uint32_t code = __real_ulfm_test(slot, request, status, body, size);
+    if (footprints) end_look(request, code, status);
     if (code == ULFM_OK) forget_looks(&players[me->number]);
     return code;
 }
@@ -116,7 +128,9 @@ uint32_t __wrap_ulfm_test(ulfm_slot *slot, uint64_t request, ulfm_status *status
 REAL(cancel);
 uint32_t __wrap_ulfm_cancel(ulfm_slot *slot, uint64_t request, ulfm_status *status, uint8_t *body, size_t size) {
     if (is_played) before(event_of(CANCELS, 0, NOBODY, (uint32_t)request));
-    return __real_ulfm_cancel(slot, request, status, body, size);
+    uint32_t code = __real_ulfm_cancel(slot, request, status, body, size);
+    if (footprints) end_look(request, code, status);
+    return code;
 }
 
 REAL(iprobe);
@@ -124,7 +138,9 @@ uint32_t __wrap_ulfm_iprobe(ulfm_slot *slot, uint32_t comm, uint32_t source, uin
     if (!is_played) return __real_ulfm_iprobe(slot, comm, source, tag, status);
     bool is_vain = players[me->number].in_wait && __real_ulfm_iprobe(slot, comm, source, tag, status) == ULFM_NOT_YET;
     if (!before_look(event_of(PROBES, comm, source, tag), 0, is_vain)) return ULFM_NOT_YET;
-    return __real_ulfm_iprobe(slot, comm, source, tag, status);
+    uint32_t code = __real_ulfm_iprobe(slot, comm, source, tag, status);
+    if (footprints) end_probe(source, code, false);
+    return code;
 }
 
 REAL(improbe);
@@ -133,6 +149,7 @@ uint32_t __wrap_ulfm_improbe(ulfm_slot *slot, uint32_t comm, uint32_t source, ui
     bool is_vain = players[me->number].in_wait && __real_ulfm_iprobe(slot, comm, source, tag, status) == ULFM_NOT_YET;
     if (!before_look(event_of(PROBES, comm, source, tag), 1, is_vain)) return ULFM_NOT_YET;
     uint32_t code = __real_ulfm_improbe(slot, comm, source, tag, message, status);
+    if (footprints) end_probe(source, code, true);
     if (code == ULFM_OK) forget_looks(&players[me->number]);
     return code;
 }
@@ -142,6 +159,7 @@ uint32_t __wrap_ulfm_revoke(ulfm_slot *slot, uint32_t comm) {
     if (!is_played) return __real_ulfm_revoke(slot, comm);
     before(event_of(REVOKES, comm, NOBODY, ULFM_ANY));
     uint32_t code = __real_ulfm_revoke(slot, comm);
+    if (footprints) end_revoke(code != ULFM_OK || is_known_revoked(me->number, comm));
     if (code == ULFM_OK) note_revoked(me->number, comm);
     push(slot);
     return code;
@@ -149,30 +167,37 @@ uint32_t __wrap_ulfm_revoke(ulfm_slot *slot, uint32_t comm) {
 
 REAL(is_revoked);
 uint32_t __wrap_ulfm_is_revoked(ulfm_slot *slot, uint32_t comm, uint32_t *answer) {
-    if (is_played) before_look(event_of(ASKS_REVOKED, comm, NOBODY, ULFM_ANY), 0, !is_known_revoked(me->number, comm));
+    bool is_event = is_played && before_look(event_of(ASKS_REVOKED, comm, NOBODY, ULFM_ANY), 0, !is_known_revoked(me->number, comm));
     uint32_t code = __real_ulfm_is_revoked(slot, comm, answer);
     if (is_played && players[me->number].looks_anew) *answer = 0;
+    if (footprints && is_event) end_question(*answer);
     return code;
 }
 
 REAL(get_failed);
 uint32_t __wrap_ulfm_get_failed(ulfm_slot *slot, uint32_t comm, ulfm_group *failed) {
-    if (is_played) before_look(event_of(ASKS_FAILED, comm, NOBODY, ULFM_ANY), 0, true);
+    bool is_event = is_played && before_look(event_of(ASKS_FAILED, comm, NOBODY, ULFM_ANY), 0, true);
     uint32_t code = __real_ulfm_get_failed(slot, comm, failed);
     if (is_played && players[me->number].looks_anew) failed->size = 0;
+    if (footprints && is_event) end_question(bits_of_group(failed));
     return code;
 }
 
 REAL(ack_failed);
 uint32_t __wrap_ulfm_ack_failed(ulfm_slot *slot, uint32_t comm, uint32_t count, uint32_t *total) {
-    if (is_played) before_look(event_of(ACKNOWLEDGES, comm, NOBODY, ULFM_ANY), count, false);
-    return __real_ulfm_ack_failed(slot, comm, count, total);
+    bool is_event = is_played && before_look(event_of(ACKNOWLEDGES, comm, NOBODY, ULFM_ANY), count, false);
+    uint32_t code = __real_ulfm_ack_failed(slot, comm, count, total);
+    if (footprints && is_event) end_question(*total);
+    return code;
 }
 
 REAL(dup);
 uint32_t __wrap_ulfm_dup(ulfm_slot *slot, uint32_t comm, uint32_t *made) {
-    if (is_played && me->has_begun) before(event_of(DUPLICATES, comm, NOBODY, ULFM_ANY));   /* nothing comes before MPI_Init is over */
-    return __real_ulfm_dup(slot, comm, made);
+    bool is_event = is_played && me->has_begun;   /* nothing comes before MPI_Init is over */
+    if (is_event) before(event_of(DUPLICATES, comm, NOBODY, ULFM_ANY));
+    uint32_t code = __real_ulfm_dup(slot, comm, made);
+    if (footprints && is_event) end_question(code);
+    return code;
 }
 
 REAL(enter_shrink);
@@ -180,7 +205,8 @@ uint32_t __wrap_ulfm_enter_shrink(ulfm_slot *slot, uint32_t comm) {
     if (!is_played) return __real_ulfm_enter_shrink(slot, comm);
     before(event_of(ENTERS_SHRINK, comm, NOBODY, ULFM_ANY));
     uint32_t code = __real_ulfm_enter_shrink(slot, comm);
-    if (code == ULFM_OK) note_entry(me->number, comm, false);
+    if (code == ULFM_OK) note_entry(me->number, comm, false, 0);
+    if (footprints) end_entry(false, 0, code);
     push(slot);
     return code;
 }
@@ -190,26 +216,31 @@ uint32_t __wrap_ulfm_enter_agree(ulfm_slot *slot, uint32_t comm, uint32_t flag) 
     if (!is_played) return __real_ulfm_enter_agree(slot, comm, flag);
     before(event_of(ENTERS_AGREE, comm, NOBODY, ULFM_ANY));
     uint32_t code = __real_ulfm_enter_agree(slot, comm, flag);
-    if (code == ULFM_OK) note_entry(me->number, comm, true);
+    if (code == ULFM_OK) note_entry(me->number, comm, true, flag);
+    if (footprints) end_entry(true, flag, code);
     push(slot);
     return code;
 }
 
 REAL(poll_shrink);
 uint32_t __wrap_ulfm_poll_shrink(ulfm_slot *slot, uint32_t comm, uint32_t *made) {
-    bool is_vain = is_played && !has_heard_all(me->number, comm, false);
-    if (is_played && !before_look(event_of(POLLS_SHRINK, comm, NOBODY, ULFM_ANY), 0, is_vain)) return ULFM_NOT_YET;
+    if (!is_played) return __real_ulfm_poll_shrink(slot, comm, made);
+    if (!before_look(event_of(POLLS_SHRINK, comm, NOBODY, ULFM_ANY), 0, !has_heard_all(me->number, comm, false))) return ULFM_NOT_YET;
+    struct proposal own = proposal_of(me->number, comm, false);
     uint32_t code = __real_ulfm_poll_shrink(slot, comm, made);
-    if (is_played && code == ULFM_OK) forget_looks(&players[me->number]);
+    if (footprints) end_poll(false, &own, code);
+    if (code == ULFM_OK) forget_looks(&players[me->number]);
     return code;
 }
 
 REAL(poll_agree);
 uint32_t __wrap_ulfm_poll_agree(ulfm_slot *slot, uint32_t comm, uint32_t *value, ulfm_group *missing) {
-    bool is_vain = is_played && !has_heard_all(me->number, comm, true);
-    if (is_played && !before_look(event_of(POLLS_AGREE, comm, NOBODY, ULFM_ANY), 0, is_vain)) return ULFM_NOT_YET;
+    if (!is_played) return __real_ulfm_poll_agree(slot, comm, value, missing);
+    if (!before_look(event_of(POLLS_AGREE, comm, NOBODY, ULFM_ANY), 0, !has_heard_all(me->number, comm, true))) return ULFM_NOT_YET;
+    struct proposal own = proposal_of(me->number, comm, true);
     uint32_t code = __real_ulfm_poll_agree(slot, comm, value, missing);
-    if (is_played && code == ULFM_OK) forget_looks(&players[me->number]);
+    if (footprints) end_poll(true, &own, code == ULFM_OK ? *value ^ bits_of_group(missing) << 24 : code);
+    if (code == ULFM_OK) forget_looks(&players[me->number]);
     return code;
 }
 
@@ -219,6 +250,7 @@ uint32_t __wrap_ulfm_stop(ulfm_slot *slot) {
     before(event_of(STOPS, 0, NOBODY, ULFM_ANY));
     uint32_t code = __real_ulfm_stop(slot);
     players[me->number].has_stopped = true;
+    if (footprints) end_stop();
     push(slot);
     return code;
 }

@@ -1,6 +1,6 @@
 /* The controller of a played run: what may happen next, and that it happens. */
 #define _GNU_SOURCE
-#include "play.h"
+#include "search.h"
 #include <setjmp.h>
 
 ulfm_next_item heads[MAX_RANKS][MAX_RANKS];
@@ -15,6 +15,7 @@ void look_as_played(void) {
     if (own->taken == own->taken_before) return;
     bool was_in_wait = own->in_wait;
     own->in_wait = true;
+    if (!was_in_wait) forget_silent(me->number);
     do {
         own->is_first = true;
         own->looks_anew = false;
@@ -39,6 +40,7 @@ void wait_as_played(bool (*is_done)(void *, bool is_settled), void *of) {
     for (;;) {
         own->taken_at_wait = own->taken;
         own->marks_at_wait = count_of_marks();
+        forget_silent(me->number);
         look_as_played();
         own->is_first = true;
         own->looks_anew = false;
@@ -112,8 +114,10 @@ int list_choices(struct event *choices) {
 static void take(const struct event *event) {
     struct rank *rank = &ranks[event->rank];
     uint32_t took = 0, moved;
+    bool was_revoked = is_known_revoked(event->rank, event->comm);
     note_item(event->rank, event->peer, &heads[event->peer][event->rank]);
     ulfm_take(&rank->home, event->peer, &took);
+    if (footprints) note_taken(event, was_revoked);
     ulfm_push(&rank->home, &moved);   /* word of a revocation is handed on */
     ulfm_push(&ranks[event->peer].home, &moved);   /* what found no place before */
     players[event->rank].taken++;
@@ -122,8 +126,10 @@ static void take(const struct event *event) {
 }
 
 void perform(const struct event *event) {
+    if (footprints) begin_footprint(event);
     if (event->kind == TAKES) take(event);
     else resume(event->rank);
     look_ahead(event->rank);
     settle();
+    step++;
 }

@@ -76,7 +76,7 @@ static void crashed(int number, siginfo_t *told, void *context) {
     if (!is_first && !pthread_equal(crashed_thread, pthread_self())) for (;;) pause();
     crashed_thread = pthread_self();
     is_crashed = 1;
-    if (is_first && rank && !options.seeds) find_spot(rank, address_of(context), &spot);
+    if (is_first && rank && !options.seeds && !options.limit) find_spot(rank, address_of(context), &spot);
     const char *words = words_of_signal(number, me, told->si_addr);
     if (!rank) length = snprintf(line, sizeof line, "ulfm-mpirun: crashed by signal %d (%s)\n", number, words);
     else if (!me) length = snprintf(line, sizeof line, "ulfm-mpirun: a further thread of rank %d crashed by signal %d (%s)%s\n", rank->number, number, words, spot.line);

@@ -97,9 +97,9 @@ bool begin_record(void) {
 }
 
 /* Writes the file of a schedule, with the command that it is of. False where it can't be written. */
-bool keep_schedule(void) {
+bool keep_schedule(const char *path) {
     char text[LINE];
-    FILE *file = fopen(options.keep, "w");
+    FILE *file = fopen(path, "w");
     if (!file) return false;
     fputs("#", file);
     tell_command(file, 0, options.sends_wait);

@@ -3,9 +3,11 @@
 #define _GNU_SOURCE
 #include "every.h"
 #include <sched.h>
+#include <signal.h>
 #include <stdlib.h>
 #include <string.h>
 #include <sys/wait.h>
+#include <time.h>
 #include <unistd.h>
 
 /* One kind of sends: the run without a stop, and its places. */
@@ -14,6 +16,7 @@ struct kind_of_sends {
     struct result base;
     struct spot *spots;
     int count;
+    struct found *found;   /* of --every-schedule: what the search at each place found; else null */
 };
 
 static struct job *jobs;
@@ -22,6 +25,12 @@ static int job_count, counts[2][OUTCOMES];
 static int processors(void) {
     cpu_set_t set;
     return sched_getaffinity(0, sizeof set, &set) == 0 ? CPU_COUNT(&set) : 1;
+}
+
+static bool make_jobs(void) {
+    job_count = options.jobs ? options.jobs : processors();
+    jobs = calloc((size_t)job_count, sizeof *jobs);
+    return jobs != 0;
 }
 
 /* Waits until a job ends. Its place in the table, or -1 where there is none. */
@@ -58,6 +67,12 @@ static bool run_base(struct kind_of_sends *kind, const char *launcher) {
 static void end_job(struct job *job, const struct kind_of_sends *kind) {
     struct result result;
     char why[600];
+    if (kind->found) {
+        read_found(job, &kind->found[job->spot]);
+        close_job(job);
+        job->pid = 0;
+        return;
+    }
     read_result(job, &result);
     enum outcome outcome = judge(&kind->base, &result, &kind->spots[job->spot], why, sizeof why);
     counts[job->sends_wait][outcome]++;
@@ -67,13 +82,48 @@ static void end_job(struct job *job, const struct kind_of_sends *kind) {
     job->pid = 0;
 }
 
+/* ---- --every-schedule ---- */
+
+static volatile sig_atomic_t is_interrupted;
+static time_t begun;
+
+/* What is known is told when the searches that run have ended, which they do soon. */
+static void interrupt(int number) { is_interrupted = number; }
+
+static void interrupt_jobs(void) {
+    for (int k = 0; k < job_count; k++)
+        if (jobs[k].pid > 0) kill(jobs[k].pid, SIGINT);
+}
+
+/* How far it is, on a terminal. */
+static void tell_progress(int done, int count) {
+    long spent = (long)(time(0) - begun);
+    if (!isatty(2)) return;
+    if (done < count) fprintf(stderr, "\r%d of %d places, %ld s, about %ld s more ", done, count, spent, done ? spent * (count - done) / done : 0);
+    else fprintf(stderr, "\r%60s\r", "");
+}
+
+/* The program as it stands, before its places: a place of no rank. */
+static bool add_no_stop(struct kind_of_sends *kind) {
+    struct spot *spots = calloc((size_t)kind->count + 1, sizeof *spots);
+    if (!spots) return false;
+    spots[0] = (struct spot){.rank = -1, .name = "without a stop"};
+    if (kind->count) memcpy(&spots[1], kind->spots, (size_t)kind->count * sizeof *spots);
+    free(kind->spots);
+    kind->spots = spots;
+    kind->count = options.search_stops ? kind->count + 1 : 1;
+    kind->found = calloc((size_t)kind->count, sizeof *kind->found);
+    return kind->found != 0;
+}
+
 /* Runs the program for each place, `job_count` at the same time. */
 static bool run_spots(const struct kind_of_sends *kind, const char *launcher) {
     int next = 0, running = 0;
-    while (next < kind->count || running > 0) {
+    while ((next < kind->count && !is_interrupted) || running > 0) {
         int free_job = 0;
         while (free_job < job_count && jobs[free_job].pid) free_job++;
-        if (next < kind->count && free_job < job_count) {
+        if (kind->found) tell_progress(next - running, kind->count);
+        if (next < kind->count && free_job < job_count && !is_interrupted) {
             jobs[free_job] = (struct job){.spot = next, .sends_wait = kind->sends_wait};
             if (!start_job(&jobs[free_job], launcher, &kind->spots[next])) return false;
             next++;
@@ -81,6 +131,7 @@ static bool run_spots(const struct kind_of_sends *kind, const char *launcher) {
             continue;
         }
         int done = wait_for_job();
+        if (is_interrupted) interrupt_jobs();
         if (done < 0) continue;
         end_job(&jobs[done], kind);
         running--;
@@ -88,12 +139,34 @@ static bool run_spots(const struct kind_of_sends *kind, const char *launcher) {
     return true;
 }
 
+/* Searches all schedules of the program, and at each place of a stop. */
+int every_schedule(const char *launcher) {
+    struct kind_of_sends kind = {.sends_wait = options.sends_wait};
+    struct sigaction action = {.sa_handler = interrupt};   /* it ends a wait */
+    if (!options.limit) options.limit = LIMIT;
+    if (!make_jobs()) return STATUS_USAGE;
+    if (!options.search_stops || !run_base(&kind, launcher)) kind.count = 0;
+    if (!add_no_stop(&kind)) return STATUS_USAGE;
+    sigaction(SIGINT, &action, 0);
+    begun = time(0);
+    printf(kind.count == 1 ? "%d place, at most %ld schedules\n" : "%d places, at most %ld schedules at each\n", kind.count, options.limit);
+    fflush(stdout);
+    if (!run_spots(&kind, launcher)) return STATUS_USAGE;
+    tell_progress(kind.count, kind.count);
+    int status = tell_all_found(kind.spots, kind.found, kind.count);
+    for (int k = 0; k < kind.count; k++) free(kind.found[k].endings);
+    free(kind.found);
+    free(kind.spots);
+    free(kind.base.output);
+    free(jobs);
+    fflush(stdout);
+    return status;
+}
+
 /* 0: each stop that was reached came out right. 1: not so. 2: it couldn't be tried. */
 int every_stop(const char *launcher) {
     bool is_well = true;
-    job_count = options.jobs ? options.jobs : processors();
-    jobs = calloc((size_t)job_count, sizeof *jobs);
-    if (!jobs) return STATUS_USAGE;
+    if (!make_jobs()) return STATUS_USAGE;
     printf("%-10s %-22s %-7s %s\n", "stop", "call", "sends", "what came out");
     for (int k = 0; k < 2; k++) {
         struct kind_of_sends kind = {.sends_wait = k};

@@ -31,6 +31,31 @@ struct job {
     int files[3];               /* what it writes to standard output, to standard error, and for the table */
 };
 
+/* What the search at a place found. */
+struct found_ending {
+    enum outcome outcome;
+    long count;
+    int number;                 /* of the file that has such a schedule */
+    char why[600];
+};
+struct found {
+    bool is_there, is_whole;    /* all schedules were searched */
+    long searched, played, unseen;   /* played: by chance too. unseen: by chance, and not among those that were searched */
+    struct found_ending *endings;
+    int count;
+    char other[300];            /* where the program didn't do the same again */
+    char note[300];             /* what of it isn't followed: the first thing */
+};
+
+/* Whether it is a place, and not the program without a further stop. */
+static inline bool is_place(const struct spot *spot) { return spot && spot->rank >= 0; }
+
+/* places.c */
+void path_of_schedule(const struct spot *spot, int number, char *path, size_t room);
+void read_found(const struct job *job, struct found *found);
+bool is_right(const struct found *found);
+int tell_all_found(const struct spot *spots, const struct found *found, int count);
+
 /* jobs.c */
 bool start_job(struct job *job, const char *launcher, const struct spot *spot);
 void read_report(char *text, struct result *result);

@@ -8,7 +8,30 @@
 #include <sys/prctl.h>
 #include <unistd.h>
 
-enum { MOST_WORDS = 24 + 2 * MAX_STOPS, TEXTS = 6 + MAX_STOPS, SECONDS = 60 };
+enum { MOST_WORDS = 32 + 2 * MAX_STOPS, TEXTS = 8 + MAX_STOPS, SECONDS = 60 };
+
+/* The words of a search at a place, or of a first run without one: how many there are. */
+static int words_of_search(char *words[], char texts[][64], const struct spot *spot) {
+    static char path[512];
+    int count = 0;
+    if (!spot) {
+        words[count++] = "--seed";
+        words[count++] = "1";
+        return count;
+    }
+    path_of_schedule(spot, 1, path, sizeof path);
+    snprintf(texts[0], 64, "%ld", options.limit);
+    snprintf(texts[1], 64, "%ld", options.checks);
+    words[count++] = "--search";
+    words[count++] = texts[0];
+    words[count++] = "--keep";
+    words[count++] = path;
+    if (options.checks) {
+        words[count++] = "--checks";
+        words[count++] = texts[1];
+    }
+    return count;
+}
 
 /* Fills in the words of a run, before those of the program: how many there are. */
 static int words_of(char *words[], const char *launcher, char texts[][64], const struct job *job, const struct spot *spot) {
@@ -26,16 +49,17 @@ static int words_of(char *words[], const char *launcher, char texts[][64], const
     snprintf(texts[1], 64, "%d", job->files[2]);
     snprintf(texts[2], 64, "%g", options.timeout > 0 ? options.timeout : (double)SECONDS);
     snprintf(texts[3], 64, "%d", options.rounds);
-    if (spot) {
+    if (is_place(spot)) {
         words[count++] = "--stop";
         words[count++] = texts[4];
         snprintf(texts[4], 64, spot->inside ? "%d@%d.%d" : "%d@%d", spot->rank, spot->call, spot->inside);
     }
     for (int k = 0; k < options.stops; k++) {
         words[count++] = "--stop";
-        words[count++] = texts[6 + k];
-        text_of_stop(&options.stop[k], texts[6 + k], 64);
+        words[count++] = texts[8 + k];
+        text_of_stop(&options.stop[k], texts[8 + k], 64);
     }
+    if (options.every_schedule) count += words_of_search(&words[count], &texts[6], spot);
     if (options.seed) {
         words[count++] = "--seed";
         words[count++] = texts[5];
@@ -59,6 +83,7 @@ static void become(pid_t parent, const struct job *job, const char *launcher, co
     dup2(none, 0);
     dup2(job->files[0], 1);
     dup2(job->files[1], 2);
+    fcntl(job->files[2], F_SETFD, 0);
     execv("/proc/self/exe", words);
     _exit(STATUS_USAGE);
 }
@@ -66,7 +91,7 @@ static void become(pid_t parent, const struct job *job, const char *launcher, co
 /* Starts a run with a stop, or with none. False where no process can be had. */
 bool start_job(struct job *job, const char *launcher, const struct spot *spot) {
     for (int k = 0; k < 3; k++) {
-        job->files[k] = memfd_create("ulfm-run", 0);
+        job->files[k] = memfd_create("ulfm-run", MFD_CLOEXEC);
         if (job->files[k] < 0) {
             fprintf(stderr, "ulfm-mpirun: no file for a run\n");
             return false;

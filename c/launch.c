@@ -33,7 +33,7 @@ void report(const char *format, ...) {
     static pthread_mutex_t lock = PTHREAD_MUTEX_INITIALIZER;
     char line[160];
     va_list words;
-    if (options.report < 0 && !options.seeds) return;
+    if (options.report < 0 && !options.seeds && !options.limit) return;
     va_start(words, format);
     int length = vsnprintf(line, sizeof line, format, words);
     va_end(words);
@@ -201,6 +201,7 @@ static int run_threads(void) {
 int ulfm_mpirun(int count, char **words) {
     int refused = read_words(count, words);
     if (refused) return refused < 0 ? 0 : refused;
+    if (options.every_schedule) return every_schedule(words[0]);
     if (options.every_stop) return every_stop(words[0]);
     if (is_played) fix_addresses(words);
     be_launcher();

@@ -49,4 +49,4 @@ char *line_before(const void *at, char *text, size_t room) {
 }
 
 /* That of the rank's present call; of many schedules it isn't wanted. */
-char *line_of(const struct rank *rank, char *text, size_t room) { return line_before(options.seeds ? 0 : rank->place.from, text, room); }
+char *line_of(const struct rank *rank, char *text, size_t room) { return line_before(options.seeds || options.limit ? 0 : rank->place.from, text, room); }

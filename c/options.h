@@ -5,10 +5,10 @@
 #include <stdbool.h>
 #include <stdint.h>
 
-enum { MAX_STOPS = 16, ROUNDS = 1024 };
+enum { MAX_STOPS = 16, ROUNDS = 1024, LIMIT = 10000 };
 
 /* Statuses of ulfm-mpirun besides those of programs. */
-enum { STATUS_USAGE = 2, STATUS_FATAL = 96, STATUS_OTHER = 97, STATUS_STUCK = 98, STATUS_LATE = 99 };
+enum { STATUS_USAGE = 2, STATUS_LIMIT = 3, STATUS_FATAL = 96, STATUS_OTHER = 97, STATUS_STUCK = 98, STATUS_LATE = 99 };
 
 /* A stop of the plan. */
 struct stop {
@@ -24,9 +24,11 @@ struct options {
     uint64_t yields;          /* how threads let others go first; 0: not at all */
     uint64_t seed;            /* of a schedule by chance */
     long seeds;               /* so many of them */
+    bool search_stops;        /* --every-schedule: with a stop at each place too */
+    long limit, checks;       /* of a search: at most so many schedules; and then so many by chance, to look whether it saw all */
     const char *schedule, *keep;   /* files: of a schedule that is played again, and where one is kept */
     double timeout;
-    bool sends_wait, tag, every_stop, same_output, all;
+    bool sends_wait, tag, every_stop, every_schedule, same_output, all;
     bool is_alone;   /* the program was started by itself */
     int jobs, report, capacity, rounds;
     const char *program;

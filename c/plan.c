@@ -50,7 +50,7 @@ static void look_at_plan(void) {
 void plan_call(void) {
     me->calls++;
     me->insides = 0;
-    if (options.report >= 0) report("call %d %d %s\n", me->number, me->calls, me->place.call);
+    if (options.report >= 0 && !options.limit) report("call %d %d %s\n", me->number, me->calls, me->place.call);
     vary();
     look_at_plan();
 }
@@ -58,6 +58,6 @@ void plan_call(void) {
 /* A place inside the call is reached. */
 void plan_inside(void) {
     me->insides++;
-    if (options.report >= 0) report("inside %d %d %d\n", me->number, me->calls, me->insides);
+    if (options.report >= 0 && !options.limit) report("inside %d %d %d\n", me->number, me->calls, me->insides);
     look_at_plan();
 }

@@ -56,9 +56,10 @@ bool looks_again(struct player *player);
 void forget_looks(struct player *player);
 
 /* heard.c */
-void note_entry(int rank, uint32_t comm, bool agrees);
+void note_entry(int rank, uint32_t comm, bool agrees, uint32_t flag);
 void note_revoked(int rank, uint32_t comm);
 void note_item(int rank, int from, const ulfm_next_item *item);
+bool knows_failed(int rank, int other);
 bool is_known_revoked(int rank, uint32_t comm);
 bool has_heard_all(int rank, uint32_t comm, bool agrees);
 
@@ -85,6 +86,10 @@ bool begin_outside(void);
 void note_outside(void);
 void put_back_outside(void);
 
+/* explore.c */
+int explore(void);
+bool is_searching(void);
+
 /* seeds.c */
 int play_seeds(void);
 void refuse_seeds(const char *why) __attribute__((noreturn));
@@ -95,7 +100,7 @@ bool open_schedule(void);
 int choose_by_schedule(const struct event *choices, int count);
 bool begin_record(void);
 void record(const struct event *event);
-bool keep_schedule(void);
+bool keep_schedule(const char *path);
 
 /* unfollowed.c */
 bool begin_notes(void);

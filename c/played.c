@@ -1,6 +1,6 @@
 /* A run that is played: by chance from a seed, or again by a file. */
 #define _GNU_SOURCE
-#include "play.h"
+#include "search.h"
 #include <setjmp.h>
 #include <signal.h>
 #include <stdlib.h>
@@ -79,16 +79,24 @@ static void tell_end(void) {
     tell_stuck();
 }
 
-/* Plays events until nothing can happen. */
+static int choose(const struct event *choices, int count) {
+    if (is_searching()) return choose_by_search(choices, count);
+    return options.schedule ? choose_by_schedule(choices, count) : choose_by_chance(count);
+}
+
+/* Plays events until nothing can happen. A search wants what comes when all ranks have ended too: it might have come before. */
 static void play_schedule(void) {
     struct event choices[MOST_CHOICES];
-    for (int count; !have_all_ended() && (count = list_choices(choices)) > 0;) {
-        int choice = options.schedule ? choose_by_schedule(choices, count) : choose_by_chance(count);
+    for (int count; (footprints || !have_all_ended()) && (count = list_choices(choices)) > 0;) {
+        int choice = choose(choices, count);
         if (choice < 0) break;
         record(&choices[choice]);
         perform(&choices[choice]);
+        if (is_searching() && !note_step()) break;
+        if (footprints && step == MOST_STEPS - 1) break;
         if (alarms) tell_late();
     }
+    if (is_searching() && cut_of_search() != NOT_CUT) return;
     if (!have_all_ended()) tell_end();
 }
 
@@ -111,6 +119,7 @@ int play_once(void) {
 int play(void) {
     set_alarm();
     if (!begin_notes() || (options.keep && !begin_record())) return STATUS_USAGE;
+    if (options.limit) return explore();
     if (options.seeds) return play_seeds();
     if (options.schedule && !open_schedule()) return STATUS_USAGE;
     begin_chance(options.seed);
@@ -119,7 +128,7 @@ int play(void) {
         return STATUS_USAGE;
     }
     int status = play_once();
-    if (options.keep && !keep_schedule()) fprintf(stderr, "ulfm-mpirun: %s can't be written\n", options.keep);
+    if (options.keep && !keep_schedule(options.keep)) fprintf(stderr, "ulfm-mpirun: %s can't be written\n", options.keep);
     if (status >= 0) end_run(status);
     return close_run();
 }

@@ -27,6 +27,7 @@ void remove_copies(void);
 extern volatile sig_atomic_t is_crashed;
 int run_program(struct rank *rank);
 int every_stop(const char *launcher);
+int every_schedule(const char *launcher);
 int ulfm_mpirun(int count, char **words);
 void end_run(int status) __attribute__((noreturn));
 void handle_signals(void);

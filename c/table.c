@@ -24,7 +24,7 @@ static void tell_word(FILE *to, const char *word) {
 /* Writes the command that repeats a run. */
 void tell_command(FILE *to, const struct spot *spot, bool sends_wait) {
     fprintf(to, "           ulfm-mpirun -n %d", options.ranks);
-    if (spot) fprintf(to, spot->inside ? " --stop %d@%d.%d" : " --stop %d@%d", spot->rank, spot->call, spot->inside);
+    if (is_place(spot)) fprintf(to, spot->inside ? " --stop %d@%d.%d" : " --stop %d@%d", spot->rank, spot->call, spot->inside);
     for (int k = 0; k < options.stops; k++) {
         char text[80];
         text_of_stop(&options.stop[k], text, sizeof text);
@@ -32,6 +32,10 @@ void tell_command(FILE *to, const struct spot *spot, bool sends_wait) {
     }
     if (sends_wait) fprintf(to, " --sends wait");
     if (options.seed) fprintf(to, " --seed %llu", (unsigned long long)options.seed);
+    if (options.schedule) {
+        fputs(" --schedule", to);
+        tell_word(to, options.schedule);
+    }
     if (options.rounds != ROUNDS) fprintf(to, " --rounds %d", options.rounds);
     tell_word(to, options.program);
     for (int k = 0; k < options.count; k++) tell_word(to, options.words[k]);

@@ -43,7 +43,7 @@ void tell_unfollowed(const char *what, const void *from) {
     if (!from) snprintf(text, room, "ulfm-mpirun: a schedule %s: that isn't followed, so the next ones may differ\n", what);
     else snprintf(text, room, "ulfm-mpirun: rank %d %s%s: that isn't followed, so another run of this schedule may differ\n", me->number, what,
                   line_before(from, line, sizeof line));
-    if (!options.seeds) fputs(text, stderr);
+    if (!(options.seeds || options.limit)) fputs(text, stderr);
 }
 
 int clock_gettime(clockid_t clock, struct timespec *time) {
@@ -88,7 +88,7 @@ int system(const char *command) {
 /* A rank begins a thread (threads.c). */
 void meet_thread(const void *from) {
     tell_unfollowed("begins a thread", from);
-    if (is_played && me && options.seeds) refuse_seeds("a program with further threads is played once, by --seed");
+    if (is_played && me && (options.seeds || options.limit)) refuse_seeds("a program with further threads is played once, by --seed");
 }
 
 /* ---- Input ---- */

@@ -5,7 +5,7 @@
 #include <string.h>
 #include <unistd.h>
 
-struct options options = {.ranks = 1, .report = -1, .capacity = 64, .rounds = ROUNDS};
+struct options options = {.ranks = 1, .search_stops = true, .report = -1, .capacity = 64, .rounds = ROUNDS};
 
 static const char usage[] =
     "ulfm-mpirun -n N [options] PROGRAM [ARGUMENT..]\n"
@@ -28,6 +28,9 @@ static const char usage[] =
     "  --same-output      with --every-stop: what the run writes has to be the same lines too, in any order, each at least once\n"
     "  --jobs N           with --every-stop: N runs at the same time; if left out, as many as there are processors\n"
     "  --all              with --every-stop: a line for each place, not only for those where something is wrong\n"
+    "  --every-schedule   plays every schedule of the program, and with a stop at each place in turn, up to the order of events that commute\n"
+    "  --stops 0          with --every-schedule: without further stops\n"
+    "  --limit N          with --every-schedule: at most N schedules at each place (10000)\n"
     "  --rounds N         agreements that can be made on each communicator (1024)\n"
     "  --version          tells the version\n"
     "\n"
@@ -96,6 +99,7 @@ static bool read_seconds(const char *word) {
 static bool read_flag(const char *word) {
     if (!strcmp(word, "--tag")) options.tag = true;
     else if (!strcmp(word, "--every-stop")) options.every_stop = true;
+    else if (!strcmp(word, "--every-schedule")) options.every_schedule = true;
     else if (!strcmp(word, "--same-output")) options.same_output = true;
     else if (!strcmp(word, "--all")) options.all = true;
     else return false;
@@ -112,6 +116,10 @@ static bool read_value(const char *word, const char *value) {
     if (!strcmp(word, "--timeout")) return read_seconds(value);
     if (!strcmp(word, "--seed")) return read_number(value, 1, 2000000000, &number) && (options.seed = (uint64_t)number) && (is_played = true);
     if (!strcmp(word, "--seeds")) return read_number(value, 1, 1000000000, &options.seeds) && (is_played = true);
+    if (!strcmp(word, "--search")) return read_number(value, 1, 1000000000, &options.limit) && (is_played = true);
+    if (!strcmp(word, "--limit")) return read_number(value, 1, 1000000000, &options.limit);
+    if (!strcmp(word, "--stops")) return read_number(value, 0, 1, &number) && ((options.search_stops = number), true);
+    if (!strcmp(word, "--checks")) return read_number(value, 1, 1000000000, &options.checks);
     if (!strcmp(word, "--yields")) return read_number(value, 1, 2000000000, &number) && (options.yields = (uint64_t)number);
     if (!strcmp(word, "--schedule")) return (options.schedule = value) && (is_played = true);
     if (!strcmp(word, "--keep")) return (options.keep = value) != 0;
@@ -132,10 +140,14 @@ static int refuse_option(const char *word, const char *value) {
 /* Refuses options that don't go together; 0 where they do. */
 static int refuse_clash(void) {
     const char *once = "--schedule plays one schedule again, which doesn't go with";
-    if (options.schedule && (options.seed || options.seeds)) return refuse(once, options.seeds ? "--seeds" : "--seed");
+    bool by_chance = options.seed || options.seeds;
+    if (options.schedule && by_chance) return refuse(once, options.seeds ? "--seeds" : "--seed");
     if (options.schedule && options.every_stop) return refuse(once, "--every-stop");
+    if (options.schedule && options.every_schedule) return refuse(once, "--every-schedule");
+    if (options.every_schedule && by_chance) return refuse("--every-schedule doesn't go with", "--seed or --seeds");
+    if (options.every_schedule && options.every_stop) return refuse("--every-schedule doesn't go with", "--every-stop");
     if (options.every_stop && options.seeds) return refuse("--every-stop plays each place once, which doesn't go with", "--seeds");
-    if (options.keep && (!is_played || options.every_stop)) return refuse("one schedule by chance is kept: --seed is missing, or too much stands beside", "--keep");
+    if (options.keep && (!is_played || options.every_stop)) return refuse("one schedule by chance is kept, by --seed alone, and not by", "--keep");
     return 0;
 }
 
