@@ -7,6 +7,7 @@ static uint32_t out;
 static uint64_t id;
 static ulfm_status status;
 static ulfm_group group;
+static ulfm_next_item item;
 static uint8_t body[1025];
 static int faults;
 
@@ -42,6 +43,10 @@ static void all_calls(ulfm_slot *slot, uint32_t wanted) {
 static void calls_of_all(ulfm_slot *slot, uint32_t wanted) {
     WANT(ulfm_turn(slot, &out), wanted);
     WANT(ulfm_flushed(slot, &out), wanted);
+    WANT(ulfm_push(slot, &out), wanted);
+    WANT(ulfm_take(slot, 0, &out), wanted);
+    WANT(ulfm_next(slot, 0, &item), wanted);
+    WANT(ulfm_would(slot, 0, &out), wanted);
     WANT(ulfm_me(slot, &out), wanted);
     WANT(ulfm_group_of(slot, 0, &group), wanted);
     WANT(ulfm_position(slot, 0, &out), wanted);
@@ -51,6 +56,10 @@ static void calls_of_all(ulfm_slot *slot, uint32_t wanted) {
 static void null_outs(ulfm_slot *slot) {
     WANT(ulfm_turn(slot, 0), ULFM_ENDED);
     WANT(ulfm_flushed(slot, 0), ULFM_ENDED);
+    WANT(ulfm_push(slot, 0), ULFM_ENDED);
+    WANT(ulfm_take(slot, 0, 0), ULFM_ENDED);
+    WANT(ulfm_next(slot, 0, 0), ULFM_ENDED);
+    WANT(ulfm_would(slot, 0, 0), ULFM_ENDED);
     WANT(ulfm_me(slot, 0), ULFM_ENDED);
     WANT(ulfm_group_of(slot, 0, 0), ULFM_ENDED);
     WANT(ulfm_position(slot, 0, 0), ULFM_ENDED);
@@ -73,6 +82,8 @@ static void null_outs(ulfm_slot *slot) {
 }
 
 static void refusals(ulfm_slot *slot) {
+    WANT(ulfm_take(slot, 2, &out), ULFM_BAD_RANK);
+    WANT(ulfm_next(slot, 300, &item), ULFM_BAD_RANK);
     WANT(ulfm_isend(slot, 63, 0, 0, body, 1), ULFM_NO_COMM);
     WANT(ulfm_isend(slot, 5, 0, 0, body, 1), ULFM_NO_COMM);
     WANT(ulfm_isend(slot, 0, 0, 32768, body, 1), ULFM_BAD_TAG);

@@ -7,4 +7,6 @@ pub mod Communicators
 pub mod Recovery
 pub mod Deciding
 pub mod Progress
+pub mod NextItem
+pub mod Steps
 pub mod Worlds

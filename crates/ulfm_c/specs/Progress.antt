@@ -1,14 +1,18 @@
 -- What a turn by C does, and what is told of what goes out.
-use Rattle.std.specs.Prelude.{◌≡◌, ℕ, ◌<◌, ◌⊎◌, [], true, false}
+use Rattle.std.specs.Prelude.{◌≡◌, ℕ, ◌<◌, ◌⊎◌, [], Bool, true, false}
 use Rattle.ulfm_process.specs.Turning.{IsTurn}
 use Rattle.ulfm_process.specs.View.{ProcessView}
 use Rattle.ulfm_log.specs.Facts.{is_stopped}
 use Rattle.ulfm_log.specs.State.{outbox}
 
+-- whether something is so is told by 1 or 0
+abbrev pub TellsWhether : ℕ → (Bool → Type 0) → Type 0
+TellsWhether told is = ((told ≡ 1) × is true) ⊎ ((told ≡ 0) × is false)
+
 -- with 0 the process had a turn, and it is told by 1 or 0 whether anything moved; with 12 the rank runs, and nothing changed
 abbrev pub TurnCall : ProcessView → ProcessView → ℕ → ℕ → ℕ → Type 0
 TurnCall old new before moved code =
-    ((code ≡ 0) × (((moved ≡ 1) × IsTurn old new true) ⊎ ((moved ≡ 0) × IsTurn old new false)))
+    ((code ≡ 0) × TellsWhether moved (IsTurn old new))
     ⊎ ((code ≡ 12) × (is_stopped old.rank.log ≡ false) × (new ≡ old) × (moved ≡ before))
 
 -- nothing waits to go out
