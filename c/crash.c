@@ -98,6 +98,7 @@ static void crashed(int number, siginfo_t *told, void *context) {
 static void ended(int number) {
     if (!is_launcher()) end_child(number);
     if (stop_soon()) return;
+    is_crashed = 1;   /* the copies go, which a rank may be about to load */
     end_run(128 + number);
 }
 
