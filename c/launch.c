@@ -82,8 +82,8 @@ void live(void) {
 
 /* A stack for signals, since that of a rank may be used up. */
 static void have_stack_for_signals(void) {
-    static char rooms[MAX_RANKS][65536];   /* where a crash is told */
-    stack_t stack = {.ss_sp = rooms[me->number], .ss_size = sizeof *rooms}, old;
+    static char rooms[MAX_RANKS + 1][65536];   /* where a crash is told; the last one is of the thread that plays all ranks */
+    stack_t stack = {.ss_sp = rooms[me ? me->number : MAX_RANKS], .ss_size = sizeof *rooms}, old;
     if (sigaltstack(0, &old) == 0 && old.ss_flags & SS_DISABLE) sigaltstack(&stack, 0);   /* AddressSanitizer has one of its own */
 }
 

@@ -1,5 +1,6 @@
 /* Many schedules of a program in one process: its memory is put back after each. Under AddressSanitizer and memcheck each is a process of its own. */
 #define _GNU_SOURCE
+#include "search.h"
 #include "tally.h"
 #include <fcntl.h>
 #include <string.h>
@@ -61,6 +62,7 @@ static void play_apart(void) {
     if (pid == 0) {
         be_launcher();
         tally->status = play_once();
+        tally->steps = step;
         leave_process(0);
     }
     if (pid > 0) waitpid(pid, &status, 0);
@@ -74,7 +76,7 @@ bool play_next(bool is_apart) {
     tally->report[tally->used] = 0;
     if (options.keep) begin_record();
     if (is_apart) play_apart();
-    else tally->status = play_once();
+    else tally->status = play_once(), tally->steps = step;
     if (tally->status == STATUS_LATE) tally->is_over = true;
     return tally->status != STATUS_LATE;
 }

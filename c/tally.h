@@ -19,6 +19,7 @@ struct tally {
     char report[REPORT];   /* of the present schedule */
     size_t used, begun;    /* begun: what ranks reported before their first event */
     int status;            /* with which it ended; -1: all ranks ended */
+    int steps;             /* events of it */
     volatile bool is_over; /* no further one is wanted */
     long played;
     int count;
