@@ -1,5 +1,12 @@
 //! What help says beside the commands and their options.
 
+/// What is shown above the commands: the one question to ask.
+pub const ABOUT: &str = "Does your MPI recovery hang? Write what each rank calls as a job, and ask:
+
+  ulfm outcomes --stops 1 job.toml
+
+It lists what each call may return, wherever one rank dies, in every schedule, and which calls never end.";
+
 /// What is shown below the commands.
 pub const HELP: &str =
     "A job is a TOML text, in the files that are named, or else on standard input:

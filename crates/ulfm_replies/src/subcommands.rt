@@ -4,7 +4,7 @@ ghost use Rattle.clap.specs.declared.builder.command.Command.TheViews.{out-Comma
 ghost use Rattle.clap.specs.Words.{App, app_of, with_subcommand};
 ghost use Rattle.ulfm_replies.specs.Rules.{check_app, demanding_app, draw_app, expand_app, of_jobs, of_pictures, of_places, of_schedules, of_stopped, outcomes_app, places_app, replay_app, run_app, sweep_app, tool_app};
 
-use crate::help::HELP;
+use crate::help::{ABOUT, HELP};
 use crate::options::{
     MOST_RUNS, MOST_STATES, MOST_THREADS, brief_flag, carrier_option, files, json_flag,
     number_option, plain_flag, progress_flag, show_option, stop_option, stops_option, strict_flag,
@@ -45,7 +45,7 @@ fn bare_command<'a>(alloc: Global) -> Command<'a>
     ensures { app_of result ≡ demanding_app }
 {
     Command::new(alloc, "ulfm")
-        .about("MPI messages with ULFM recovery among the ranks of one program")
+        .about(ABOUT)
         .after_help(HELP)
         .version(VERSION)
         .subcommand_required(true)
@@ -141,7 +141,7 @@ fn outcomes_command<'a>(alloc: Global) -> Result<Command<'a>, AllocError>
 {
     let command = Command::new(alloc, "outcomes")
         .about("Lists what each step of a job may be answered, over every schedule")
-        .after_help("Example: ulfm outcomes --limit 100000 jobs/one_letter.toml")
+        .after_help("Example: ulfm outcomes --stops 1 --strict jobs/leaves_early.toml")
         .arg(show_option(alloc))?;
     let brief = brief_flag(
         alloc,
