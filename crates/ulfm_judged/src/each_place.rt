@@ -60,6 +60,7 @@ where
         limit,
         onlooker,
     )?;
+    onlooker.see_listed(lists.listed.len(), places.len());
     judged(
         finder, alloc, form, options, &asked, bytes, &lists, onlooker,
     )

@@ -7,6 +7,9 @@ use ulfm_stops::Place;
 pub trait Onlooker {
     /// So many more states have been looked at, at this place.
     fn see(&self, place: Place, states: usize);
+
+    /// So many of these places are listed, and no more will be.
+    fn see_listed(&self, listed: usize, places: usize);
 }
 
 /// Who tells an onlooker of one place, whatever is explored or sought there, one after another.

@@ -23,7 +23,7 @@ const EMPTY: &str =
 
 /// What to do where a list is past its limit.
 const MANY_STATES: &str =
-    "--limit allows up to 100000000 states; fewer ranks, steps or wildcards make fewer of them\n";
+    "docs/SIZE.md says what makes so many states, and what to leave out; --limit allows up to 100000000\n";
 
 /// What to do where a run with the turns of its job leaves steps unfinished.
 const FEW_TURNS: &str =

@@ -6,6 +6,7 @@ ghost use Rattle.ulfm_replies.specs.declared.command.Wanted.{Wanted};
 ghost use Rattle.ulfm_replies.specs.CommandLine.{AsksFor, HasRanges, faults, form_asked, show_asked, IsWordsStatus};
 ghost use Rattle.ulfm_replies.specs.Failure.{out_of_memory_in, out_of_memory_text};
 
+use crate::far::Far;
 use crate::progress::Progress;
 use crate::reply::reply_to;
 use std::alloc::Global;
@@ -21,7 +22,8 @@ use ulfm_judged::NO_GOAL;
 use ulfm_notes::{write_fault, write_notes};
 use ulfm_replies::{
     Asked, DONE, Failure, INPUT_FAILED, JOB_REFUSED, ListOptions, NO_SCHEDULE, NOT_EXPECTED,
-    OUTPUT_FAILED, RUN_FAILED, USAGE, Unfollowed, Wanted, asked_for, failed_line,
+    OUTPUT_FAILED, PAST_LIMIT, RUN_FAILED, Reply, USAGE, Unfollowed, Wanted, asked_for,
+    failed_line,
 };
 
 /// What is written where a word can't be read.
@@ -124,7 +126,7 @@ where
     };
     let mut progress = Progress::new(rt, alloc, &mut *errors, wanted);
     let told = reply_to(rt, finder, alloc, asked, bytes.as_slice(), &mut progress);
-    progress.end();
+    let far = progress.end();
     match told {
         Ok(reply) => {
             let status = write_reply(output, reply.status, reply.text.as_bytes());
@@ -136,12 +138,28 @@ where
                 DONE | NO_SCHEDULE if asked.show.is_some() => {}
                 // Steps of a schedule at a place have the numbers that they have there, and notes would take them for the file's.
                 NOT_EXPECTED if asks_of_places(wanted) => {}
-                _ => write_notes(alloc, form, wanted, bytes.as_slice(), &reply, errors),
+                _ => write_remarks(alloc, form, wanted, bytes.as_slice(), &reply, far, errors),
             }
             status
         }
         Err(_) => write_starved(output, form),
     }
+}
+
+/// Writes the notes on a reply, and before them how far a search came that met its limit.
+fn write_remarks<E: Write>(
+    alloc: Global,
+    form: Form,
+    wanted: Wanted,
+    bytes: &[u8],
+    reply: &Reply,
+    far: Far,
+    errors: &mut E,
+) {
+    if reply.status == PAST_LIMIT {
+        far.tell(alloc, errors);
+    }
+    write_notes(alloc, form, wanted, bytes, reply, errors);
 }
 
 /// Whether the words ask for the lists of all places.

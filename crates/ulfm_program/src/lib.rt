@@ -7,6 +7,7 @@
 #![tactic(auto)]
 
 mod app;
+mod far;
 mod files;
 mod progress;
 mod reply;

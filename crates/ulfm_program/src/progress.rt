@@ -1,5 +1,6 @@
 //! How far a list of outcomes is, for who looks on: none of it is promised.
 
+use crate::far::Far;
 use std::alloc::{AllocError, Global};
 use std::io::Write;
 use std::sync::Mutex;
@@ -27,8 +28,13 @@ pub struct Progress<'a, T: Clock, E: Write + Drop> {
     is_wanted: bool,
     /// When it began, by a clock that could be read.
     start: Option<Instant>,
+    /// How many states the latest search looked at, of one place.
+    looked_at: usize,
     /// How many states were looked at, at all places.
     at_places: AtomicUsize,
+    /// How many places are listed, of how many.
+    listed: AtomicUsize,
+    places: AtomicUsize,
 }
 
 impl<'a, T: Clock, E: Write + Drop> Progress<'a, T, E> {
@@ -46,14 +52,22 @@ impl<'a, T: Clock, E: Write + Drop> Progress<'a, T, E> {
                 })
             ),
             start: Instant::now(rt).ok(),
+            looked_at: 0,
             at_places: AtomicUsize::new(0),
+            listed: AtomicUsize::new(0),
+            places: AtomicUsize::new(0),
         }
     }
 
-    /// Empties the line, for what comes after.
-    pub fn end(mut self) {
+    /// Empties the line, for what comes after, and answers how far it came.
+    pub fn end(mut self) -> Far {
         if self.is_wanted {
             let _is_written = write_whole(self.errors.get_mut(), EMPTY_LINE);
+        }
+        Far {
+            looked_at: self.looked_at.max(self.at_places.load(Ordering::SeqCst)),
+            listed: self.listed.load(Ordering::SeqCst),
+            places: self.places.load(Ordering::SeqCst),
         }
     }
 
@@ -88,6 +102,7 @@ impl<'a, T: Clock, E: Write + Drop> Progress<'a, T, E> {
 
 impl<T: Clock, E: Write + Drop> Watch for Progress<'_, T, E> {
     fn see(&mut self, looked_at: usize, found: usize) {
+        self.looked_at = looked_at;
         if !self.is_wanted || looked_at % STRIDE != 0 {
             return;
         }
@@ -99,12 +114,9 @@ impl<T: Clock, E: Write + Drop> Watch for Progress<'_, T, E> {
 
 impl<T: Clock, E: Write + Drop> Onlooker for Progress<'_, T, E> {
     fn see(&self, place: Place, states: usize) {
-        if !self.is_wanted {
-            return;
-        }
         let before = self.at_places.fetch_add(states, Ordering::SeqCst);
         let looked_at = before.wrapping_add(states);
-        if before / STRIDE == looked_at / STRIDE {
+        if !self.is_wanted || before / STRIDE == looked_at / STRIDE {
             return;
         }
         // While another thread tells it, this one goes on.
@@ -114,5 +126,10 @@ impl<T: Clock, E: Write + Drop> Onlooker for Progress<'_, T, E> {
         if let Ok(line) = self.line_at(place, looked_at) {
             let _is_written = write_whole(&mut *errors, line.as_bytes());
         }
+    }
+
+    fn see_listed(&self, listed: usize, places: usize) {
+        self.listed.store(listed, Ordering::SeqCst);
+        self.places.store(places, Ordering::SeqCst);
     }
 }
