@@ -1,7 +1,7 @@
 //! What an exploration found, as it is printed, and what a job wants of it: a line for each step, with all that it may be answered, in words
 //! or in JSON; the first step that isn't as the job expects; and what a schedule is to show.
 //!
-//!     let text = list_in(alloc, form, bytes, &job, &reach, limit)?;
+//!     let text = list_in(alloc, form, names, &job, &reach, limit)?;
 //!     let unmet = unmet_in(&job, &reached.found);
 //!     let goals = Goals::of(alloc, clauses)?;
 //!

@@ -2,7 +2,6 @@
 use Rattle.std.specs.Prelude.{ℕ, ◌+◌, Bool, List, [], ◌∷◌, ◌++◌, Option, Some, None, codes, if◌then◌else◌, slice_get}
 use Rattle.std.specs.Fmt.{decimal}
 use Rattle.std.specs.List.{flat_map}
-use Rattle.toml.specs.Data.{Items}
 use Rattle.ulfm_log.specs.Facts.{is_stopped}
 use Rattle.ulfm_job.specs.Job.{JobView, script_at}
 use Rattle.ulfm_job.specs.declared.step.Step.{Step}
@@ -11,7 +10,8 @@ use Rattle.ulfm_answer.specs.declared.answer.StepReport.{StepReport}
 use Rattle.ulfm_answer.specs.Report.{Report}
 use Rattle.ulfm_json.specs.Answer.{answer_json}
 use Rattle.ulfm_json.specs.Call.{call_json}
-use Rattle.ulfm_json.specs.Names.{document_in, name_at, step_tables}
+use Rattle.ulfm_reader.specs.Reacting.{name_at}
+use Rattle.ulfm_reader.specs.declared.name.Name.{Name}
 
 -- the key of a step's name, where it has one
 abbrev pub name_json : Option (List ℕ) → List ℕ
@@ -24,30 +24,26 @@ asked_json None = codes "\"op\":null"
 asked_json (Some step) = call_json step
 
 -- the beginning of the object of a step: its rank, its number, its name, and what it asks for
-abbrev pub head_json : Items → ℕ → ℕ → Option Step → List ℕ
-head_json tables r k step = codes "{\"rank\":" ++ decimal r ++ codes ",\"step\":" ++ decimal k ++ name_json (name_at tables r k) ++ codes "," ++ asked_json step
+abbrev pub head_json : List Name → ℕ → ℕ → Option Step → List ℕ
+head_json names r k step = codes "{\"rank\":" ++ decimal r ++ codes ",\"step\":" ++ decimal k ++ name_json (name_at names r k) ++ codes "," ++ asked_json step
 
 -- the line of a step with its answer
-abbrev pub step_json : Items → ℕ → ℕ → Option Step → StepAnswer → List ℕ
-step_json tables r k step answer = head_json tables r k step ++ codes ",\"answer\":" ++ answer_json answer ++ codes "}\n"
+abbrev pub step_json : List Name → ℕ → ℕ → Option Step → StepAnswer → List ℕ
+step_json names r k step answer = head_json names r k step ++ codes ",\"answer\":" ++ answer_json answer ++ codes "}\n"
 
 -- the lines of a rank's answered steps, the first of them numbered k
-abbrev pub steps_json : Items → JobView → ℕ → ℕ → List StepReport → List ℕ
-steps_json tables job r k [] = []
-steps_json tables job r k (report ∷ reports) = step_json tables r k (slice_get (script_at job r) k) report.answer ++ steps_json tables job r (k + 1) reports
+abbrev pub steps_json : List Name → JobView → ℕ → ℕ → List StepReport → List ℕ
+steps_json names job r k [] = []
+steps_json names job r k (report ∷ reports) = step_json names r k (slice_get (script_at job r) k) report.answer ++ steps_json names job r (k + 1) reports
 
 -- the line of how a rank ended, and of how many of its turns took nothing since memory ran out
 abbrev pub end_json : ℕ → Bool → ℕ → List ℕ
 end_json r has_stopped starved = codes "{\"rank\":" ++ decimal r ++ codes ",\"end\":\"" ++ (if has_stopped then codes "stopped" else codes "done") ++ codes "\",\"starved\":" ++ decimal starved ++ codes "}\n"
 
 -- a rank's lines: its answered steps in order, then one that says how it ended
-abbrev pub rank_json : Items → JobView → Report → List ℕ
-rank_json tables job report = steps_json tables job report.rank.me 0 report.steps ++ end_json report.rank.me (is_stopped report.rank.log) report.starved
+abbrev pub rank_json : List Name → JobView → Report → List ℕ
+rank_json names job report = steps_json names job report.rank.me 0 report.steps ++ end_json report.rank.me (is_stopped report.rank.log) report.starved
 
--- the lines of all ranks, in the order of the reports
-abbrev pub ranks_json : Items → JobView → List Report → List ℕ
-ranks_json tables job reports = flat_map (rank_json tables job) reports
-
--- the same, with the names that stand in the job's text
-abbrev pub trace_json : List ℕ → JobView → List Report → List ℕ
-trace_json bytes job reports = ranks_json (step_tables (document_in bytes)) job reports
+-- the lines of all ranks, in the order of the reports, with the names of the job's steps
+abbrev pub trace_json : List Name → JobView → List Report → List ℕ
+trace_json names job reports = flat_map (rank_json names job) reports

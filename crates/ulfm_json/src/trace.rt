@@ -1,16 +1,14 @@
 //! The lines of a trace as JSON.
 ghost use Rattle.std.specs.Prelude.{◌≡◌, ◌++◌, option_map, OnOk, string_bytes};
 ghost use Rattle.std.specs.Option.{option_copied};
-ghost use Rattle.toml.specs.View.{items_view};
 ghost use Rattle.ulfm_json.specs.Trace.{end_json, head_json, name_json, step_json, steps_json};
 
 use crate::answer::push_answer;
 use crate::call::push_call;
-use crate::names::name_at;
 use std::alloc::AllocError;
-use toml::Value;
 use ulfm_answer::{StepAnswer, StepReport};
 use ulfm_job::{Job, Step};
+use ulfm_reader::{Name, name_at};
 
 /// The key of a step's name, where it has one.
 fn push_name(text: &mut String, name: Option<&str>) -> Result<(), AllocError>
@@ -25,15 +23,15 @@ fn push_name(text: &mut String, name: Option<&str>) -> Result<(), AllocError>
 /// The beginning of the object of a step: its rank, its number, its name, and what it asks for.
 pub fn push_head(
     text: &mut String,
-    tables: &[Value],
+    names: &[Name],
     rank: u8,
     k: usize,
     step: Option<&Step>,
 ) -> Result<(), AllocError>
-    ensures { OnOk result (string_bytes text.new ≡ string_bytes text.old ++ head_json (items_view tables.now) rank k (option_map (λ s. s.now) step.entry)) }
+    ensures { OnOk result (string_bytes text.new ≡ string_bytes text.old ++ head_json names.now rank k (option_map (λ s. s.now) step.entry)) }
 {
     write!(text, "{{\"rank\":{rank},\"step\":{k}")?;
-    push_name(text, name_at(tables, rank, k))?;
+    push_name(text, name_at(names, rank, k))?;
     text.push_str(",")?;
     match step {
         Some(step) => push_call(text, step),
@@ -44,15 +42,15 @@ pub fn push_head(
 /// The line of a step with its answer.
 fn push_step(
     text: &mut String,
-    tables: &[Value],
+    names: &[Name],
     rank: u8,
     k: usize,
     step: Option<&Step>,
     answer: &StepAnswer,
 ) -> Result<(), AllocError>
-    ensures { OnOk result (string_bytes text.new ≡ string_bytes text.old ++ step_json (items_view tables.now) rank k (option_map (λ s. s.now) step.entry) answer.now) }
+    ensures { OnOk result (string_bytes text.new ≡ string_bytes text.old ++ step_json names.now rank k (option_map (λ s. s.now) step.entry) answer.now) }
 {
-    push_head(text, tables, rank, k, step)?;
+    push_head(text, names, rank, k, step)?;
     text.push_str(",\"answer\":")?;
     push_answer(text, answer)?;
     text.push_str("}\n")
@@ -61,15 +59,15 @@ fn push_step(
 /// The lines of a rank's answered steps.
 pub fn push_steps(
     text: &mut String,
-    tables: &[Value],
+    names: &[Name],
     job: &Job,
     rank: u8,
     steps: &[StepReport],
 ) -> Result<(), AllocError>
-    ensures { OnOk result (string_bytes text.new ≡ string_bytes text.old ++ steps_json (items_view tables.now) job.now rank 0 steps.now) }
+    ensures { OnOk result (string_bytes text.new ≡ string_bytes text.old ++ steps_json names.now job.now rank 0 steps.now) }
 {
     for (k, report) in steps.iter().enumerate() {
-        push_step(text, tables, rank, k, job.step(rank, k), &report.answer)?;
+        push_step(text, names, rank, k, job.step(rank, k), &report.answer)?;
     }
     Ok(())
 }

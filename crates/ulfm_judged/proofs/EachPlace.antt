@@ -96,7 +96,7 @@ lists-writable j limit (place ∷ places) (one ∷ listed) past lists =
 -- the lists of all places with what is told below them
 pub each_as : (form : Form) (options : ListOptions) (stops : ℕ) (bytes : List ℕ) (asked : Asked) (places : List Place) (listed : List Listed) (past : Option Place) (status : ℕ) (text words : List ℕ) → IsAskedAt Nowhere bytes asked
     → AreLists asked.job options.limit places listed past → places ≡ places_of stops asked.job → IsJudgedEach form options asked (places_in listed) (status_past options listed past) status words
-    → text ≡ text_past form bytes asked.job options listed past ++ words → IsEachPlaceReply form options stops bytes status text
+    → text ≡ text_past form asked.names asked.job options listed past ++ words → IsEachPlaceReply form options stops bytes status text
 each_as form options stops bytes asked places listed None status text words read are is judged same =
     subst (λ (t : List ℕ). IsEachPlaceReply form options stops bytes status t) (sym same)
     (listed_all asked listed status words read (subst (λ (ps : List Place). AreLists asked.job options.limit ps listed None) is are) judged)

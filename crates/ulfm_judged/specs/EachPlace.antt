@@ -71,7 +71,7 @@ places_in listed = map (λ (one : Listed). one.place) listed
 pub data IsEachPlaceReply (form : Form) (options : ListOptions) (stops : ℕ) (bytes : List ℕ) : ℕ → List ℕ → Type 0 where
   listed_all : (asked : Asked) (listed : List Listed) (status : ℕ) (text : List ℕ) → IsAskedAt Nowhere bytes asked → AreLists asked.job options.limit (places_of stops asked.job) listed None
       → IsJudgedEach form options asked (places_in listed) (list_status options.is_strict (some_never_ends listed)) status text
-      → IsEachPlaceReply form options stops bytes status (lists_in form bytes asked.job listed ++ text)
+      → IsEachPlaceReply form options stops bytes status (lists_in form asked.names asked.job listed ++ text)
   past_limit_at : (asked : Asked) (listed : List Listed) (place : Place) (status : ℕ) (text : List ℕ) → IsAskedAt Nowhere bytes asked → AreLists asked.job options.limit (places_of stops asked.job) listed (Some place)
       → IsJudgedEach form options asked (places_in listed) 7 status text
       → IsEachPlaceReply form options stops bytes status (more_at form options.limit place ++ text)

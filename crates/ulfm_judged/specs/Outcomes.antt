@@ -19,7 +19,7 @@ use Rattle.ulfm_json.specs.declared.form.Form.TheVariants.{Words, Json}
 use Rattle.ulfm_found.specs.Objects.{list_in}
 use Rattle.ulfm_replies.specs.Asking.{is_looked_at}
 use Rattle.ulfm_replies.specs.Failure.{out_of_memory_in}
-use Rattle.ulfm_replies.specs.Stopped.{Asked, IsAskedAt, IsRefusal, names_at, reading_as}
+use Rattle.ulfm_replies.specs.Stopped.{Asked, IsAskedAt, IsRefusal, reading_as}
 use Rattle.ulfm_replies.specs.declared.command.ListOptions.{ListOptions}
 use Rattle.ulfm_lists.specs.Told.{Told, told_in, unmet_in, row_in, many, schedule}
 
@@ -69,9 +69,9 @@ pub data IsJudged (form : Form) (options : ListOptions) (job : JobView) (rows : 
 -- more states than the limit are reached; with 1 that the job is refused, or hasn't the place of `--stop`; with 3 the line that memory ran out.
 pub data IsOutcomesReply (form : Form) (options : ListOptions) (bytes : List ℕ) : ℕ → List ℕ → Type 0 where
   listed : (asked : Asked) (reached : Reached) (status : ℕ) (text : List ℕ) → IsAskedAt options.place bytes asked → IsList asked.job options.limit (All reached)
-      → IsJudged form options asked.job asked.rows reached.found (list_in form (names_at options.place bytes) asked.job (All reached) options.limit) status text → IsOutcomesReply form options bytes status text
+      → IsJudged form options asked.job asked.rows reached.found (list_in form asked.names asked.job (All reached) options.limit) status text → IsOutcomesReply form options bytes status text
   past_limit : (asked : Asked) → IsAskedAt options.place bytes asked → IsList asked.job options.limit More
-      → IsOutcomesReply form options bytes 7 (list_in form (names_at options.place bytes) asked.job More options.limit)
+      → IsOutcomesReply form options bytes 7 (list_in form asked.names asked.job More options.limit)
   not_listed : (status : ℕ) (text : List ℕ) → IsRefusal form options.place bytes status text → IsOutcomesReply form options bytes status text
   unlisted : IsOutcomesReply form options bytes 3 (out_of_memory_in form)
 

@@ -15,7 +15,7 @@ use std::alloc::{AllocError, Global};
 use std::thread;
 use std::thread::Threads;
 use ulfm_finder::Finder;
-use ulfm_job::{Job, JobFault, MOST_STEPS};
+use ulfm_job::{JobFault, MOST_STEPS};
 use ulfm_json::Form;
 use ulfm_lists::{Listed, lists_in, push_more_at, some_never_ends};
 use ulfm_reader::Reading;
@@ -61,9 +61,7 @@ where
         onlooker,
     )?;
     onlooker.see_listed(lists.listed.len(), places.len());
-    judged(
-        finder, alloc, form, options, &asked, bytes, &lists, onlooker,
-    )
+    judged(finder, alloc, form, options, &asked, &lists, onlooker)
 }
 
 /// How many threads share the places: as many as are asked for, else as there are processors, 64 at most.
@@ -96,17 +94,16 @@ fn judged<F: Finder, L: Onlooker>(
     form: Form,
     options: ListOptions,
     asked: &Reading,
-    bytes: &[u8],
     lists: &Lists,
     onlooker: &L,
 ) -> Result<Reply, AllocError>
     requires listed { AreListedOf (asked_view asked.now) options.limit lists.now.listed.items }
     requires ascii { AreAllAscii lists.now.listed.items }
-    ensures { IfOk result (λ r. (text : List ℕ) × IsJudgedEach form options (asked_view asked.now) (places_in lists.now.listed.items) (lists_status options lists.now) r.status text × (string_bytes r.text ≡ lists_text form bytes.now asked.now.job options lists.now ++ text)) }
+    ensures { IfOk result (λ r. (text : List ℕ) × IsJudgedEach form options (asked_view asked.now) (places_in lists.now.listed.items) (lists_status options lists.now) r.status text × (string_bytes r.text ≡ lists_text form asked.now.names.items asked.now.job options lists.now ++ text)) }
 {
     let listed = lists.listed.as_slice();
     let past = lists.past_limit;
-    let text = text_of(alloc, form, options, bytes, &asked.job, listed, past)?;
+    let text = text_of(alloc, form, options, asked, listed, past)?;
     match first_unwanted(finder, alloc, form, options, asked, listed, onlooker)? {
         Some(told) => with_told(text, &told),
         None => Ok(Reply {
@@ -133,13 +130,12 @@ fn text_of(
     alloc: Global,
     form: Form,
     options: ListOptions,
-    bytes: &[u8],
-    job: &Job,
+    asked: &Reading,
     listed: &[Listed],
     past: Option<Place>,
 ) -> Result<String, AllocError>
     requires ascii { AreAllAscii listed.now }
-    ensures { IfOk result (λ text. string_bytes text ≡ text_past form bytes.now job.now options listed.now past) }
+    ensures { IfOk result (λ text. string_bytes text ≡ text_past form asked.now.names.items asked.now.job options listed.now past) }
 {
     match past {
         Some(place) => {
@@ -147,7 +143,7 @@ fn text_of(
             push_more_at(&mut text, form, options.limit as usize, place)?;
             Ok(text)
         }
-        None => Ok(lists_in(alloc, form, bytes, job, listed)?),
+        None => Ok(lists_in(alloc, form, &asked.names, &asked.job, listed)?),
     }
 }
 

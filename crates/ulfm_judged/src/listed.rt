@@ -29,7 +29,7 @@ use ulfm_lists::{Told, push_row, push_unmet};
 use ulfm_reach::{Reach, Reached, Rows, Watch};
 use ulfm_reader::Reading;
 use ulfm_replies::{
-    DONE, ListOptions, NOT_EXPECTED, PAST_LIMIT, Reply, UNFINISHED, asked_at, names_at,
+    DONE, ListOptions, NOT_EXPECTED, PAST_LIMIT, Reply, UNFINISHED, asked_at,
 };
 
 /// The reply of `outcomes` with these options, and perhaps with answers that a schedule is to show. `watch` is told how far it is.
@@ -74,7 +74,7 @@ fn outcomes_reply<F: Finder, W: Watch>(
 {
     let read = asked_at(alloc, form, options.place, bytes)?;
     match read {
-        Ok(asked) => explored_reply(finder, alloc, form, options, &asked, bytes, watch),
+        Ok(asked) => explored_reply(finder, alloc, form, options, &asked, watch),
         Err(reply) => Ok(reply),
     }
 }
@@ -86,15 +86,13 @@ fn explored_reply<F: Finder, W: Watch>(
     form: Form,
     options: ListOptions,
     asked: &Reading,
-    bytes: &[u8],
     watch: &mut W,
 ) -> Result<Reply, AllocError>
-    requires { IsAskedAt options.place bytes.now (asked_view asked.now) }
-    ensures { IfOk result (λ r. IsOutcomesReply form options bytes.now r.status (string_bytes r.text)) }
+    ensures { (bytes : List ℕ) → IsAskedAt options.place bytes (asked_view asked.now) → IfOk result (λ r. IsOutcomesReply form options bytes r.status (string_bytes r.text)) }
 {
     let limit = options.limit as usize;
     let reach = finder.outcomes(alloc, &asked.job, limit, watch)?;
-    reached_reply(finder, alloc, form, options, asked, bytes, &reach, watch)
+    reached_reply(finder, alloc, form, options, asked, &reach, watch)
 }
 
 /// The reply where this was reached.
@@ -104,17 +102,14 @@ fn reached_reply<F: Finder, W: Watch>(
     form: Form,
     options: ListOptions,
     asked: &Reading,
-    bytes: &[u8],
     reach: &Reach,
     watch: &mut W,
 ) -> Result<Reply, AllocError>
-    requires asked { IsAskedAt options.place bytes.now (asked_view asked.now) }
-    requires list { IsList asked.now.job options.limit reach.now }
-    ensures { IfOk result (λ r. IsOutcomesReply form options bytes.now r.status (string_bytes r.text)) }
+    requires { IsList asked.now.job options.limit reach.now }
+    ensures { (bytes : List ℕ) → IsAskedAt options.place bytes (asked_view asked.now) → IfOk result (λ r. IsOutcomesReply form options bytes r.status (string_bytes r.text)) }
 {
     let limit = options.limit as usize;
-    let names = names_at(options.place, bytes);
-    let text = list_in(alloc, form, names, &asked.job, reach, limit)?;
+    let text = list_in(alloc, form, &asked.names, &asked.job, reach, limit)?;
     match reach {
         Reach::All(reached) => judged(finder, alloc, form, options, asked, reached, text, watch),
         Reach::More => Ok(Reply {

@@ -1,5 +1,5 @@
 //! The reply of `outcomes --stops --show`: the first place at which a schedule shows answers, and that schedule.
-ghost use Rattle.std.specs.Prelude.{◌≡◌, All, IfOk, Some, string_bytes};
+ghost use Rattle.std.specs.Prelude.{◌≡◌, ℕ, All, List, IfOk, Some, string_bytes};
 ghost use Rattle.ulfm_stops.specs.Place.{IsPlaceOf};
 ghost use Rattle.ulfm_judged.specs.ShowEach.{AreGoalsAt, IsShowEachReply, beside};
 ghost use Rattle.ulfm_judged.specs.inside.Judging.{IsFirstLook, IsLookAt, IsLookAtText, IsToldAtText, look_at_status};
@@ -37,7 +37,7 @@ pub fn show_each_reply<F: Finder, L: Onlooker>(
     let read = asked_at(alloc, form, Place::Nowhere, bytes)?;
     match read {
         Ok(asked) => sought_reply(
-            finder, alloc, form, options, stops, show, &asked, bytes, onlooker,
+            finder, alloc, form, options, stops, show, &asked, onlooker,
         ),
         Err(reply) => Ok(reply),
     }
@@ -52,14 +52,10 @@ fn sought_reply<F: Finder, L: Onlooker>(
     stops: u8,
     show: &str,
     asked: &Reading,
-    bytes: &[u8],
     onlooker: &L,
 ) -> Result<Reply, AllocError>
-    requires { IsAskedAt Nowhere bytes.now (asked_view asked.now) }
-    ensures { IfOk result (λ r. IsShowEachReply form options stops show.now bytes.now r.status (string_bytes r.text)) }
+    ensures { (bytes : List ℕ) → IsAskedAt Nowhere bytes (asked_view asked.now) → IfOk result (λ r. IsShowEachReply form options stops show.now bytes r.status (string_bytes r.text)) }
 {
-    // What is promised speaks of the text that asked for it.
-    let _ = bytes;
     if asked.job.len() + stops as usize > MOST_STEPS {
         return refusal(alloc, form, JobFault::TooLarge);
     }

@@ -1,5 +1,5 @@
 //! The reply of `outcomes --show`: a schedule that shows answers.
-ghost use Rattle.std.specs.Prelude.{◌≡◌, Some, IfOk, option_map, string_bytes};
+ghost use Rattle.std.specs.Prelude.{◌≡◌, ℕ, List, Some, IfOk, option_map, string_bytes};
 ghost use Rattle.ulfm_judged.specs.Outcomes.{IsShowReply, no_goal, nowhere_in};
 ghost use Rattle.ulfm_judged.specs.inside.Looking.{IsLookText, look_status};
 ghost use Rattle.ulfm_lists.specs.Told.{told_view};
@@ -29,7 +29,7 @@ pub fn show_reply<F: Finder, W: Watch>(
 {
     let read = asked_at(alloc, form, options.place, bytes)?;
     match read {
-        Ok(asked) => sought_reply(finder, alloc, form, options, show, &asked, bytes, watch),
+        Ok(asked) => sought_reply(finder, alloc, form, options, show, &asked, watch),
         Err(reply) => Ok(reply),
     }
 }
@@ -42,14 +42,10 @@ fn sought_reply<F: Finder, W: Watch>(
     options: ListOptions,
     show: &str,
     asked: &Reading,
-    bytes: &[u8],
     watch: &mut W,
 ) -> Result<Reply, AllocError>
-    requires { IsAskedAt options.place bytes.now (asked_view asked.now) }
-    ensures { IfOk result (λ r. IsShowReply form options show.now bytes.now r.status (string_bytes r.text)) }
+    ensures { (bytes : List ℕ) → IsAskedAt options.place bytes (asked_view asked.now) → IfOk result (λ r. IsShowReply form options show.now bytes r.status (string_bytes r.text)) }
 {
-    // What is promised speaks of the text that asked for it.
-    let _ = bytes;
     let answers = match asked.goals(alloc, show)? {
         Ok(answers) => answers,
         Err(text) => return no_goal(alloc, text),

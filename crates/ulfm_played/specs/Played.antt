@@ -19,7 +19,7 @@ use Rattle.ulfm_played.specs.Tally.{tally}
 use Rattle.ulfm_replies.specs.declared.command.RunOptions.{RunOptions}
 use Rattle.ulfm_replies.specs.Failure.{failed_in, out_of_memory_in}
 use Rattle.ulfm_played.specs.Asking.{as_asked}
-use Rattle.ulfm_replies.specs.Stopped.{Asked, IsAskedAt, IsRefusal, names_at}
+use Rattle.ulfm_replies.specs.Stopped.{Asked, IsAskedAt, IsRefusal}
 use Rattle.ulfm_played.specs.Unfinished.{has_unfinished, played_status}
 use Rattle.ulfm_replies.specs.declared.failure.Failure.TheVariants as run
 
@@ -32,7 +32,7 @@ given_turns turns job = option_map_or (λ n. with_turns n job) turns job
 -- exactly where a step was left unfinished. With `--turns` the job has that number of turns, and with `--stop` the stops of that place.
 pub data IsReplayReply (form : Form) (is_strict : Bool) (turns : Option ℕ) (place : Place) (bytes : List ℕ) : ℕ → List ℕ → Type 0 where
   traced : (asked : Asked) (reports : List Report) → IsAskedAt place bytes asked → MadeAtRest (given_turns turns asked.job) reports
-      → IsReplayReply form is_strict turns place bytes (played_status is_strict (as_asked asked.rows (given_turns turns asked.job) reports) (has_unfinished (given_turns turns asked.job) reports)) (trace_in form (names_at place bytes) (given_turns turns asked.job) reports)
+      → IsReplayReply form is_strict turns place bytes (played_status is_strict (as_asked asked.rows (given_turns turns asked.job) reports) (has_unfinished (given_turns turns asked.job) reports)) (trace_in form asked.names (given_turns turns asked.job) reports)
   not_replayed : (status : ℕ) (text : List ℕ) → IsRefusal form place bytes status text → IsReplayReply form is_strict turns place bytes status text
   failed : IsReplayReply form is_strict turns place bytes 3 (out_of_memory_in form)
 
@@ -67,10 +67,10 @@ pub record ShowNoRoom (job : JobView) (reports : List Report) : Type 0 where
 pub data IsRunReply (form : Form) (options : RunOptions) (bytes : List ℕ) : ℕ → List ℕ → Type 0 where
   ran : (asked : Asked) (reports : List Report) → options.repeat ≡ None → IsAskedAt options.place bytes asked
       → AreOfRun (given_turns options.turns asked.job) reports
-      → IsRunReply form options bytes (played_status options.is_strict (as_asked asked.rows (given_turns options.turns asked.job) reports) (has_unfinished (given_turns options.turns asked.job) reports)) (trace_in form (names_at options.place bytes) (given_turns options.turns asked.job) reports)
+      → IsRunReply form options bytes (played_status options.is_strict (as_asked asked.rows (given_turns options.turns asked.job) reports) (has_unfinished (given_turns options.turns asked.job) reports)) (trace_in form asked.names (given_turns options.turns asked.job) reports)
   repeated : (asked : Asked) (runs : List (List Report)) → options.repeat ≡ Some (length runs) → IsAskedAt options.place bytes asked
       → All (AreOfRun (given_turns options.turns asked.job)) runs
-      → IsRunReply form options bytes (played_status options.is_strict (list_all (as_asked asked.rows (given_turns options.turns asked.job)) runs) (list_any (has_unfinished (given_turns options.turns asked.job)) runs)) (repeats_in form options.is_brief (given_turns options.turns asked.job) (length runs) (tally (map (trace_in form (names_at options.place bytes) (given_turns options.turns asked.job)) runs)))
+      → IsRunReply form options bytes (played_status options.is_strict (list_all (as_asked asked.rows (given_turns options.turns asked.job)) runs) (list_any (has_unfinished (given_turns options.turns asked.job)) runs)) (repeats_in form options.is_brief (given_turns options.turns asked.job) (length runs) (tally (map (trace_in form asked.names (given_turns options.turns asked.job)) runs)))
   not_run : (status : ℕ) (text : List ℕ) → IsRefusal form options.place bytes status text → IsRunReply form options bytes status text
   no_thread : (asked : Asked) → IsAskedAt options.place bytes asked → IsRunReply form options bytes 3 (failed_in form run.NoThread)
   untrue : (asked : Asked) (reports : List Report) → IsAskedAt options.place bytes asked

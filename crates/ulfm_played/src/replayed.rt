@@ -8,7 +8,7 @@ use crate::turns::given_turns;
 use std::alloc::{AllocError, Global};
 use ulfm_json::Form;
 use ulfm_replay::replay;
-use ulfm_replies::{Place, Reply, asked_at, names_at};
+use ulfm_replies::{Place, Reply, asked_at};
 
 /// The reply of `replay`.
 pub fn replay_reply(
@@ -27,9 +27,8 @@ pub fn replay_reply(
         Ok(asked) => given_turns(asked, turns),
         Err(reply) => return Ok(reply),
     };
-    let names = names_at(place, bytes);
     match replay(alloc, &asked.job) {
-        Ok(reports) => trace_reply(alloc, form, is_strict, names, &asked, reports.as_slice()),
+        Ok(reports) => trace_reply(alloc, form, is_strict, &asked, reports.as_slice()),
         Err(_) => Err(AllocError),
     }
 }

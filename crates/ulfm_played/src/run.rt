@@ -27,7 +27,7 @@ use ulfm_board::{Decider, Seat, seats};
 use ulfm_carrier::{Ends, LaneEnds, SharedEnds, lanes, shared};
 use ulfm_job::Job;
 use ulfm_json::Form;
-use ulfm_replies::{Carrier, Failure, Reply, RunOptions, asked_at, failed, names_at};
+use ulfm_replies::{Carrier, Failure, Reply, RunOptions, asked_at, failed};
 use ulfm_run::{Report, fits, run_job};
 use ulfm_script::RankReport;
 
@@ -47,9 +47,8 @@ pub fn run_reply<R: Threads + Wait + Sync>(
         Ok(asked) => given_turns(asked, options.turns),
         Err(reply) => return Ok(reply),
     };
-    let names = names_at(options.place, bytes);
     if let Some(times) = options.repeat {
-        return match tally_of(rt, alloc, options.carrier, form, names, times, &asked) {
+        return match tally_of(rt, alloc, options.carrier, form, times, &asked) {
             Ok(tally) => tally_reply(
                 alloc,
                 form,
@@ -64,14 +63,7 @@ pub fn run_reply<R: Threads + Wait + Sync>(
     }
     let ran = run_by_carrier(rt, alloc, options.carrier, &asked.job);
     match ran {
-        Ok(reports) => trace_reply(
-            alloc,
-            form,
-            options.is_strict,
-            names,
-            &asked,
-            reports.as_slice(),
-        ),
+        Ok(reports) => trace_reply(alloc, form, options.is_strict, &asked, reports.as_slice()),
         Err(failure) => failed(alloc, form, failure),
     }
 }

@@ -42,7 +42,7 @@ pub struct Tally {
     pub is_met: bool,
 }
 
-/// Runs a job so many times, and counts the traces in this form. The bytes are the job's text.
+/// Runs a job so many times, and counts the traces in this form.
 ///
 /// # Errors
 ///
@@ -52,12 +52,11 @@ pub fn tally_of<R: Threads + Wait + Sync>(
     alloc: Global,
     carrier: Carrier,
     form: Form,
-    bytes: &[u8],
     times: u32,
     asked: &Reading,
 ) -> Result<Tally, Failure>
     ensures runs { IfOk result (λ t. (runs : List (List Report)) × (length runs ≡ times) × All (AreOfRun asked.now.job) runs
-        × (t.is_unfinished ≡ list_any (has_unfinished asked.now.job) runs) × (t.is_met ≡ list_all (as_asked (rows_asked asked.now.never.items) asked.now.job) runs) × (rows_of t.rows.items ≡ tally (map (trace_in form bytes.now asked.now.job) runs))) }
+        × (t.is_unfinished ≡ list_any (has_unfinished asked.now.job) runs) × (t.is_met ≡ list_all (as_asked (rows_asked asked.now.never.items) asked.now.job) runs) × (rows_of t.rows.items ≡ tally (map (trace_in form asked.now.names.items asked.now.job) runs))) }
     ensures shown { IfErr result (λ failure. IsShown asked.now.job failure) }
 {
     let mut tally = Tally {
@@ -67,7 +66,7 @@ pub fn tally_of<R: Threads + Wait + Sync>(
     };
     let mut done = 0;
     while done < times {
-        run_once(rt, alloc, carrier, form, bytes, asked, &mut tally, done)?;
+        run_once(rt, alloc, carrier, form, asked, &mut tally, done)?;
         done += 1;
     }
     Ok(tally)
@@ -79,7 +78,6 @@ fn run_once<R: Threads + Wait + Sync>(
     alloc: Global,
     carrier: Carrier,
     form: Form,
-    bytes: &[u8],
     asked: &Reading,
     tally: &mut Tally,
     done: u32,
@@ -89,7 +87,7 @@ fn run_once<R: Threads + Wait + Sync>(
     ensures ran { OnOk result ((reports : List Report) × AreOfRun asked.now.job reports
         × (tally.new.is_unfinished ≡ (tally.old.is_unfinished || has_unfinished asked.now.job reports))
         × (tally.new.is_met ≡ (tally.old.is_met && as_asked (rows_asked asked.now.never.items) asked.now.job reports))
-        × (rows_of tally.new.rows.items ≡ counted_once (rows_of tally.old.rows.items) (trace_in form bytes.now asked.now.job reports))) }
+        × (rows_of tally.new.rows.items ≡ counted_once (rows_of tally.old.rows.items) (trace_in form asked.now.names.items asked.now.job reports))) }
     ensures few { OnOk result (All (λ (row : Kept). row.count ≤ done + 1) tally.new.rows.items) }
     ensures shown { IfErr result (λ failure. IsShown asked.now.job failure) }
 {
@@ -98,7 +96,7 @@ fn run_once<R: Threads + Wait + Sync>(
     let is_met = as_asked(alloc, asked, reports.as_slice());
     tally.is_unfinished = tally.is_unfinished | hangs;
     tally.is_met = tally.is_met & is_met;
-    match trace_in(alloc, form, bytes, &asked.job, reports.as_slice()) {
+    match trace_in(alloc, form, &asked.names, &asked.job, reports.as_slice()) {
         Ok(trace) => match count_text(&mut tally.rows, trace, 1, done) {
             Ok(()) => Ok(()),
             Err(_) => Err(Failure::OutOfMemory),

@@ -16,20 +16,19 @@ use ulfm_reader::Reading;
 use ulfm_replies::{DONE, NOT_EXPECTED, Reply, UNFINISHED};
 use ulfm_script::RankReport;
 
-/// The trace of the reports of a job's ranks, in this form, with its status. The bytes are the job's text, which asks for these answers.
+/// The trace of the reports of a job's ranks, in this form, with its status, by what its text asks for.
 pub fn trace_reply(
     alloc: Global,
     form: Form,
     is_strict: bool,
-    bytes: &[u8],
     asked: &Reading,
     reports: &[RankReport],
 ) -> Result<Reply, AllocError>
-    ensures { IfOk result (λ r. (r.status ≡ played_status is_strict (as_asked (rows_of asked.now.never.items) asked.now.job reports.now) (has_unfinished asked.now.job reports.now)) × (string_bytes r.text ≡ trace_in form bytes.now asked.now.job reports.now)) }
+    ensures { IfOk result (λ r. (r.status ≡ played_status is_strict (as_asked (rows_of asked.now.never.items) asked.now.job reports.now) (has_unfinished asked.now.job reports.now)) × (string_bytes r.text ≡ trace_in form asked.now.names.items asked.now.job reports.now)) }
 {
     let is_met = as_asked(alloc, asked, reports);
     let status = played_status(is_strict, is_met, has_unfinished(&asked.job, reports));
-    let text = trace_in(alloc, form, bytes, &asked.job, reports)?;
+    let text = trace_in(alloc, form, &asked.names, &asked.job, reports)?;
     Ok(Reply { status, text })
 }
 

@@ -12,9 +12,21 @@ pub fn given_turns(asked: Reading, turns: Option<u32>) -> Reading
 {
     match turns {
         Some(turns) => {
-            let Reading { job, never, names } = asked;
+            let Reading {
+                job,
+                never,
+                texts,
+                names,
+                filed,
+            } = asked;
             let job = job.with_turns(turns);
-            Reading { job, never, names }
+            Reading {
+                job,
+                never,
+                texts,
+                names,
+                filed,
+            }
         }
         None => asked,
     }

@@ -8,3 +8,4 @@ pub mod Asking
 pub mod Claims
 pub mod Naming
 pub mod Drafting
+pub mod Labels

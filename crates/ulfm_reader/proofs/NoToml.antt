@@ -29,7 +29,7 @@ cond_not false x y h k = k
 
 step_not : (ranks k : ℕ) (draft : Draft) (found : Option Members) → step_in ranks k draft found ≢ Err NotToml
 step_not ranks k draft None = λ e. cc
-step_not ranks k draft (Some ms) = in_step_not k (draft_of ranks draft ms)
+step_not ranks k draft (Some ms) = in_step_not k (draft_of ranks k draft ms)
 
 steps_not : (ranks : ℕ) (draft : Draft) (lines : List Line) → steps_of ranks draft lines ≢ Err NotToml
 unfolding steps_of

@@ -12,6 +12,7 @@ use Rattle.ulfm_expand.specs.Members.{listed}
 use Rattle.ulfm_reader.specs.Keys.{◌>>=◌, required_number, only_keys, in_range}
 use Rattle.ulfm_job.specs.declared.clause.Clause.{Clause}
 use Rattle.ulfm_job.specs.declared.condition.Condition.{Condition}
+use Rattle.ulfm_reader.specs.declared.filed.Filed.{Filed}
 use Rattle.ulfm_reader.specs.declared.name.Name.{Name}
 use Rattle.ulfm_reader.specs.declared.reading.Reading.{Reading as Kept}
 use Rattle.std.specs.declared.alloc.Global.{Global}
@@ -30,37 +31,42 @@ abbrev pub in_step : {A : Type 0} → ℕ → Result A Fault → Result A JobFau
 in_step k (Ok x) = Ok x
 in_step k (Err f) = Err (refused.InStep f k)
 
--- what was read of the steps: those of each rank, their names, their conditions, and what they expect
+-- what was read of the steps: those of each rank, their names, their numbers in the file, their conditions, and what they expect
 pub record Draft : Type 0 where
   pub scripts : List (List Order)
   pub names : List Name
+  pub filed : List Filed
   pub conditions : List Condition
   pub expected : List Clause
 
 -- nothing was read of so many ranks
 abbrev pub blank : ℕ → Draft
-blank ranks = record { scripts = replicate ranks []; names = []; conditions = []; expected = [] }
+blank ranks = record { scripts = replicate ranks []; names = []; filed = []; conditions = []; expected = [] }
 
 -- one more step comes last in the script of its rank
 abbrev pub placed_in : List (List Order) → PlannedStep → List (List Order)
 placed_in scripts s = slice_set scripts s.rank (slice_index_or scripts s.rank [] ++ s.order ∷ [])
 
--- a draft with one more step: its name, then its conditions, and then what it expects
-unfoldable pub drafted : Draft → Members → PlannedStep → Result Draft Fault
-drafted draft ms s = do
+-- the step `at` of a rank comes from the place k of the file
+abbrev pub filed_at : ℕ → ℕ → ℕ → Filed
+filed_at k rank at = record { rank = rank; at = at; place = k }
+
+-- a draft with one more step, that of a place of the file: its name, then its conditions, and then what it expects
+unfoldable pub drafted : ℕ → Draft → Members → PlannedStep → Result Draft Fault
+drafted k draft ms s = do
   names ← names_in draft.names s.rank (length (slice_index_or draft.scripts s.rank [])) (get_member (codes "name") ms)
   conditions ← conditions_in (record { rank = s.rank; at = length (slice_index_or draft.scripts s.rank []); script = slice_index_or draft.scripts s.rank []; names = draft.names }) draft.conditions (get_member (codes "if") ms)
   expected ← expected_in s.rank (length (slice_index_or draft.scripts s.rank [])) s.order draft.expected (get_member (codes "expect") ms)
-  Ok (record { scripts = placed_in draft.scripts s; names = names; conditions = conditions; expected = expected })
+  Ok (record { scripts = placed_in draft.scripts s; names = names; filed = draft.filed ++ filed_at k s.rank (length (slice_index_or draft.scripts s.rank [])) ∷ []; conditions = conditions; expected = expected })
 
--- a draft with the step of a table
-abbrev pub draft_of : ℕ → Draft → Members → Result Draft Fault
-draft_of ranks draft ms = step_of ranks draft.names ms >>= drafted draft ms
+-- a draft with the step of a table, at a place of the file
+abbrev pub draft_of : ℕ → ℕ → Draft → Members → Result Draft Fault
+draft_of ranks k draft ms = step_of ranks draft.names ms >>= drafted k draft ms
 
 -- a step that may be no table
 abbrev pub step_in : ℕ → ℕ → Draft → Option Members → Result Draft JobFault
 step_in ranks k draft None = Err (refused.InStep BadKey k)
-step_in ranks k draft (Some ms) = in_step k (draft_of ranks draft ms)
+step_in ranks k draft (Some ms) = in_step k (draft_of ranks k draft ms)
 
 -- a draft with the step of a place of the file, or its fault with the place
 abbrev pub step_at : ℕ → ℕ → Draft → Data → Result Draft JobFault
@@ -124,11 +130,13 @@ planned_as h draft = record {
   left = [];
 }
 
--- what a text asks for: the plan of its job, the rows of answers of which no run may have all, and the names of steps
+-- what a text asks for: the plan of its job, the rows of answers of which no run may have all, the names of steps, and the place in the file
+-- from which each comes
 pub record Reading : Type 0 where
   pub plan : Plan
   pub never : List (List Clause)
   pub names : List Name
+  pub filed : List Filed
 
 -- the rows that the lists in memory hold
 abbrev pub rows_of : List (Vec Clause Global) → List (List Clause)
@@ -136,11 +144,11 @@ rows_of rows = map (λ row. row.items) rows
 
 -- what a text asks for, as it is kept
 abbrev pub reading_view : Kept → Reading
-reading_view r = record { plan = plan_of r.job; never = rows_of r.never.items; names = r.names.items }
+reading_view r = record { plan = plan_of r.job; never = rows_of r.never.items; names = r.names.items; filed = r.filed.items }
 
 -- what was read of the job's own keys and of its steps, and its rows
 abbrev pub read_as : Head → Draft → List (List Clause) → Reading
-read_as h draft never = record { plan = planned_as h draft; never = never; names = draft.names }
+read_as h draft never = record { plan = planned_as h draft; never = never; names = draft.names; filed = draft.filed }
 
 -- the rows of a job, by its steps and their names
 abbrev pub never_of : Head → Draft → Result Reading JobFault

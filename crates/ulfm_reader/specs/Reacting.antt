@@ -29,6 +29,14 @@ is_called rank text name = (name.rank == rank) && bytes_eq name.text text
 abbrev pub named : List Name → ℕ → List ℕ → Option ℕ
 named names rank text = option_map (λ (name : Name). name.at) (find (is_called rank text) names)
 
+-- the name is that of the step k of this rank
+abbrev pub is_name_of : ℕ → ℕ → Name → Bool
+is_name_of rank k name = (name.rank == rank) && (name.at == k)
+
+-- the name of the step k of a rank, where it has one
+abbrev pub name_at : List Name → ℕ → ℕ → Option (List ℕ)
+name_at names rank k = option_map (λ (name : Name). name.text) (find (is_name_of rank k) names)
+
 -- a name that no earlier step of the rank has
 abbrev pub is_new_name : List Name → ℕ → List ℕ → Bool
 is_new_name names rank text = is_name text && is_none (named names rank text)

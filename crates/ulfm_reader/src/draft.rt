@@ -11,18 +11,20 @@ use crate::asker::Asker;
 use crate::clauses::push_expected;
 use crate::conditions::push_conditions;
 use crate::fields::value_at;
+use crate::filed::Filed;
 use crate::name::{Name, is_new_name};
 use crate::ops::step_of;
 use crate::placed::Placed;
 use std::alloc::Global;
 use toml::{Table, Value};
-use ulfm_job::{Clause, Condition, Fault, JobFault, Step, Text};
+use ulfm_job::{Clause, Condition, Fault, JobFault, Label, Step};
 
-/// The steps of each rank that were read, their names, on what conditions some are played, and what some expect.
+/// The steps of each rank that were read, their names and places in the file, on what conditions some are played, and what some expect.
 #[derive(Drop)]
 pub struct Draft {
     pub scripts: Vec<Vec<Step>>,
     pub names: Vec<Name>,
+    pub filed: Vec<Filed>,
     pub conditions: Vec<Condition>,
     pub expected: Vec<Clause>,
 }
@@ -37,6 +39,7 @@ impl Draft {
         Ok(Draft {
             scripts: empty_scripts(alloc, ranks)?,
             names: Vec::new(alloc),
+            filed: Vec::new(alloc),
             conditions: Vec::new(alloc),
             expected: Vec::new(alloc),
         })
@@ -69,7 +72,7 @@ impl Draft {
     fn put(&mut self, place: u16, placed: Placed<'_>, table: &Table) -> Result<(), JobFault>
         requires inside { placed.rank < length self.old.scripts.items }
         requires few { step_count (lists_of self.old.scripts.items) ≤ 255 }
-        ensures exact { Gives (λ _. draft_view self.new) result (in_step place (drafted (draft_view self.old) (table_view table.now) (planned placed.entry))) }
+        ensures exact { Gives (λ _. draft_view self.new) result (in_step place (drafted place (draft_view self.old) (table_view table.now) (planned placed.entry))) }
         ensures each { OnOk result (length self.new.scripts.items ≡ length self.old.scripts.items) }
         ensures counted { OnOk result (step_count (lists_of self.new.scripts.items) ≡ step_count (lists_of self.old.scripts.items) + 1) }
     {
@@ -78,7 +81,7 @@ impl Draft {
         let script = self.scripts[rank as usize].as_slice();
         let names = self.names.as_slice();
         let at = script.len() as u16;
-        let name = match name_at(names, rank, table) {
+        let name = match new_name(names, rank, table) {
             Ok(name) => name,
             Err(fault) => return Err(JobFault::InStep(fault, place)),
         };
@@ -92,18 +95,18 @@ impl Draft {
         push_conditions(&mut self.conditions, &asker, table)?;
         push_expected(&mut self.expected, &asker, &step, table)?;
         push_name(&mut self.names, rank, at, name)?;
+        self.filed.push(Filed { rank, at, place })?;
         push_step(&mut self.scripts, rank, step)?;
         Ok(())
     }
 }
 
 /// Names, and behind them one more where there is one.
-fn push_name(names: &mut Vec<Name>, rank: u8, at: u16, name: Option<&str>) -> Result<(), JobFault>
-    ensures pushed { OnOk result (names.new.items ≡ name_behind names.old.items rank at name.entry) }
+fn push_name(names: &mut Vec<Name>, rank: u8, at: u16, name: Option<Label>) -> Result<(), JobFault>
+    ensures pushed { OnOk result (names.new.items ≡ name_behind names.old.items rank at name) }
     ensures memory { IfErr result (λ error. error ≡ JobFault.OutOfMemory) }
 {
     if let Some(text) = name {
-        let text = Text::new(*names.allocator(), text)?;
         names.push(Name { rank, at, text })?;
     }
     Ok(())
@@ -121,14 +124,14 @@ fn push_step(scripts: &mut Vec<Vec<Step>>, rank: u8, step: Step) -> Result<(), J
 }
 
 /// The name of a step of a rank, where it has one.
-fn name_at<'a>(names: &[Name], rank: u8, table: &'a Table) -> Result<Option<&'a str>, Fault>
+fn new_name(names: &[Name], rank: u8, table: &Table) -> Result<Option<Label>, Fault>
     ensures { (at : ℕ) → map_ok (name_behind names.now rank at) result ≡ names_in names.now rank at (get_member (codes "name") (table_view table.now)) }
 {
     let Some(value) = value_at(table, "name") else {
         return Ok(None);
     };
     match value.as_str() {
-        Some(text) if is_new_name(names, rank, text) => Ok(Some(text)),
+        Some(text) if is_new_name(names, rank, text) => Ok(Label::new(text)),
         Some(_) => Err(Fault::OutOfRange),
         None => Err(Fault::BadKey),
     }

@@ -3,7 +3,7 @@
 //!     let job = Job::read(alloc, bytes)?;
 //!
 //! [`ReadJob`] has that call: it answers the job of the text, or its first fault, in the order of docs/JOBS.md. A [`Reading`] also has
-//! the rows of answers of which no run may have all, and reads the answers that a line of text names. Read specs/JobText.antt (a job), then
+//! the rows of answers of which no run may have all, the names of steps and their places in the file, and reads the answers that a line of text names. Read specs/JobText.antt (a job), then
 //! StepText.antt (a step), Reacting.antt (names, conditions, what is expected), Never.antt (rows) and Goals.antt (such a line).
 #![tactic(auto)]
 
@@ -14,6 +14,7 @@ mod clauses;
 mod conditions;
 mod draft;
 mod fields;
+mod filed;
 mod goals;
 mod head;
 mod letters;
@@ -26,5 +27,6 @@ mod reference;
 mod rows;
 
 pub use beginnings::{REFUSALS, begins, begins_with, is_alike};
-pub use name::{Name, is_name};
+pub use filed::Filed;
+pub use name::{Name, is_name, name_at};
 pub use reading::{ReadJob, Reading, no_toml};

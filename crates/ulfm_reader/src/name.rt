@@ -1,9 +1,10 @@
 //! Names of steps.
 ghost use Rattle.std.specs.Prelude.{◌≡◌};
 ghost use Rattle.std.specs.List.{list_all};
-ghost use Rattle.ulfm_reader.specs.Reacting.{is_name, is_name_byte, named, is_called, is_new_name};
+ghost use Rattle.std.specs.Option.{option_copied};
+ghost use Rattle.ulfm_reader.specs.Reacting.{is_name, is_name_byte, is_name_of, name_at, named, is_called, is_new_name};
 
-use ulfm_job::Text;
+use ulfm_job::Label;
 use ulfm_job::limits::MOST_NAME;
 
 /// The name of a step: its rank, its number there, and the text.
@@ -11,14 +12,14 @@ use ulfm_job::limits::MOST_NAME;
 pub struct Name {
     pub rank: u8,
     pub at: u16,
-    pub text: Text,
+    pub text: Label,
 }
 
 /// Whether a step of this rank has this name.
 fn is_called(rank: u8, text: &str, name: &Name) -> bool
     ensures { result ≡ is_called rank text.now name.now }
 {
-    name.rank == rank && name.text.as_bytes() == text.as_bytes()
+    name.rank == rank && name.text.as_str() == text
 }
 
 /// The number of the step of a rank with this name.
@@ -27,6 +28,21 @@ pub fn named(names: &[Name], rank: u8, text: &str) -> Option<u16>
 {
     let found = names.iter().find(|name| is_called(rank, text, name))?;
     Some(found.at)
+}
+
+/// Whether this is the name of the step `k` of a rank.
+fn is_name_of(rank: u8, k: usize, name: &Name) -> bool
+    ensures { result ≡ is_name_of rank k name.now }
+{
+    name.rank == rank && name.at as usize == k
+}
+
+/// The name of the step `k` of a rank, where it has one.
+pub fn name_at(names: &[Name], rank: u8, k: usize) -> Option<&str>
+    ensures { option_copied result ≡ name_at names.now rank k }
+{
+    let found = names.iter().find(|name| is_name_of(rank, k, name))?;
+    Some(found.text.as_str())
 }
 
 /// Whether a byte may stand in a name: a letter, a digit, `_` or `-`.

@@ -8,16 +8,17 @@ ghost use Rattle.ulfm_reader.specs.JobText.{Gives, blank, steps_of, job_of_bytes
 ghost use Rattle.ulfm_reader.specs.Plan.{plan_of};
 
 use crate::draft::Draft;
+use crate::filed::Filed;
 use crate::head::{Head, head_of};
 use crate::name::Name;
-use crate::rows::rows_in;
+use crate::rows::{rows_in, texts_in};
 use std::alloc::Global;
 use toml::Table;
 use ulfm_expand::{Line, Unwritten, written_out};
 use ulfm_job::limits::MOST_BYTES;
-use ulfm_job::{Clause, Job, JobFault};
+use ulfm_job::{Clause, Job, JobFault, Text};
 
-/// What a text asks for: its job, the rows of answers of which no run may have all, and the names of its steps. In each clause of a row
+/// What a text asks for: its job, the rows of answers of which no run may have all, the names of its steps, and their places in the file. In each clause of a row
 /// `at` is `step`.
 #[derive(Drop)]
 pub struct Reading {
@@ -25,8 +26,12 @@ pub struct Reading {
     pub job: Job,
     /// The rows, none where the text has no `never`.
     pub never: Vec<Vec<Clause>>,
+    /// Their texts as they stand in the file, for people.
+    pub texts: Vec<Vec<Text>>,
     /// The names of steps.
     pub names: Vec<Name>,
+    /// The place of each step in the file, in the order in which they were read.
+    pub filed: Vec<Filed>,
 }
 
 /// What can be read from the text of a job.
@@ -108,14 +113,22 @@ fn with_rows(alloc: Global, head: &Head<'_>, draft: Draft) -> Result<Reading, Jo
         Ok(never) => never,
         Err(fault) => return Err(fault),
     };
+    let texts = texts_in(alloc, head.never)?;
     let Draft {
         scripts,
         names,
+        filed,
         conditions,
         expected,
     } = draft;
     let job = Job::new(head.capacity, head.turns, scripts, conditions, expected);
-    Ok(Reading { job, never, names })
+    Ok(Reading {
+        job,
+        never,
+        texts,
+        names,
+        filed,
+    })
 }
 
 /// What the steps of these lines are, in their order.

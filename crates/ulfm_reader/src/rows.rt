@@ -1,5 +1,5 @@
 //! The rows of answers of which no run may have all.
-ghost use Rattle.std.specs.Prelude.{◌≡◌, [], is_some, option_map};
+ghost use Rattle.std.specs.Prelude.{◌≡◌, [], IfErr, is_some, option_map};
 ghost use Rattle.std.specs.List.{list_all};
 ghost use Rattle.toml.specs.Data.{as_array, as_str};
 ghost use Rattle.toml.specs.View.{view, table_view, items_view};
@@ -131,4 +131,30 @@ pub fn rows_in(
         Some(_) => Err(JobFault::InJob(Fault::OutOfRange)),
         None => Ok(Vec::new(alloc)),
     }
+}
+
+/// The texts of a row, as they stand in the file.
+fn texts_of(alloc: Global, values: &[Value]) -> Result<Vec<Text>, JobFault>
+    ensures memory { IfErr result (λ error. error ≡ JobFault.OutOfMemory) }
+{
+    let mut texts = Vec::new(alloc);
+    for value in values {
+        if let Some(text) = value.as_str() {
+            texts.push(Text::new(alloc, text)?)?;
+        }
+    }
+    Ok(texts)
+}
+
+/// The texts of all rows.
+pub fn texts_in(alloc: Global, values: Option<&[Value]>) -> Result<Vec<Vec<Text>>, JobFault>
+    ensures memory { IfErr result (λ error. error ≡ JobFault.OutOfMemory) }
+{
+    let mut rows = Vec::new(alloc);
+    for value in values.unwrap_or(&[]) {
+        if let Some(row) = value.as_array() {
+            rows.push(texts_of(alloc, row.as_slice())?)?;
+        }
+    }
+    Ok(rows)
 }

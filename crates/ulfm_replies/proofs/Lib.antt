@@ -6,3 +6,4 @@ pub mod Outside
 pub mod AsRead
 pub mod Texts
 pub mod Statuses
+pub mod Documents

@@ -1,15 +1,20 @@
 -- What `expand` writes for a job.
-use Rattle.std.specs.Prelude.{◌≡◌, ◌≤◌, ℕ, List, Option, Some, Ok, Err}
+use Rattle.std.specs.Prelude.{◌≡◌, ◌≤◌, ℕ, List, Option, Some, None, Ok, Err, option_map, if◌then◌else◌}
+use Rattle.std.specs.Str.{is_utf8}
 use Rattle.toml.specs.Data.{Data, Members, table, members_depth}
 use Rattle.toml.specs.Parse.{parse_document}
 use Rattle.ulfm_job.specs.declared.fault.JobFault.{JobFault}
 use Rattle.ulfm_job.specs.declared.fault.JobFault.TheVariants.{OutOfMemory}
-use Rattle.ulfm_json.specs.Names.{document_in}
+use Rattle.ulfm_expand.specs.Documents.{written_job}
 use Rattle.ulfm_json.specs.declared.form.Form.{Form}
 use Rattle.ulfm_reader.specs.JobText.{job_of_bytes}
 use Rattle.ulfm_reader.specs.Plan.{Plan}
 use Rattle.ulfm_replies.specs.Failure.{out_of_memory_in}
 use Rattle.ulfm_replies.specs.Replies.{refused_in}
+
+-- the job that the bytes are, as a TOML document with its steps written out, where they are a document
+abbrev pub document_in : List ℕ → Option Data
+document_in bytes = if is_utf8 bytes then option_map (λ ms. table (written_job ms)) (parse_document bytes) else None
 
 -- a TOML text of this document, if it isn't nested deeper than TOML is read
 abbrev pub IsTextOf : Option Data → List ℕ → Type 0

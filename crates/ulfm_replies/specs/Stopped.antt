@@ -1,5 +1,5 @@
 -- What a text asks for, with the stops of a place.
-use Rattle.std.specs.Prelude.{◌≡◌, ◌==◌, ◌<◌, ◌+◌, ℕ, List, [], ◌++◌, length, map, Result, Ok, Err, codes, string_bytes, if◌then◌else◌}
+use Rattle.std.specs.Prelude.{◌≡◌, ◌==◌, ◌<◌, ◌+◌, ℕ, List, ◌++◌, length, map, Result, Ok, Err, codes, string_bytes, if◌then◌else◌}
 use Rattle.ulfm_job.specs.declared.clause.Clause.{Clause}
 use Rattle.ulfm_job.specs.declared.fault.JobFault.{JobFault}
 use Rattle.ulfm_job.specs.declared.fault.JobFault.TheVariants.{TooLarge, OutOfMemory}
@@ -11,6 +11,7 @@ use Rattle.ulfm_stops.specs.declared.place.Place.TheVariants.{Nowhere, One, Two}
 use Rattle.ulfm_stops.specs.declared.stop.Stop.{Stop}
 use Rattle.ulfm_reader.specs.JobText.{Reading, job_of_bytes, reading_of_bytes, rows_of}
 use Rattle.ulfm_reader.specs.Plan.{plan_of}
+use Rattle.ulfm_reader.specs.declared.filed.Filed.{Filed}
 use Rattle.ulfm_reader.specs.declared.name.Name.{Name}
 use Rattle.ulfm_reader.specs.declared.reading.Reading.{Reading as Kept}
 use Rattle.ulfm_json.specs.declared.form.Form.{Form}
@@ -18,27 +19,37 @@ use Rattle.ulfm_json.specs.declared.form.Form.TheVariants.{Words, Json}
 use Rattle.ulfm_replies.specs.Replies.{refused_in}
 use Rattle.ulfm_replies.specs.declared.reply.Reply.{Reply}
 
--- what was read of a text: its job, the rows of answers of which no run may have all, and the names of steps
+-- what was read of a text: its job, the rows of answers of which no run may have all, the names of steps, and the place in the file from which
+-- each comes
 pub record Asked : Type 0 where
   pub job : JobView
   pub rows : List (List Clause)
   pub names : List Name
+  pub filed : List Filed
 
 -- the same by its plan
 abbrev pub reading_as : Asked → Reading
-reading_as asked = record { plan = plan_of asked.job; never = asked.rows; names = asked.names }
+reading_as asked = record { plan = plan_of asked.job; never = asked.rows; names = asked.names; filed = asked.filed }
 
 -- what was read, as it is kept
 abbrev pub asked_view : Kept → Asked
-asked_view kept = record { job = kept.job; rows = rows_of kept.never.items; names = kept.names.items }
+asked_view kept = record { job = kept.job; rows = rows_of kept.never.items; names = kept.names.items; filed = kept.filed.items }
 
 -- clauses by the numbers that steps have beside a stop
 abbrev pub clauses_beside : Stop → ℕ → List Clause → List Clause
 clauses_beside stop n clauses = map (moved_clause stop.rank (before stop) n) clauses
 
+-- the number that a step of a rank has beside a stop
+abbrev pub number_beside : Stop → ℕ → ℕ → ℕ → ℕ
+number_beside stop n rank at = if rank == stop.rank then moved_number (before stop) n at else at
+
 -- the name of a step by the number that the step has beside a stop
 abbrev pub name_beside : Stop → ℕ → Name → Name
-name_beside stop n name = if name.rank == stop.rank then record name { at = moved_number (before stop) n name.at } else name
+name_beside stop n name = record name { at = number_beside stop n name.rank name.at }
+
+-- the place of a step in the file, by that number: the stop itself has none
+abbrev pub filed_beside : Stop → ℕ → Filed → Filed
+filed_beside stop n one = record one { at = number_beside stop n one.rank one.at }
 
 -- how many steps the rank of a stop has without it
 abbrev pub steps_without : Stop → JobView → ℕ
@@ -50,6 +61,7 @@ asked_beside stop asked = record {
   job = stopped stop asked.job;
   rows = map (clauses_beside stop (steps_without stop asked.job)) asked.rows;
   names = map (name_beside stop (steps_without stop asked.job)) asked.names;
+  filed = map (filed_beside stop (steps_without stop asked.job)) asked.filed;
 }
 
 -- what was read, with the stops of a place
@@ -64,11 +76,6 @@ pub record IsAskedAt (place : Place) (bytes : List ℕ) (asked : Asked) : Type 0
   pub is_read : reading_of_bytes bytes ≡ Ok (reading_as read)
   pub inside : IsPlaceOf read.job place
   pub at_place : asked ≡ asked_at place read
-
--- the text in which names of steps are looked for: beside stops none is told
-abbrev pub names_at : Place → List ℕ → List ℕ
-names_at Nowhere bytes = bytes
-names_at _ bytes = []
 
 -- the line for a place that a job hasn't
 abbrev pub no_place_text : Place → List ℕ

@@ -1,17 +1,18 @@
 //! The reply of `expand`: a job with its steps written out.
 ghost use Rattle.std.specs.Prelude.{◌≡◌, ◌≤◌, Some, option_map, IfOk, string_bytes};
 ghost use Rattle.std.specs.Option.{option_and_then};
-ghost use Rattle.toml.specs.Data.{as_table, members_depth};
+ghost use Rattle.toml.specs.Data.{as_table, members_depth, table as as_data};
 ghost use Rattle.toml.specs.Parse.{parse_document};
 ghost use Rattle.toml.specs.View.{table_view, view};
-ghost use Rattle.ulfm_json.specs.Names.{document_in};
-ghost use Rattle.ulfm_replies.specs.Expanded.{IsExpandReply, IsTextOf};
+ghost use Rattle.ulfm_expand.specs.Documents.{written_job};
+ghost use Rattle.ulfm_replies.specs.Expanded.{IsExpandReply, IsTextOf, document_in};
 
 use crate::reply::{DONE, Reply, refusal};
 use std::alloc::{AllocError, Global};
 use toml::{Table, Value};
+use ulfm_expand::written_job;
 use ulfm_job::Job;
-use ulfm_json::{Form, document_of};
+use ulfm_json::Form;
 use ulfm_reader::ReadJob;
 
 /// The reply of `expand`: the text of the job with its steps written out.
@@ -41,6 +42,33 @@ fn written_text(alloc: Global, bytes: &[u8]) -> Result<String, AllocError>
         Some(table) => text_of(alloc, table),
         None => Err(AllocError),
     }
+}
+
+/// The job that the bytes are, as a TOML document with its steps written out, where they are a document.
+fn document_of(alloc: Global, bytes: &[u8]) -> Result<Option<Value>, AllocError>
+    ensures { IfOk result (λ document. option_map view document ≡ document_in bytes.now) }
+{
+    let Ok(text) = str::from_utf8(bytes) else {
+        return Ok(None);
+    };
+    match toml::table_from_str(alloc, text) {
+        Ok(table) => written_document(alloc, table),
+        Err(error) => {
+            if error.is_memory() {
+                Err(AllocError)
+            } else {
+                Ok(None)
+            }
+        }
+    }
+}
+
+/// A job's table as a document with its steps written out.
+fn written_document(alloc: Global, table: Table) -> Result<Option<Value>, AllocError>
+    ensures { IfOk result (λ document. option_map view document ≡ Some (as_data (written_job (table_view table)))) }
+{
+    let written = written_job(alloc, table)?;
+    Ok(Some(Value::Table(written)))
 }
 
 /// The table that a document is.

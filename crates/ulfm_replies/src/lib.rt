@@ -39,7 +39,7 @@ pub use reply::{
     DONE, INPUT_FAILED, JOB_REFUSED, NO_SCHEDULE, NOT_EXPECTED, OUTPUT_FAILED, PAST_LIMIT,
     RUN_FAILED, Reply, UNFINISHED, USAGE, check_reply, refusal,
 };
-pub use stopped::{asked_at, asked_beside, names_at};
+pub use stopped::{asked_at, asked_beside};
 pub use ulfm_json::Form;
 pub use ulfm_stops::Place;
 pub use written::places_reply;

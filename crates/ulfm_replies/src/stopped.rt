@@ -2,13 +2,13 @@
 ghost use Rattle.std.specs.Prelude.{◌≡◌, ◌≤◌, ℕ, List, Ok, IfOk, map, string_bytes};
 ghost use Rattle.ulfm_stops.specs.Place.{IsPlaceOf, IsStopOf};
 ghost use Rattle.ulfm_reader.specs.JobText.{reading_of_bytes, rows_of};
-ghost use Rattle.ulfm_replies.specs.Stopped.{IsAsked, asked_at, asked_beside, asked_view, clauses_beside, name_beside, names_at, no_place_in, no_place_json, no_place_text, reading_as};
+ghost use Rattle.ulfm_replies.specs.Stopped.{IsAsked, asked_at, asked_beside, asked_view, clauses_beside, filed_beside, name_beside, no_place_in, no_place_json, no_place_text, number_beside, reading_as};
 
 use crate::reply::{JOB_REFUSED, Reply, refusal};
 use std::alloc::{AllocError, Global};
-use ulfm_job::{Clause, JobFault, MOST_STEPS};
+use ulfm_job::{Clause, JobFault, MOST_STEPS, Text};
 use ulfm_json::Form;
-use ulfm_reader::{Name, ReadJob, Reading};
+use ulfm_reader::{Filed, Name, ReadJob, Reading};
 use ulfm_stops::{Place, Stop};
 
 /// What a text asks for, with the stops of a place, or the reply that its job is refused, or hasn't this place.
@@ -23,16 +23,6 @@ pub fn asked_at(
     match Reading::read(alloc, bytes) {
         Ok(read) => placed(alloc, form, place, read),
         Err(fault) => Ok(Err(refusal(alloc, form, fault)?)),
-    }
-}
-
-/// The text in which the names of steps are looked for: beside stops none is told.
-pub fn names_at(place: Place, bytes: &[u8]) -> &[u8]
-    ensures { result.now ≡ names_at place bytes.now }
-{
-    match place {
-        Place::Nowhere => bytes,
-        _ => &[],
     }
 }
 
@@ -100,7 +90,8 @@ fn no_place_json(alloc: Global, place: Place) -> Result<String, AllocError>
     format!(in alloc; "{{\"place_refused\":\"{place}\"}}\n")
 }
 
-/// What was read, with one more stop of its job: steps of its rank behind the stop have a number more, by which rows and names then tell them.
+/// What was read, with one more stop of its job: steps of its rank behind the stop have a number more, by which rows, names and places
+/// in the file then tell them.
 pub fn asked_beside(alloc: Global, stop: Stop, read: &Reading) -> Result<Reading, AllocError>
     requires { IsStopOf read.now.job stop }
     ensures { IfOk result (λ made. asked_view made ≡ asked_beside stop (asked_view read.now)) }
@@ -108,8 +99,15 @@ pub fn asked_beside(alloc: Global, stop: Stop, read: &Reading) -> Result<Reading
     let len = read.job.script_len(stop.rank);
     let never = rows_beside(alloc, stop, len, read.never.as_slice())?;
     let names = names_beside(alloc, stop, len, read.names.as_slice())?;
+    let filed = filed_beside(alloc, stop, len, read.filed.as_slice())?;
     match stop.job(&read.job) {
-        Ok(job) => Ok(Reading { job, never, names }),
+        Ok(job) => Ok(Reading {
+            job,
+            never,
+            texts: copied_texts(alloc, read.texts.as_slice())?,
+            names,
+            filed,
+        }),
         Err(_) => Err(AllocError),
     }
 }
@@ -131,6 +129,19 @@ fn rows_beside(
     Ok(moved)
 }
 
+/// The texts of rows once more: a stop changes none.
+fn copied_texts(alloc: Global, rows: &[Vec<Text>]) -> Result<Vec<Vec<Text>>, AllocError> {
+    let mut copies = Vec::new(alloc);
+    for row in rows {
+        let mut copy = Vec::new(alloc);
+        for text in row {
+            copy.push(text.copy(alloc)?)?;
+        }
+        copies.push(copy)?;
+    }
+    Ok(copies)
+}
+
 /// Names by the numbers that steps have beside a stop.
 fn names_beside(
     alloc: Global,
@@ -143,25 +154,44 @@ fn names_beside(
 {
     let mut moved = Vec::new(alloc);
     for name in names {
-        moved.push(name_beside(alloc, stop, len, name)?)?;
+        moved.push(Name {
+            rank: name.rank,
+            at: number_beside(stop, len, name.rank, name.at),
+            text: name.text.copy(),
+        })?;
     }
     Ok(moved)
 }
 
-/// The name of a step by the number that the step has beside a stop.
-fn name_beside(alloc: Global, stop: Stop, len: usize, name: &Name) -> Result<Name, AllocError>
+/// Places in the file by the numbers that steps have beside a stop.
+fn filed_beside(
+    alloc: Global,
+    stop: Stop,
+    len: usize,
+    filed: &[Filed],
+) -> Result<Vec<Filed>, AllocError>
     requires { len ≤ 256 }
-    ensures { IfOk result (λ moved. moved ≡ name_beside stop len name.now) }
+    ensures { IfOk result (λ moved. moved.items ≡ map (filed_beside stop len) filed.now) }
 {
-    let text = name.text.copy(alloc)?;
-    let at = if name.rank == stop.rank {
-        stop.number(len, name.at)
+    let mut moved = Vec::new(alloc);
+    for one in filed {
+        moved.push(Filed {
+            rank: one.rank,
+            at: number_beside(stop, len, one.rank, one.at),
+            place: one.place,
+        })?;
+    }
+    Ok(moved)
+}
+
+/// The number that a step of a rank has beside a stop.
+fn number_beside(stop: Stop, len: usize, rank: u8, at: u16) -> u16
+    requires { len ≤ 256 }
+    ensures { result ≡ number_beside stop len rank at }
+{
+    if rank == stop.rank {
+        stop.number(len, at)
     } else {
-        name.at
-    };
-    Ok(Name {
-        rank: name.rank,
-        at,
-        text,
-    })
+        at
+    }
 }

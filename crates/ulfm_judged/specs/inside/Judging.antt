@@ -9,6 +9,7 @@ use Rattle.ulfm_lists.specs.Union.{some_never_ends}
 use Rattle.ulfm_lists.specs.declared.listed.Listed.{Listed}
 use Rattle.ulfm_judged.specs.declared.lists.Lists.{Lists}
 use Rattle.ulfm_json.specs.declared.form.Form.{Form}
+use Rattle.ulfm_reader.specs.declared.name.Name.{Name}
 use Rattle.ulfm_replies.specs.Stopped.{Asked, asked_at, asked_view}
 use Rattle.ulfm_reader.specs.declared.reading.Reading.{Reading}
 use Rattle.ulfm_replies.specs.declared.command.ListOptions.{ListOptions}
@@ -77,13 +78,13 @@ abbrev pub lists_status : ListOptions → Lists → ℕ
 lists_status options lists = status_past options lists.listed.items lists.past_limit
 
 -- the text of lists, or that they come past the limit
-abbrev pub text_past : Form → List ℕ → JobView → ListOptions → List Listed → Option Place → List ℕ
-text_past form bytes job options listed None = lists_in form bytes job listed
-text_past form bytes job options listed (Some place) = more_at form options.limit place
+abbrev pub text_past : Form → List Name → JobView → ListOptions → List Listed → Option Place → List ℕ
+text_past form names job options listed None = lists_in form names job listed
+text_past form names job options listed (Some place) = more_at form options.limit place
 
 -- that of these lists
-abbrev pub lists_text : Form → List ℕ → JobView → ListOptions → Lists → List ℕ
-lists_text form bytes job options lists = text_past form bytes job options lists.listed.items lists.past_limit
+abbrev pub lists_text : Form → List Name → JobView → ListOptions → Lists → List ℕ
+lists_text form names job options lists = text_past form names job options lists.listed.items lists.past_limit
 
 -- a search at a place for answers came to nothing, since no schedule shows them, or to what is told
 abbrev pub IsLookAt : JobView → List Clause → Bool → ℕ → Place → Option Kept → Type 0

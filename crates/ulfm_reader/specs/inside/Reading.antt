@@ -1,6 +1,5 @@
 -- What is read of a job's text, without the form that it has in memory.
 use Rattle.std.specs.Prelude.{ℕ, Bool, List, [], ◌∷◌, ◌++◌, Option, Some, None, Result, Ok, Err, ◌<◌, ◌≤◌, map, option_map, if◌then◌else◌}
-use Rattle.std.specs.Borrow.{Bor}
 use Rattle.toml.specs.View.{items_view}
 use Rattle.ulfm_reader.specs.declared.head.Head.{Head as Coded}
 use Rattle.ulfm_reader.specs.JobText.{Head, Draft}
@@ -65,14 +64,15 @@ abbrev pub draft_view : CodedDraft → Draft
 draft_view d = record {
   scripts = map (map order_of) (lists_of d.scripts.items);
   names = d.names.items;
+  filed = d.filed.items;
   conditions = d.conditions.items;
   expected = d.expected.items;
 }
 
 -- names, and behind them one more where there is one
-abbrev pub name_behind : List Name → ℕ → ℕ → Option (Bor (List ℕ)) → List Name
+abbrev pub name_behind : List Name → ℕ → ℕ → Option (List ℕ) → List Name
 name_behind names rank at None = names
-name_behind names rank at (Some text) = names ++ record { rank = rank; at = at; text = text.now } ∷ []
+name_behind names rank at (Some text) = names ++ record { rank = rank; at = at; text = text } ∷ []
 
 -- the clause of an answer, as it is read
 abbrev pub claim_view : CodedClaim → Clause

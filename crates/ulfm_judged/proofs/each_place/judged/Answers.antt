@@ -23,7 +23,7 @@ returns-in-Some g c =
     let words = string_bytes c.in-Some.told.text in
     let of_slice = subst (IsFirstUnwanted form options asked (places_in c.as_slice-listed.result.now)) c.in-Some.is c.in_ok-told.ensures in
     let first = subst (λ (listed : List Listed). IsFirstUnwanted form options asked (places_in listed) (Some c.in-Some.told)) c.as_slice-listed.ensures.value of_slice in
-    let text = c.in_ok-text.ensures ∙ ap (λ (listed : List Listed). text_past form c.args.bytes.now asked.job options listed lists.past_limit) c.as_slice-listed.ensures.value in
+    let text = c.in_ok-text.ensures ∙ ap (λ (listed : List Listed). text_past form asked.names asked.job options listed lists.past_limit) c.as_slice-listed.ensures.value in
     IfOk-weaker c.with_told.result _ _ (λ r h. (
       words,
       subst (λ (k : ℕ). IsJudgedEach form options asked (places_in lists.listed.items) (lists_status options lists) k words) (sym h.0) (first (lists_status options lists)),
@@ -38,5 +38,5 @@ returns-in-None g c =
     let lists = c.args.lists.now in
     let of_slice = subst (IsFirstUnwanted form options asked (places_in c.as_slice-listed.result.now)) c.in-None.is c.in_ok-told.ensures in
     let all = subst (λ (listed : List Listed). IsFirstUnwanted form options asked (places_in listed) None) c.as_slice-listed.ensures.value of_slice in
-    let text = c.in_ok-text.ensures ∙ ap (λ (listed : List Listed). text_past form c.args.bytes.now asked.job options listed lists.past_limit) c.as_slice-listed.ensures.value in
+    let text = c.in_ok-text.ensures ∙ ap (λ (listed : List Listed). text_past form asked.names asked.job options listed lists.past_limit) c.as_slice-listed.ensures.value in
     ([], subst (λ (k : ℕ). IsJudgedEach form options asked (places_in lists.listed.items) (lists_status options lists) k []) (sym c.status_of.ensures) (wanted all), text ∙ sym (append-nil _))

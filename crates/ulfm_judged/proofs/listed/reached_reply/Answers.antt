@@ -1,4 +1,4 @@
-use Rattle.std.proofs.Common.{ℕ, List, ap₂, subst, sym, ◌∙◌, string_bytes}
+use Rattle.std.proofs.Common.{ℕ, List, ap, subst, sym, ◌∙◌, string_bytes}
 use Rattle.std.proofs.lemmas.Result.{IfOk-weaker}
 use Rattle.ulfm_replies.specs.Stopped.{asked_view}
 use Rattle.ulfm_reach.specs.declared.reach.Reach.{Reach}
@@ -9,25 +9,25 @@ use Rattle.ulfm_judged.proofs.Writable.{writable}
 use Rattle.ulfm_judged.proofs.listed.reached_reply.Goals as goal
 
 pub list_in-requires : goal.list_in-requires
-list_in-requires g c = record { ascii = writable c.args.asked.now.job c.args.options.limit c.args.reach.now c.requires.list }
+list_in-requires g c = record { ascii = writable c.args.asked.now.job c.args.options.limit c.args.reach.now c.requires }
 
 pub returns-in-All : goal.returns-in-All
-returns-in-All g c =
+returns-in-All g c = λ bytes read.
     let asked = asked_view c.args.asked.now in
     let reached = c.in-All.reached in
     let form = c.args.form in
     let options = c.args.options in
     let limit = options.limit in
-    let list = subst (IsList asked.job limit) c.in-All.is c.requires.list in
-    let text = c.in_ok-text.ensures ∙ ap₂ (λ (names : List ℕ) (reach : Reach). list_in form names asked.job reach limit) c.names_at-names.ensures c.in-All.is in
-    IfOk-weaker c.judged.result _ _ (λ r h. listed asked reached r.status (string_bytes r.text) c.requires.asked list
+    let list = subst (IsList asked.job limit) c.in-All.is c.requires in
+    let text = c.in_ok-text.ensures ∙ ap (λ (reach : Reach). list_in form asked.names asked.job reach limit) c.in-All.is in
+    IfOk-weaker c.judged.result _ _ (λ r h. listed asked reached r.status (string_bytes r.text) read list
     (subst (λ (words : List ℕ). IsJudged form options asked.job asked.rows reached.found words r.status (string_bytes r.text)) text h)) c.judged.ensures
 
 pub returns-in-More : goal.returns-in-More
-returns-in-More g c =
+returns-in-More g c = λ bytes read.
     let asked = asked_view c.args.asked.now in
     let form = c.args.form in
     let options = c.args.options in
     let limit = options.limit in
-    subst (λ (words : List ℕ). IsOutcomesReply form options c.args.bytes.now 7 words) (sym (c.in_ok-text.ensures ∙ ap₂ (λ (names : List ℕ) (reach : Reach). list_in form names asked.job reach limit) c.names_at-names.ensures c.in-More.is))
-    (past_limit asked c.requires.asked (subst (IsList asked.job limit) c.in-More.is c.requires.list))
+    subst (λ (words : List ℕ). IsOutcomesReply form options bytes 7 words) (sym (c.in_ok-text.ensures ∙ ap (λ (reach : Reach). list_in form asked.names asked.job reach limit) c.in-More.is))
+    (past_limit asked read (subst (IsList asked.job limit) c.in-More.is c.requires))

@@ -11,13 +11,11 @@ use Rattle.ulfm_judged.proofs.EachPlace.{show_each_as}
 use Rattle.ulfm_judged.proofs.show_each.sought_reply.Goals as goal
 
 pub returns-then-len-stops-gt-MOST_STEPS : goal.returns-then-len-stops-gt-MOST_STEPS
-returns-then-len-stops-gt-MOST_STEPS g c =
-    let read = c.requires in
+returns-then-len-stops-gt-MOST_STEPS g c = λ bytes read.
     IfOk-weaker c.refusal.result _ _ (λ r h. rw (h.0, h.1) (no_room_to_show (asked_view c.args.asked.now) read (omega (arith, c.len.ensures.exact, c.if-len-stops-gt-MOST_STEPS.true)))) c.refusal.ensures
 
 pub returns-in-Err : goal.returns-in-Err
-returns-in-Err g c =
-    let read = c.requires in
+returns-in-Err g c = λ bytes read.
     let named = sym c.in_ok-answers.ensures ∙ ap goals_view c.in-Err.is in
     IfOk-weaker c.no_goal.result _ _ (λ r h. rw (h.0, h.1) (unnamed_at_all (asked_view c.args.asked.now) c.in-Err.text.now read named)) c.no_goal.ensures
 
@@ -25,11 +23,10 @@ pub first_look-requires : goal.first_look-requires
 first_look-requires g c = subst (All (IsPlaceOf c.args.asked.now.job)) (sym c.as_slice.ensures.value) c.in_ok-places.ensures.inside
 
 pub returns : goal.returns
-returns g c =
+returns g c = λ bytes read.
     let asked = asked_view c.args.asked.now in
     let options = c.args.options in
-    let read = c.requires in
     let named = sym c.in_ok-answers.ensures ∙ ap goals_view c.in-Ok.is in
     let of_clauses = subst (λ (clauses : List Clause). IsFirstLook asked.job clauses options.is_brief options.limit c.as_slice.result.now c.in_ok-look.look) c.as_slice-answers.ensures.value c.in_ok-look.ensures in
     let first = subst (λ (places : List Place). IsFirstLook asked.job c.in-Ok.answers.items options.is_brief options.limit places c.in_ok-look.look) (c.as_slice.ensures.value ∙ c.in_ok-places.ensures.exact) of_clauses in
-    IfOk-weaker c.look_reply.result _ _ (λ r h. rw (h.0) (show_each_as c.args.form options c.args.stops c.args.show.now c.args.bytes.now asked c.in-Ok.answers.items c.in_ok-look.look (string_bytes r.text) read named first h.1)) c.look_reply.ensures
+    IfOk-weaker c.look_reply.result _ _ (λ r h. rw (h.0) (show_each_as c.args.form options c.args.stops c.args.show.now bytes asked c.in-Ok.answers.items c.in_ok-look.look (string_bytes r.text) read named first h.1)) c.look_reply.ensures

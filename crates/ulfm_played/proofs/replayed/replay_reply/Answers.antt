@@ -16,5 +16,5 @@ returns-in-Ok-replay c =
     let given = c.given_turns-asked.ensures in
     let asked = subst (IsAsked c.args.form c.args.place c.args.bytes.now) c.in-Ok.is c.in_ok-read.ensures in
     let job : c.given_turns-asked.result.job ≡ given_turns c.args.turns c.in-Ok.asked.job = ap (λ (asked : Reading). asked.job) given in
-    IfOk-weaker c.trace_reply.result _ _ (λ r h. rw (h.0, h.1, c.as_slice.ensures.value, given, c.names_at-names.ensures) (traced (asked_view c.in-Ok.asked) reports asked
+    IfOk-weaker c.trace_reply.result _ _ (λ r h. rw (h.0, h.1, c.as_slice.ensures.value, given) (traced (asked_view c.in-Ok.asked) reports asked
     (subst (λ (j : JobView). MadeAtRest j reports) job c.in-Ok-replay.ensures.settled))) c.trace_reply.ensures

@@ -1,4 +1,4 @@
-use Rattle.std.proofs.Common.{◌≡◌, ◌∙◌, ℕ, All, List, Some, ap, ap₂, map, subst, sym}
+use Rattle.std.proofs.Common.{◌≡◌, ◌∙◌, All, Some, ap, ap₂, map, subst, sym}
 use Rattle.std.proofs.lemmas.List.{length-map}
 use Rattle.std.proofs.lemmas.Result.{IfOk-weaker}
 use Rattle.std.specs.List.{list_all, list_any}
@@ -38,7 +38,7 @@ returns-in-Some g c =
             h.0 ∙ ap₂ (played_status c.args.options.is_strict) (runs.4 ∙ ap (λ (asked : Reading). list_all (as_asked (rows_of asked.never.items) asked.job) runs.0) given)
                 (runs.3 ∙ ap (λ (j : JobView). list_any (has_unfinished j) runs.0) job),
             h.1 ∙ ap (λ (j : JobView). repeats_in c.args.form c.args.options.is_brief j c.in-Some.times (rows_kept w.in-Ok-tally_of.tally.rows.items)) job
-                ∙ ap₂ (repeats_in c.args.form c.args.options.is_brief (given_turns c.args.options.turns c.in-Ok.asked.job)) (sym runs.1) (runs.5 ∙ ap₂ (λ (names : List ℕ) (j : JobView). tally (map (trace_in c.args.form names j) runs.0)) c.names_at-names.ensures job),
+                ∙ ap₂ (repeats_in c.args.form c.args.options.is_brief (given_turns c.args.options.turns c.in-Ok.asked.job)) (sym runs.1) (runs.5 ∙ ap (λ (asked : Reading). tally (map (trace_in c.args.form asked.names.items asked.job) runs.0)) given),
           )
           (repeated (asked_view c.in-Ok.asked) runs.0 (c.in-Some.is ∙ ap Some (sym runs.1)) read (subst (λ (j : JobView). All (AreOfRun j) runs.0) job runs.2))) w.tally_reply.ensures)
       | in-Err-tally_of w ↦
@@ -53,7 +53,7 @@ returns-in-Ok-ran g c =
     let job : c.given_turns-asked.result.job ≡ given_turns c.args.options.turns c.in-Ok.asked.job = ap (λ (asked : Reading). asked.job) given in
     let of_run : AreOfRun (given_turns c.args.options.turns c.in-Ok.asked.job) reports = subst (λ (j : JobView). AreOfRun j reports) job c.in-Ok-ran.ensures.ran in
     let read = subst (IsAsked c.args.form c.args.options.place c.args.bytes.now) c.in-Ok.is c.in_ok-read.ensures in
-    IfOk-weaker c.trace_reply.result _ _ (λ r h. rw (h.0, h.1, c.as_slice.ensures.value, given, c.names_at-names.ensures) (ran (asked_view c.in-Ok.asked) reports (without_repeat c.args.options.repeat c.in_default.not-Some) read of_run)) c.trace_reply.ensures
+    IfOk-weaker c.trace_reply.result _ _ (λ r h. rw (h.0, h.1, c.as_slice.ensures.value, given) (ran (asked_view c.in-Ok.asked) reports (without_repeat c.args.options.repeat c.in_default.not-Some) read of_run)) c.trace_reply.ensures
 
 pub returns : goal.returns
 returns g c =

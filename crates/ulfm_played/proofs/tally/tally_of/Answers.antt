@@ -32,6 +32,6 @@ loop-done-preserved g c =
         All-push (AreOfRun c.args.asked.now.job) runs ran.0 known.2 ran.1,
         ran.2 ∙ ap (λ b. b || has_unfinished c.args.asked.now.job ran.0) known.3 ∙ sym (some_more (has_unfinished c.args.asked.now.job) runs ran.0),
         ran.3 ∙ ap (λ b. b && is_good ran.0) known.4 ∙ sym (all_more is_good runs ran.0),
-        ran.4 ∙ ap (λ rows. counted_once rows (trace_in c.args.form c.args.bytes.now c.args.asked.now.job ran.0)) known.5 ∙ sym (one_more (trace_in c.args.form c.args.bytes.now c.args.asked.now.job) runs ran.0),
+        ran.4 ∙ ap (λ rows. counted_once rows (trace_in c.args.form c.args.asked.now.names.items c.args.asked.now.job ran.0)) known.5 ∙ sym (one_more (trace_in c.args.form c.args.asked.now.names.items c.args.asked.now.job) runs ran.0),
       ),
     )

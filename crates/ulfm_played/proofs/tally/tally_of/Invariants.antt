@@ -17,4 +17,4 @@ decreases-loop-done g l = l.times - l.done
 abbrev pub invariant-loop-done : goal.invariant-loop-done
 invariant-loop-done g l = (l.done ≤ l.times) × All (λ (row : Counted). row.count ≤ l.done) l.tally.rows.items
     × ((runs : List (List Report)) × (length runs ≡ l.done) × All (AreOfRun l.asked.job) runs
-    × (l.tally.is_unfinished ≡ list_any (has_unfinished l.asked.job) runs) × (l.tally.is_met ≡ list_all (as_asked (rows_asked l.asked.never.items) l.asked.job) runs) × (rows_of l.tally.rows.items ≡ tally (map (trace_in l.form l.bytes l.asked.job) runs)))
+    × (l.tally.is_unfinished ≡ list_any (has_unfinished l.asked.job) runs) × (l.tally.is_met ≡ list_all (as_asked (rows_asked l.asked.never.items) l.asked.job) runs) × (rows_of l.tally.rows.items ≡ tally (map (trace_in l.form l.asked.names.items l.asked.job) runs)))

@@ -3,7 +3,7 @@ use Rattle.std.proofs.lemmas.Result.{IfOk-weaker}
 use Rattle.std.specs.Option.{option_and_then}
 use Rattle.toml.specs.Data.{as_table}
 use Rattle.toml.specs.View.{table_view}
-use Rattle.ulfm_json.specs.Names.{document_in}
+use Rattle.ulfm_replies.specs.Expanded.{document_in}
 use Rattle.ulfm_replies.proofs.Texts.{text-of}
 use Rattle.ulfm_replies.proofs.expanded.written_text.Goals as goal
 

@@ -28,4 +28,4 @@ returns-clause-exact c =
     let at = length c.as_slice-script.result.now in
     let h = front c.args.self.now c.args.placed.rank at c.index.result.now c.as_slice-script.result.now c.as_slice-names.result.now c.requires.inside c.index.ensures c.as_slice-script.ensures.value refl c.as_slice-names.ensures.value in
     let named = c.in_ok-push_name.ensures.pushed ∙ ap (λ (names : List Name). name_behind names c.args.placed.rank at c.in-Ok.name) (sym c.as_slice-names.ensures.value) in
-    rw (← c.in_ok-step.ensures) (ap (in_step c.args.place) (one-more c.args.self.now (record { scripts = c.push_step.new.scripts; names = c.push_name.new.names; conditions = c.push_conditions.new.conditions; expected = c.push_expected.new.clauses }) c.args.placed.rank at c.as_slice-script.result.now c.as_slice-names.result.now _ _ _ c.in_ok-step.step _ h c.requires.inside (c.in-Ok.ensures at) (in_step-ok c.args.place _ _ c.in_ok-push_conditions.ensures) (in_step-ok c.args.place _ _ c.in_ok-push_expected.ensures) c.in_ok-push_step.ensures.pushed named refl refl))
+    rw (← c.in_ok-step.ensures) (ap (in_step c.args.place) (one-more c.args.self.now (record { scripts = c.push_step.new.scripts; names = c.push_name.new.names; filed = c.push.new.self; conditions = c.push_conditions.new.conditions; expected = c.push_expected.new.clauses }) c.args.placed.rank at c.args.place c.as_slice-script.result.now c.as_slice-names.result.now _ _ _ c.in_ok-step.step _ h c.requires.inside (c.in-Ok.ensures at) (in_step-ok c.args.place _ _ c.in_ok-push_conditions.ensures) (in_step-ok c.args.place _ _ c.in_ok-push_expected.ensures) c.in_ok-push_step.ensures.pushed named c.in_ok-push.ensures.items refl refl))

@@ -2,8 +2,8 @@ use Rattle.std.proofs.Common.{ap, option_map, sym, ◌∙◌}
 use Rattle.std.proofs.lemmas.Result.{IfOk-weaker}
 use Rattle.toml.specs.Parse.{parse_document}
 use Rattle.toml.specs.View.{table_view, view}
-use Rattle.ulfm_json.proofs.Documents.{no_document, of_document}
-use Rattle.ulfm_json.proofs.names.document_of.Goals as goal
+use Rattle.ulfm_replies.proofs.Documents.{no_document, of_document}
+use Rattle.ulfm_replies.proofs.expanded.document_of.Goals as goal
 
 pub returns-in_default : goal.returns-in_default
 returns-in_default c = no_document c.args.bytes.now c.in_default.ensures.cases.0

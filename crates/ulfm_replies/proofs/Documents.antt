@@ -9,7 +9,7 @@ use Rattle.toml.specs.Parse.{parse_document}
 use Rattle.toml.specs.View.{table_view, view}
 use Rattle.toml.specs.declared.value.Value.{Value, Table}
 use Rattle.ulfm_expand.specs.Documents.{written_job}
-use Rattle.ulfm_json.specs.Names.{document_in}
+use Rattle.ulfm_replies.specs.Expanded.{document_in}
 
 pub no_document : (bytes : List ℕ) → (IsUtf8 bytes → ⊥) → None ≡ document_in bytes
 no_document bytes bad = rw (false_from_ne_true _ (λ is. bad (IsUtf8-from_is_utf8 bytes is))) refl
