@@ -5,7 +5,7 @@ use crate::kind::Kind;
 use crate::ops::OPS;
 use crate::rules::{Key, Rules};
 use crate::shown::Shown;
-use crate::told::{Numbered, halves};
+use crate::told::Numbered;
 use std::fmt;
 use toml::de::Error;
 
@@ -66,7 +66,7 @@ fn write_parts<W: fmt::Write>(
 ) -> fmt::Result {
     let mut rest = text;
     for part in parts {
-        let (before, behind) = halves(rest, "{}");
+        let (before, behind) = rest.split_once("{}").unwrap_or((rest, ""));
         write!(f, "{before}{part}")?;
         rest = behind;
     }

@@ -105,23 +105,25 @@ fn judged<F: Finder, L: Onlooker>(
     let past = lists.past_limit;
     let text = text_of(alloc, form, options, asked, listed, past)?;
     match first_unwanted(finder, alloc, form, options, asked, listed, onlooker)? {
-        Some(told) => with_told(text, &told),
+        Some(told) => with_told(text, told),
         None => Ok(Reply {
             status: status_of(options, lists),
             text,
+            remarks: None,
         }),
     }
 }
 
 /// What is told, below this text.
-fn with_told(text: String, told: &Reply) -> Result<Reply, AllocError>
-    ensures { IfOk result (λ r. (r.status ≡ told.now.status) × (string_bytes r.text ≡ string_bytes text ++ string_bytes told.now.text)) }
+fn with_told(text: String, told: Reply) -> Result<Reply, AllocError>
+    ensures { IfOk result (λ r. (r.status ≡ told.status) × (string_bytes r.text ≡ string_bytes text ++ string_bytes told.text)) }
 {
     let mut text = text;
     text.push_str(told.text.as_str())?;
     Ok(Reply {
         status: told.status,
         text,
+        remarks: told.remarks,
     })
 }
 

@@ -16,6 +16,7 @@ mod listing;
 mod lists;
 mod looking;
 mod onlooker;
+mod remarks;
 mod show_each;
 mod shown;
 mod threads;

@@ -17,6 +17,7 @@ ghost use Rattle.ulfm_lists.specs.Told.{told_view};
 use crate::each_place::each_place_reply;
 use crate::looking::look_for_row;
 use crate::onlooker::Onlooker;
+use crate::remarks::{remarks_on, skipped_in};
 use crate::show_each::show_each_reply;
 use crate::shown::show_reply;
 use std::alloc::{AllocError, Global};
@@ -28,9 +29,7 @@ use ulfm_json::Form;
 use ulfm_lists::{Told, push_row, push_unmet};
 use ulfm_reach::{Reach, Reached, Rows, Watch};
 use ulfm_reader::Reading;
-use ulfm_replies::{
-    DONE, ListOptions, NOT_EXPECTED, PAST_LIMIT, Reply, UNFINISHED, asked_at,
-};
+use ulfm_replies::{DONE, ListOptions, NOT_EXPECTED, PAST_LIMIT, Reply, UNFINISHED, asked_at};
 
 /// The reply of `outcomes` with these options, and perhaps with answers that a schedule is to show. `watch` is told how far it is.
 pub fn list_reply<R, F, W>(
@@ -115,6 +114,7 @@ fn reached_reply<F: Finder, W: Watch>(
         Reach::More => Ok(Reply {
             status: PAST_LIMIT,
             text,
+            remarks: None,
         }),
     }
 }
@@ -134,7 +134,7 @@ fn judged<F: Finder, W: Watch>(
     ensures { IfOk result (λ r. IsJudged form options asked.now.job (rows_of asked.now.never.items) reached.now.found (string_bytes list) r.status (string_bytes r.text)) }
 {
     if let Some(unmet) = first_unmet(&asked.job, &reached.found) {
-        return unmet_reply(finder, alloc, form, options, &asked.job, unmet, list, watch);
+        return unmet_reply(finder, alloc, form, options, asked, unmet, list, watch);
     }
     let rows = asked.never.as_slice();
     match first_row(
@@ -146,10 +146,11 @@ fn judged<F: Finder, W: Watch>(
         rows,
         watch,
     )? {
-        Some(first) => row_reply(form, &first, list),
+        Some(first) => row_reply(alloc, form, asked, &first, list),
         None => Ok(Reply {
             status: list_status(options.is_strict, some_never_end(&reached.found)),
             text: list,
+            remarks: skipped_in(alloc, asked, &reached.found),
         }),
     }
 }
@@ -171,23 +172,24 @@ fn unmet_reply<F: Finder, W: Watch>(
     alloc: Global,
     form: Form,
     options: ListOptions,
-    job: &Job,
+    asked: &Reading,
     unmet: Unmet,
     list: String,
     watch: &mut W,
 ) -> Result<Reply, AllocError>
-    requires { Judges job.now (Some unmet) }
-    ensures { IfOk result (λ r. (rows : List (List SeenClause)) (found : List (List ℕ)) → first_unmet job.now found ≡ Some unmet → IsJudged form options job.now rows found (string_bytes list) r.status (string_bytes r.text)) }
+    requires { Judges asked.now.job (Some unmet) }
+    ensures { IfOk result (λ r. (rows : List (List SeenClause)) (found : List (List ℕ)) → first_unmet asked.now.job found ≡ Some unmet → IsJudged form options asked.now.job rows found (string_bytes list) r.status (string_bytes r.text)) }
 {
     let limit = options.limit as usize;
-    let goals = unmet.goals(alloc, job)?;
+    let goals = unmet.goals(alloc, &asked.job)?;
     let mut text = list;
-    match finder.show(alloc, job, &goals, options.is_brief, limit, watch)? {
+    match finder.show(alloc, &asked.job, &goals, options.is_brief, limit, watch)? {
         Some(told) => {
             push_unmet(&mut text, form, unmet, &told)?;
             Ok(Reply {
                 status: NOT_EXPECTED,
                 text,
+                remarks: remarks_on(alloc, asked, None, &told),
             })
         }
         None => unreachable!(),
@@ -233,7 +235,13 @@ pub(crate) fn first_row<F: Finder, W: Watch>(
 }
 
 /// A list, and below it what came of the search for a row.
-fn row_reply(form: Form, first: &FirstRow, list: String) -> Result<Reply, AllocError>
+fn row_reply(
+    alloc: Global,
+    form: Form,
+    asked: &Reading,
+    first: &FirstRow,
+    list: String,
+) -> Result<Reply, AllocError>
     ensures { IfOk result (λ r. (r.status ≡ row_status (told_view first.now.told)) × (string_bytes r.text ≡ string_bytes list ++ row_in form first.now.number (told_view first.now.told))) }
 {
     let mut text = list;
@@ -241,6 +249,7 @@ fn row_reply(form: Form, first: &FirstRow, list: String) -> Result<Reply, AllocE
     Ok(Reply {
         status: row_status(&first.told),
         text,
+        remarks: remarks_on(alloc, asked, Some(first.number), &first.told),
     })
 }
 

@@ -36,9 +36,7 @@ pub fn show_each_reply<F: Finder, L: Onlooker>(
 {
     let read = asked_at(alloc, form, Place::Nowhere, bytes)?;
     match read {
-        Ok(asked) => sought_reply(
-            finder, alloc, form, options, stops, show, &asked, onlooker,
-        ),
+        Ok(asked) => sought_reply(finder, alloc, form, options, stops, show, &asked, onlooker),
         Err(reply) => Ok(reply),
     }
 }
@@ -176,6 +174,7 @@ fn look_reply(
         None => Ok(Reply {
             status: NO_SCHEDULE,
             text: String::from_str(alloc, nowhere(form))?,
+            remarks: None,
         }),
     }
 }
@@ -193,13 +192,18 @@ fn told_reply(
     if let (Told::Schedule(schedule), Some(style)) = (told, style) {
         let note = note_of(alloc, place)?;
         let text = drawn(alloc, style, schedule.as_str(), note.as_str())?;
-        return Ok(Reply { status: DONE, text });
+        return Ok(Reply {
+            status: DONE,
+            text,
+            remarks: None,
+        });
     }
     let mut text = String::new(alloc);
     push_told_at(&mut text, form, place, told)?;
     Ok(Reply {
         status: status_of(told),
         text,
+        remarks: None,
     })
 }
 

@@ -67,6 +67,7 @@ pub(crate) fn no_goal(alloc: Global, text: &str) -> Result<Reply, AllocError>
     Ok(Reply {
         status: JOB_REFUSED,
         text,
+        remarks: None,
     })
 }
 
@@ -86,6 +87,7 @@ fn look_reply(
             Ok(Reply {
                 status: NO_SCHEDULE,
                 text,
+                remarks: None,
             })
         }
     }
@@ -102,13 +104,18 @@ fn told_reply(
 {
     if let (Told::Schedule(schedule), Some(style)) = (told, style) {
         let text = drawn(alloc, style, schedule.as_str(), "")?;
-        return Ok(Reply { status: DONE, text });
+        return Ok(Reply {
+            status: DONE,
+            text,
+            remarks: None,
+        });
     }
     let mut text = String::new(alloc);
     push_told(&mut text, form, told)?;
     Ok(Reply {
         status: status_of(told),
         text,
+        remarks: None,
     })
 }
 

@@ -16,6 +16,7 @@ ghost use Rattle.ulfm_lists.specs.Told.{told_view};
 
 use crate::listed::{FirstRow, first_row, row_status};
 use crate::onlooker::{Onlooker, Seen};
+use crate::remarks::remarks_on;
 use std::alloc::{AllocError, Global};
 use ulfm_finder::{Finder, first_unmet};
 use ulfm_found::{Goals, Unmet};
@@ -139,7 +140,7 @@ fn unwanted<F: Finder, W: Watch>(
     }
     let rows = asked.never.as_slice();
     if let Some(first) = first_row(finder, alloc, options, &asked.job, found, rows, watch)? {
-        let reply = row_told(alloc, form, place, &first)?;
+        let reply = row_told(alloc, form, place, asked, &first)?;
         return Ok(Some(reply));
     }
     Ok(None)
@@ -166,6 +167,7 @@ fn unmet_told<F: Finder, W: Watch>(
     Ok(Reply {
         status: NOT_EXPECTED,
         text,
+        remarks: remarks_on(alloc, asked, None, &told),
     })
 }
 
@@ -208,7 +210,13 @@ fn unmet_text(
 }
 
 /// What is told of a row whose answers come together at a place.
-fn row_told(alloc: Global, form: Form, place: Place, first: &FirstRow) -> Result<Reply, AllocError>
+fn row_told(
+    alloc: Global,
+    form: Form,
+    place: Place,
+    asked: &Reading,
+    first: &FirstRow,
+) -> Result<Reply, AllocError>
     ensures { IfOk result (λ r. (r.status ≡ row_status (told_view first.now.told)) × (string_bytes r.text ≡ row_at form place first.now.number (told_view first.now.told))) }
 {
     let mut text = String::new(alloc);
@@ -216,5 +224,6 @@ fn row_told(alloc: Global, form: Form, place: Place, first: &FirstRow) -> Result
     Ok(Reply {
         status: row_status(&first.told),
         text,
+        remarks: remarks_on(alloc, asked, Some(first.number), &first.told),
     })
 }

@@ -1,12 +1,15 @@
 //! What standard error says beside a reply.
 //!
-//!     write_notes(alloc, form, wanted, bytes, &reply, &mut errors);
+//!     write_notes(alloc, wanted, bytes, &reply, &mut errors);
 //!     write_fault(alloc, usage, &mut errors);
 //!
-//! That is for people, and no contract speaks of it. What is wrong with a job is found by `ulfm_explain`.
+//! That is for people, and no contract speaks of it. What is wrong with a job is found by `ulfm_explain`;
+//! what is told of steps and rows comes with the reply.
 #![tactic(auto)]
 
+mod counted;
 mod misplaced;
 mod notes;
+mod told;
 
 pub use notes::{write_fault, write_notes};

@@ -29,7 +29,7 @@ fn all_have_come(alloc: Global, reports: &[RankReport], row: &[Clause]) -> bool
 }
 
 /// Whether a row that is looked at has come: all of its answers.
-fn has_come(alloc: Global, job: &Job, reports: &[RankReport], row: &Vec<Clause>) -> bool
+pub(crate) fn has_come(alloc: Global, job: &Job, reports: &[RankReport], row: &Vec<Clause>) -> bool
     ensures { result ≡ has_come job.now reports.now row.now.items }
 {
     let row = row.as_slice();

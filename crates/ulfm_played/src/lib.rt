@@ -10,6 +10,7 @@ mod asking;
 mod brief;
 mod faults;
 mod picture;
+mod remarks;
 mod replayed;
 mod run;
 mod swept;

@@ -47,5 +47,9 @@ fn picture_of(
 {
     let played = played_text(alloc, job, reports)?;
     let text = drawn(alloc, style, played.as_str(), "")?;
-    Ok(Reply { status: DONE, text })
+    Ok(Reply {
+        status: DONE,
+        text,
+        remarks: None,
+    })
 }

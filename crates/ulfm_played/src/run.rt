@@ -56,7 +56,7 @@ pub fn run_reply<R: Threads + Wait + Sync>(
                 options.is_brief,
                 &asked.job,
                 times,
-                &tally,
+                tally,
             ),
             Err(failure) => failed(alloc, form, failure),
         };

@@ -32,7 +32,11 @@ fn lines_reply(alloc: Global, form: Form, lines: &[SweepLine]) -> Result<Reply, 
     for line in lines {
         push_line(&mut text, form, line)?;
     }
-    Ok(Reply { status: DONE, text })
+    Ok(Reply {
+        status: DONE,
+        text,
+        remarks: None,
+    })
 }
 
 /// One line of a sweep, in this form.

@@ -15,6 +15,7 @@ ghost use Rattle.ulfm_played.specs.Unfinished.{has_unfinished, played_status};
 
 use crate::asking::as_asked;
 use crate::brief::brief_text;
+use crate::remarks::remarks_on;
 use crate::run::run_by_carrier;
 use crate::trace::{has_unfinished, played_status};
 use crate::traced::trace_in;
@@ -24,7 +25,8 @@ use std::thread::Threads;
 use ulfm_job::Job;
 use ulfm_json::Form;
 use ulfm_reader::Reading;
-use ulfm_replies::{Carrier, Failure, Reply};
+use ulfm_replies::{Carrier, Failure, Remark, Reply};
+use ulfm_script::RankReport;
 
 /// A text, as a trace, and how many runs gave it.
 #[derive(Drop)]
@@ -33,13 +35,14 @@ pub struct Counted {
     pub count: u32,
 }
 
-/// The distinct traces of runs, in the order in which they first came, whether some run left a step unfinished, and whether in all of
-/// them the answers are as the job asks.
+/// The distinct traces of runs, in the order in which they first came, whether some run left a step unfinished, whether in all of them
+/// the answers are as the job asks, and what standard error tells of these traces.
 #[derive(Drop)]
 pub struct Tally {
     pub rows: Vec<Counted>,
     pub is_unfinished: bool,
     pub is_met: bool,
+    pub remarks: Vec<Remark>,
 }
 
 /// Runs a job so many times, and counts the traces in this form.
@@ -63,6 +66,7 @@ pub fn tally_of<R: Threads + Wait + Sync>(
         rows: Vec::new(alloc),
         is_unfinished: false,
         is_met: true,
+        remarks: Vec::new(alloc),
     };
     let mut done = 0;
     while done < times {
@@ -97,11 +101,26 @@ fn run_once<R: Threads + Wait + Sync>(
     tally.is_unfinished = tally.is_unfinished | hangs;
     tally.is_met = tally.is_met & is_met;
     match trace_in(alloc, form, &asked.names, &asked.job, reports.as_slice()) {
-        Ok(trace) => match count_text(&mut tally.rows, trace, 1, done) {
-            Ok(()) => Ok(()),
-            Err(_) => Err(Failure::OutOfMemory),
-        },
+        Ok(trace) => {
+            let known = tally.rows.len();
+            match count_text(&mut tally.rows, trace, 1, done) {
+                Ok(()) => {
+                    if known < tally.rows.len() {
+                        push_remarks(&mut tally.remarks, asked, reports.as_slice());
+                    }
+                    Ok(())
+                }
+                Err(_) => Err(Failure::OutOfMemory),
+            }
+        }
         Err(_) => Err(Failure::OutOfMemory),
+    }
+}
+
+/// Adds what is told of reports, if there is memory for it.
+fn push_remarks(remarks: &mut Vec<Remark>, asked: &Reading, reports: &[RankReport]) {
+    if let Some(mut more) = remarks_on(*remarks.allocator(), asked, reports) {
+        let _are_told = remarks.append(&mut more);
     }
 }
 
@@ -135,11 +154,11 @@ pub fn tally_reply(
     is_brief: bool,
     job: &Job,
     times: u32,
-    tally: &Tally,
+    tally: Tally,
 ) -> Result<Reply, AllocError>
-    requires { sum_by (λ (row : Kept). row.count) tally.now.rows.items ≡ times }
-    ensures { IfOk result (λ r. (r.status ≡ played_status is_strict tally.now.is_met tally.now.is_unfinished)
-        × (string_bytes r.text ≡ repeats_in form is_brief job.now times (rows_of tally.now.rows.items))) }
+    requires { sum_by (λ (row : Kept). row.count) tally.rows.items ≡ times }
+    ensures { IfOk result (λ r. (r.status ≡ played_status is_strict tally.is_met tally.is_unfinished)
+        × (string_bytes r.text ≡ repeats_in form is_brief job.now times (rows_of tally.rows.items))) }
 {
     let text = if is_brief {
         brief_text(alloc, form, job, times, &tally.rows)?
@@ -149,6 +168,7 @@ pub fn tally_reply(
     Ok(Reply {
         status: played_status(is_strict, tally.is_met, tally.is_unfinished),
         text,
+        remarks: Some(tally.remarks),
     })
 }
 

@@ -7,6 +7,7 @@ ghost use Rattle.ulfm_played.specs.Asking.{as_asked};
 ghost use Rattle.ulfm_played.specs.Unfinished.{has_unfinished, left_from, leaves_unfinished, played_status};
 
 use crate::asking::as_asked;
+use crate::remarks::remarks_on;
 use crate::traced::trace_in;
 use std::alloc::{AllocError, Global};
 use ulfm_answer::{StepAnswer, StepReport};
@@ -29,7 +30,11 @@ pub fn trace_reply(
     let is_met = as_asked(alloc, asked, reports);
     let status = played_status(is_strict, is_met, has_unfinished(&asked.job, reports));
     let text = trace_in(alloc, form, &asked.names, &asked.job, reports)?;
-    Ok(Reply { status, text })
+    Ok(Reply {
+        status,
+        text,
+        remarks: remarks_on(alloc, asked, reports),
+    })
 }
 
 /// The status of what was played to its end, by whether the answers are as the job asks, and whether a step was left unfinished.
@@ -72,7 +77,7 @@ fn left_from(job: &Job, rank: u8, steps: &[StepReport]) -> bool
 }
 
 /// Whether a step was left unfinished.
-fn is_unfinished(step: &StepReport) -> bool
+pub(crate) fn is_unfinished(step: &StepReport) -> bool
     ensures { result ≡ is_unfinished step.now.answer }
 {
     match step.answer {

@@ -21,9 +21,8 @@ use ulfm_json::Form;
 use ulfm_judged::NO_GOAL;
 use ulfm_notes::{write_fault, write_notes};
 use ulfm_replies::{
-    Asked, DONE, Failure, INPUT_FAILED, JOB_REFUSED, ListOptions, NO_SCHEDULE, NOT_EXPECTED,
-    OUTPUT_FAILED, PAST_LIMIT, RUN_FAILED, Reply, USAGE, Unfollowed, Wanted, asked_for,
-    failed_line,
+    Asked, DONE, Failure, INPUT_FAILED, JOB_REFUSED, OUTPUT_FAILED, PAST_LIMIT, RUN_FAILED, Reply,
+    USAGE, Unfollowed, Wanted, asked_for, failed_line,
 };
 
 /// What is written where a word can't be read.
@@ -134,11 +133,7 @@ where
                 JOB_REFUSED if reply.text.as_str().starts_with(NO_GOAL) => {
                     write_fault(alloc, reply.text.as_str(), errors)
                 }
-                // A schedule that was asked for speaks for itself.
-                DONE | NO_SCHEDULE if asked.show.is_some() => {}
-                // Steps of a schedule at a place have the numbers that they have there, and notes would take them for the file's.
-                NOT_EXPECTED if asks_of_places(wanted) => {}
-                _ => write_remarks(alloc, form, wanted, bytes.as_slice(), &reply, far, errors),
+                _ => write_remarks(alloc, wanted, bytes.as_slice(), &reply, far, errors),
             }
             status
         }
@@ -149,7 +144,6 @@ where
 /// Writes the notes on a reply, and before them how far a search came that met its limit.
 fn write_remarks<E: Write>(
     alloc: Global,
-    form: Form,
     wanted: Wanted,
     bytes: &[u8],
     reply: &Reply,
@@ -159,12 +153,7 @@ fn write_remarks<E: Write>(
     if reply.status == PAST_LIMIT {
         far.tell(alloc, errors);
     }
-    write_notes(alloc, form, wanted, bytes, reply, errors);
-}
-
-/// Whether the words ask for the lists of all places.
-fn asks_of_places(wanted: Wanted) -> bool {
-    matches!(wanted, Wanted::Outcomes(ListOptions { stops: Some(_), .. }))
+    write_notes(alloc, wanted, bytes, reply, errors);
 }
 
 /// Writes that memory ran out, in this form, and answers the status of that, or of output that failed.

@@ -30,7 +30,11 @@ fn good_reply(alloc: Global, bytes: &[u8]) -> Result<Reply, AllocError>
     ensures { IfOk result (λ r. (r.status ≡ 0) × IsTextOf (document_in bytes.now) (string_bytes r.text)) }
 {
     let text = written_text(alloc, bytes)?;
-    Ok(Reply { status: DONE, text })
+    Ok(Reply {
+        status: DONE,
+        text,
+        remarks: None,
+    })
 }
 
 /// The text of a job with its steps written out.

@@ -41,5 +41,6 @@ pub fn failed(alloc: Global, form: Form, failure: Failure) -> Result<Reply, Allo
     Ok(Reply {
         status: RUN_FAILED,
         text,
+        remarks: None,
     })
 }

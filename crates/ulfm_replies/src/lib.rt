@@ -21,6 +21,7 @@ mod looked_at;
 mod number;
 mod options;
 mod placed;
+mod remark;
 mod reply;
 mod stopped;
 mod subcommands;
@@ -35,6 +36,7 @@ pub use failure::{Failure, failed, failed_line};
 pub use laws::nowhere_is_as_read;
 pub use looked_at::is_looked_at;
 pub use options::MOST_THREADS;
+pub use remark::{Remark, StepTold, asks};
 pub use reply::{
     DONE, INPUT_FAILED, JOB_REFUSED, NO_SCHEDULE, NOT_EXPECTED, OUTPUT_FAILED, PAST_LIMIT,
     RUN_FAILED, Reply, UNFINISHED, USAGE, check_reply, refusal,

@@ -2,6 +2,7 @@
 ghost use Rattle.std.specs.Prelude.{◌≡◌, Some, IfOk, string_bytes};
 ghost use Rattle.ulfm_replies.specs.Replies.{fault_text, job_fault_json, job_fault_text, refused_in, good_in, good_json, good_line, IsCheckReply};
 
+use crate::remark::Remark;
 use std::alloc::{AllocError, Global};
 use std::fmt;
 use ulfm_job::{Fault, Job, JobFault};
@@ -43,6 +44,8 @@ pub const NOT_EXPECTED: u8 = 9;
 pub struct Reply {
     pub status: u8,
     pub text: String,
+    /// What standard error tells beside it, if anything: for people, and none of it is promised.
+    pub remarks: Option<Vec<Remark>>,
 }
 
 fn fault_name(fault: Fault) -> &'static str
@@ -154,6 +157,7 @@ pub fn refusal(alloc: Global, form: Form, fault: JobFault) -> Result<Reply, Allo
     Ok(Reply {
         status: JOB_REFUSED,
         text,
+        remarks: None,
     })
 }
 
@@ -164,7 +168,11 @@ pub fn check_reply(alloc: Global, form: Form, bytes: &[u8]) -> Result<Reply, All
     match Job::read(alloc, bytes) {
         Ok(job) => {
             let text = good_in(alloc, form, job.ranks(), job.len())?;
-            Ok(Reply { status: DONE, text })
+            Ok(Reply {
+                status: DONE,
+                text,
+                remarks: None,
+            })
         }
         Err(fault) => refusal(alloc, form, fault),
     }

@@ -70,6 +70,7 @@ fn no_place(alloc: Global, form: Form, place: Place) -> Result<Reply, AllocError
     Ok(Reply {
         status: JOB_REFUSED,
         text,
+        remarks: None,
     })
 }
 

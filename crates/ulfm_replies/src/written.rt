@@ -22,7 +22,11 @@ pub fn places_reply(alloc: Global, form: Form, stops: u8, bytes: &[u8]) -> Resul
     }
     let places = places(alloc, &job, stops)?;
     let text = places_in(alloc, form, places.as_slice())?;
-    Ok(Reply { status: DONE, text })
+    Ok(Reply {
+        status: DONE,
+        text,
+        remarks: None,
+    })
 }
 
 /// A line for each of these places.
