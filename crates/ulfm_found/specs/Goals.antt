@@ -1,25 +1,27 @@
 -- What clauses ask a schedule to show.
-use Rattle.std.specs.Prelude.{◌≡◌, ◌==◌, ◌&&◌, ℕ, Bool, false, not, List, [], ◌∷◌, codes, filter, map}
+use Rattle.std.specs.Prelude.{◌≡◌, ◌==◌, ◌&&◌, ◌||◌, ℕ, Bool, false, not, List, [], ◌∷◌, codes, filter, map}
 use Rattle.std.specs.List.{list_all, list_any}
 use Rattle.std.specs.Str.{bytes_eq}
 use Rattle.ulfm_job.specs.Begins.{begins}
+use Rattle.ulfm_job.specs.Job.{JobView, may_leave}
 use Rattle.ulfm_job.specs.declared.clause.Clause.{Clause}
 use Rattle.ulfm_found.specs.declared.goals.Goals.{Goals}
 use Rattle.ulfm_found.specs.declared.open_step.OpenStep.{OpenStep}
 
--- a clause asks for a step that never ends
-abbrev pub is_unfinished : Clause → Bool
-is_unfinished c = bytes_eq c.words (codes "unfinished")
+-- A clause asks for a step that never ends: it says so, or that the step is unfinished, which is an answer where the job lets its rank
+-- leave the step.
+abbrev pub asks_open : JobView → Clause → Bool
+asks_open j c = bytes_eq c.words (codes "never ends") || (bytes_eq c.words (codes "unfinished") && not (may_leave j c.rank c.step))
 
 -- the step of a clause
 abbrev pub step_of : Clause → OpenStep
 step_of c = record { rank = c.rank; step = c.step }
 
--- These goals are what clauses ask for: those in the word `unfinished` steps that never end, the others answers.
-pub record AreOfClauses (clauses : List Clause) (goals : Goals) : Type 0 where
-  pub answers : goals.answers.items ≡ filter (λ c. not (is_unfinished c)) clauses
+-- These goals are what clauses ask for of a job: steps that never end, and answers.
+pub record AreOfClauses (j : JobView) (clauses : List Clause) (goals : Goals) : Type 0 where
+  pub answers : goals.answers.items ≡ filter (λ c. not (asks_open j c)) clauses
   pub others : goals.others.items ≡ []
-  pub left : goals.left.items ≡ map step_of (filter is_unfinished clauses)
+  pub left : goals.left.items ≡ map step_of (filter (asks_open j) clauses)
 
 -- the row of a list tells of an answer that begins as the clause says
 abbrev pub tells : Clause → List ℕ → Bool

@@ -3,7 +3,7 @@
 //!
 //!     let text = list_in(alloc, form, names, &job, &reach, limit)?;
 //!     let unmet = unmet_in(&job, &reached.found);
-//!     let goals = Goals::of(alloc, clauses)?;
+//!     let goals = Goals::of(alloc, &job, clauses)?;
 //!
 //! What is found are rows: the rank, the number of its step, and the words of an answer, or none where the step never ends.
 //!

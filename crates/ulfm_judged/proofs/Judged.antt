@@ -23,7 +23,7 @@ use Rattle.ulfm_judged.specs.inside.Looking.{IsFirstRow, IsLookText, look_status
 use Rattle.ulfm_lists.specs.Told.{told_view}
 
 -- the reply to what came of a search
-pub show_as : (form : Form) (options : ListOptions) (show bytes : List ℕ) (asked : Asked) (answers : List Clause) (goals : Goals) (look : Option Kept) (text : List ℕ) → IsAskedAt options.place bytes asked → goals_asked asked show ≡ Ok answers → AreOfClauses answers goals
+pub show_as : (form : Form) (options : ListOptions) (show bytes : List ℕ) (asked : Asked) (answers : List Clause) (goals : Goals) (look : Option Kept) (text : List ℕ) → IsAskedAt options.place bytes asked → goals_asked asked show ≡ Ok answers → AreOfClauses asked.job answers goals
     → IsLook asked.job goals options.is_brief options.limit look → IsLookText form options.drawn (option_map told_view look) text → IsShowReply form options show bytes (look_status (option_map told_view look)) text
 show_as form options show bytes asked answers goals None text read named are never is =
     subst (λ (t : List ℕ). IsShowReply form options show bytes 8 t) (sym is) (nowhere asked answers read named goals are never)

@@ -38,11 +38,11 @@ IsFirstUnmet job limit one = (found : List (List ℕ)) × HasList job limit foun
 
 -- the row is looked at, and these goals are what its answers ask for
 abbrev pub AreOfRow : JobView → List Clause → Goals → Type 0
-AreOfRow job row goals = (is_looked_at job row ≡ true) × AreOfClauses row goals
+AreOfRow job row goals = (is_looked_at job row ≡ true) × AreOfClauses job row goals
 
 -- no schedule of the job has all answers of the row, if it is looked at
 abbrev pub NeverComes : JobView → List Clause → Type 0
-NeverComes job row = is_looked_at job row ≡ true → (goals : Goals) × AreOfClauses row goals × ¬ IsPossible job goals
+NeverComes job row = is_looked_at job row ≡ true → (goals : Goals) × AreOfClauses job row goals × ¬ IsPossible job goals
 
 -- none has those of one of these rows
 abbrev pub NoneComes : JobView → List (List Clause) → Type 0
@@ -86,12 +86,12 @@ goals_asked asked show = goals_of (reading_as asked) show
 -- The same by `--show`: with 0 a schedule of the job with all answers that the text names, or a picture with `--draw`, with 8 that no schedule has them, with 7 that
 -- there are more states than the limit; with 1 the first part of the text that names no answer of the job, or that the job is refused.
 pub data IsShowReply (form : Form) (options : ListOptions) (show bytes : List ℕ) : ℕ → List ℕ → Type 0 where
-  shown : (asked : Asked) (answers : List Clause) → IsAskedAt options.place bytes asked → goals_asked asked show ≡ Ok answers → (goals : Goals) → AreOfClauses answers goals
+  shown : (asked : Asked) (answers : List Clause) → IsAskedAt options.place bytes asked → goals_asked asked show ≡ Ok answers → (goals : Goals) → AreOfClauses asked.job answers goals
       → (text told : List ℕ) → IsTold asked.job goals options.is_brief options.limit (schedule text) → (options.drawn ≡ None → told ≡ told_in form (schedule text))
       → IsShowReply form options show bytes 0 told
-  nowhere : (asked : Asked) (answers : List Clause) → IsAskedAt options.place bytes asked → goals_asked asked show ≡ Ok answers → (goals : Goals) → AreOfClauses answers goals
+  nowhere : (asked : Asked) (answers : List Clause) → IsAskedAt options.place bytes asked → goals_asked asked show ≡ Ok answers → (goals : Goals) → AreOfClauses asked.job answers goals
       → ¬ IsPossible asked.job goals → IsShowReply form options show bytes 8 (nowhere_in form)
-  too_many : (asked : Asked) (answers : List Clause) → IsAskedAt options.place bytes asked → goals_asked asked show ≡ Ok answers → (goals : Goals) → AreOfClauses answers goals
+  too_many : (asked : Asked) (answers : List Clause) → IsAskedAt options.place bytes asked → goals_asked asked show ≡ Ok answers → (goals : Goals) → AreOfClauses asked.job answers goals
       → IsTold asked.job goals options.is_brief options.limit (many options.limit) → IsShowReply form options show bytes 7 (told_in form (many options.limit))
   unnamed : (asked : Asked) (text : List ℕ) → IsAskedAt options.place bytes asked → goals_asked asked show ≡ Err text → IsShowReply form options show bytes 1 (no_goal text)
   not_shown : (status : ℕ) (text : List ℕ) → IsRefusal form options.place bytes status text → IsShowReply form options show bytes status text

@@ -31,9 +31,9 @@ clauses_at Nowhere j clauses = clauses
 clauses_at (One stop) j clauses = beside j stop clauses
 clauses_at (Two first second) j clauses = beside j second (beside j first clauses)
 
--- goals are what clauses of the file's steps ask for at a place
+-- goals are what clauses of the file's steps ask for of the job at a place
 abbrev pub AreGoalsAt : Place → JobView → List Clause → Goals → Type 0
-AreGoalsAt place j clauses goals = AreOfClauses (clauses_at place j clauses) goals
+AreGoalsAt place j clauses goals = AreOfClauses (job_at place j) (clauses_at place j clauses) goals
 
 -- no schedule of the job at a place has all these answers
 abbrev pub IsNowhereAt : JobView → List Clause → Place → Type 0

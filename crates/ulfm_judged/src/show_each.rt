@@ -1,6 +1,6 @@
 //! The reply of `outcomes --stops --show`: the first place at which a schedule shows answers, and that schedule.
 ghost use Rattle.std.specs.Prelude.{◌≡◌, ℕ, All, List, IfOk, Some, string_bytes};
-ghost use Rattle.ulfm_stops.specs.Place.{IsPlaceOf};
+ghost use Rattle.ulfm_stops.specs.Place.{IsPlaceOf, job_at};
 ghost use Rattle.ulfm_judged.specs.ShowEach.{AreGoalsAt, IsShowEachReply, beside};
 ghost use Rattle.ulfm_judged.specs.inside.Judging.{IsFirstLook, IsLookAt, IsLookAtText, IsToldAtText, look_at_status};
 ghost use Rattle.ulfm_judged.specs.inside.Looking.{look_status};
@@ -123,27 +123,34 @@ fn look_at<F: Finder, L: Onlooker>(
     let Ok(stopped) = place.job(alloc, job) else {
         return Err(AllocError);
     };
-    let goals = goals_at(alloc, place, job, answers)?;
+    let goals = goals_at(alloc, place, job, &stopped, answers)?;
     let limit = options.limit as usize;
     let watch = &mut Seen::of(onlooker, place);
     let look = finder.show(alloc, &stopped, &goals, options.is_brief, limit, watch)?;
     Ok(look)
 }
 
-/// What clauses of the file's steps ask for in the job at a place.
-fn goals_at(alloc: Global, place: Place, job: &Job, clauses: &[Clause]) -> Result<Goals, AllocError>
+/// What clauses of the file's steps ask for in the job at a place, which is `stopped`.
+fn goals_at(
+    alloc: Global,
+    place: Place,
+    job: &Job,
+    stopped: &Job,
+    clauses: &[Clause],
+) -> Result<Goals, AllocError>
+    requires { stopped.now ≡ job_at place job.now }
     ensures { IfOk result (AreGoalsAt place job.now clauses.now) }
 {
     match place {
-        Place::Nowhere => Ok(Goals::of(alloc, clauses)?),
+        Place::Nowhere => Ok(Goals::of(alloc, stopped, clauses)?),
         Place::One(stop) => {
             let moved = beside(alloc, job, stop, clauses)?;
-            Ok(Goals::of(alloc, moved.as_slice())?)
+            Ok(Goals::of(alloc, stopped, moved.as_slice())?)
         }
         Place::Two(first, second) => {
             let half = beside(alloc, job, first, clauses)?;
             let moved = beside(alloc, job, second, half.as_slice())?;
-            Ok(Goals::of(alloc, moved.as_slice())?)
+            Ok(Goals::of(alloc, stopped, moved.as_slice())?)
         }
     }
 }

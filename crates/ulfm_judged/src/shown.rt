@@ -50,7 +50,7 @@ fn sought_reply<F: Finder, W: Watch>(
         Ok(answers) => answers,
         Err(text) => return no_goal(alloc, text),
     };
-    let goals = Goals::of(alloc, answers.as_slice())?;
+    let goals = Goals::of(alloc, &asked.job, answers.as_slice())?;
     let limit = options.limit as usize;
     let look = finder.show(alloc, &asked.job, &goals, options.is_brief, limit, watch)?;
     look_reply(alloc, form, options.drawn, &look)

@@ -12,6 +12,7 @@ use Rattle.ulfm_reader.specs.JobText.{Reading, reading_of_bytes}
 use Rattle.ulfm_reader.specs.Keys.{◌>>=◌}
 use Rattle.ulfm_reader.specs.Never.{claim_of, parted}
 use Rattle.ulfm_reader.specs.Plan.{Order}
+use Rattle.ulfm_reader.specs.Reacting.{clause}
 
 -- the parts of a text between semicolons, without white space around
 abbrev pub parts_of : List ℕ → List (List ℕ)
@@ -21,9 +22,13 @@ parts_of text = map trim (slice_split (λ b. b == 59) text)
 abbrev pub trace_words : List ℕ → List ℕ
 trace_words words = if bytes_eq words (codes "never ends") then codes "unfinished" else words
 
--- the clause of a text, as of one in a row; the step may also never end
+-- the clause in these words
+abbrev pub in_words : List ℕ → Clause → Clause
+in_words words c = clause c.rank c.at c.step words
+
+-- the clause of a text, as of one in a row; the step may also never end, where it may be unfinished
 unfoldable pub goal_in : List (List Order) → List Name → List ℕ → Result Clause Fault
-goal_in scripts names text = parted 32 text >>= (λ parts. claim_of scripts names parts.0 (trace_words parts.1))
+goal_in scripts names text = parted 32 text >>= (λ parts. claim_of scripts names parts.0 (trace_words parts.1) >>= (λ claim. Ok (in_words parts.1 claim)))
 
 -- the same, or the text that names no answer
 abbrev pub goal_or : List ℕ → Result Clause Fault → Result Clause (List ℕ)

@@ -151,14 +151,15 @@ fn trace_words(words: &str) -> &str
     }
 }
 
-/// The answer of a job's step that a text names, as one of a row; the step may also never end.
+/// The answer of a job's step that a text names, as one of a row; the step may also never end, where it may be unfinished.
 #[tactic(auto, unfolding(crate::specs::Goals::goal_in))]
 pub fn goal_in<'a>(job: &Job, names: &[Name], text: &'a str) -> Result<Claim<'a>, Fault>
     ensures { map_ok claim_view result ≡ goal_in (plan_of job.now).scripts names.now text.now }
 {
     let (place, words) = parted(text, ' ')?;
     let (rank, step) = place_in(names, place)?;
-    claimed(step_in_job(job, rank, step), rank, step, trace_words(words))
+    let claim = claimed(step_in_job(job, rank, step), rank, step, trace_words(words))?;
+    Ok(Claim { words, ..claim })
 }
 
 /// The answer that a value names, where it is a text.

@@ -13,7 +13,7 @@ use ulfm_job::{Clause, Text};
 
 impl Reading {
     /// The answers of the job's steps that a text names, parted by semicolons, each as one of a row of `never`. A step may also be said
-    /// to `never end`: that is its answer `unfinished`. In each clause `at` is `step`. Or the first part that names no answer.
+    /// to `never end`, where its answer may be `unfinished`. In each clause `at` is `step`. Or the first part that names no answer.
     ///
     /// # Errors
     ///
