@@ -1,13 +1,13 @@
 //! Items on their way.
 
-use crate::kind::Matter;
+use ulfm_moves::Cargo;
 
 /// An item between two ranks.
 #[derive(Clone, Copy, Debug)]
 pub(crate) struct Arrow {
     pub(crate) from: usize,
     pub(crate) to: usize,
-    pub(crate) matter: Matter,
+    pub(crate) cargo: Cargo,
     /// The row of the move that it comes from.
     pub(crate) start: usize,
     /// The row in which it was taken, where it was.
@@ -20,8 +20,8 @@ impl Arrow {
         self.from < self.to
     }
 
-    /// Whether it is under way, with this matter between these ranks.
-    pub(crate) fn is_awaited(&self, from: usize, to: usize, matter: Matter) -> bool {
-        self.end.is_none() && self.from == from && self.to == to && self.matter == matter
+    /// Whether it is under way, like this between these ranks.
+    pub(crate) fn is_awaited(&self, from: usize, to: usize, cargo: Cargo) -> bool {
+        self.end.is_none() && self.from == from && self.to == to && self.cargo == cargo
     }
 }

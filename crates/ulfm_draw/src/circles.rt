@@ -2,15 +2,11 @@
 
 use crate::picture::Picture;
 use crate::wait::Wait;
-use std::alloc::Global;
-use ulfm_base::OutOfMemory;
+use std::alloc::{AllocError, Global};
 
 /// A line for each circle of ranks that wait for one another, and for each wait for a rank that is through or has stopped. Of a rank that gave
 /// up several steps the first one counts: but for that it would stand there.
-pub(crate) fn conclusions(
-    alloc: Global,
-    picture: &Picture<'_>,
-) -> Result<Vec<String>, OutOfMemory> {
+pub(crate) fn conclusions(alloc: Global, picture: &Picture<'_>) -> Result<Vec<String>, AllocError> {
     let mut lines = Vec::new(alloc);
     for rank in 0..picture.ranks() {
         if begins_circle(picture, rank) {
@@ -27,7 +23,7 @@ pub(crate) fn conclusions(
 }
 
 /// Why what a wait is for won't come any more, where it is for a rank that is through or has stopped.
-fn vain(picture: &Picture<'_>, wait: &Wait<'_>) -> Option<&'static str> {
+fn vain(picture: &Picture<'_>, wait: &Wait) -> Option<&'static str> {
     if !holds(picture, wait) || picture.waits_somewhere(wait.on) {
         return None;
     }
@@ -38,15 +34,15 @@ fn vain(picture: &Picture<'_>, wait: &Wait<'_>) -> Option<&'static str> {
 }
 
 /// Whether a wait is of the step at which its rank would stand, and isn't over as soon as what came later is there.
-fn holds(picture: &Picture<'_>, wait: &Wait<'_>) -> bool {
-    if wait.is_missed() || picture.first_step(wait.rank) != Some(wait.step) {
+fn holds(picture: &Picture<'_>, wait: &Wait) -> bool {
+    if wait.is_missed || picture.first_step(wait.rank) != Some(wait.step) {
         return false;
     }
-    !(wait.is_for_message()
+    !(wait.is_for_message
         && picture
             .waits
             .iter()
-            .any(|other| other.is_beside(wait) && other.is_missed()))
+            .any(|other| other.is_beside(wait) && other.is_missed))
 }
 
 /// The first other rank that a rank waits for and that waits itself.
@@ -80,7 +76,7 @@ fn begins_circle(picture: &Picture<'_>, rank: usize) -> bool {
 }
 
 /// The line of a circle, from its first rank.
-fn circle(alloc: Global, picture: &Picture<'_>, rank: usize) -> Result<String, OutOfMemory> {
+fn circle(alloc: Global, picture: &Picture<'_>, rank: usize) -> Result<String, AllocError> {
     let mut text = String::from_str(alloc, "A circle: ")?;
     let mut at = rank;
     for _ in 0..picture.ranks() {

@@ -4,14 +4,13 @@ use crate::circles::conclusions;
 use crate::picture::Picture;
 use crate::row::Row;
 use crate::saying::{outcome, subject};
-use std::alloc::Global;
-use ulfm_base::OutOfMemory;
+use std::alloc::{AllocError, Global};
 
 /// The fewest letters of a column.
 const FEWEST: usize = 8;
 
 /// A picture as text: a column for each rank, and a row for each move.
-pub(crate) fn table(alloc: Global, picture: &Picture<'_>) -> Result<String, OutOfMemory> {
+pub(crate) fn table(alloc: Global, picture: &Picture<'_>) -> Result<String, AllocError> {
     let cells = cells_of(alloc, picture)?;
     let widths = widths_of(alloc, picture, cells.as_slice())?;
     let mut out = String::new(alloc);
@@ -20,7 +19,7 @@ pub(crate) fn table(alloc: Global, picture: &Picture<'_>) -> Result<String, OutO
 }
 
 /// The texts of all rows.
-fn cells_of(alloc: Global, picture: &Picture<'_>) -> Result<Vec<String>, OutOfMemory> {
+fn cells_of(alloc: Global, picture: &Picture<'_>) -> Result<Vec<String>, AllocError> {
     let mut cells = Vec::new(alloc);
     for (number, row) in picture.rows.iter().enumerate() {
         cells.push(cell(alloc, picture, number, row)?)?;
@@ -34,7 +33,7 @@ fn push_table(
     picture: &Picture<'_>,
     cells: &[String],
     widths: &[usize],
-) -> Result<(), OutOfMemory> {
+) -> Result<(), AllocError> {
     push_head(out, picture, widths)?;
     for (row, cell) in picture.rows.iter().zip(cells.iter()) {
         push_line(out, widths, row.rank, cell.as_str())?;
@@ -44,7 +43,7 @@ fn push_table(
 }
 
 /// Puts what is noted of the whole, and the ranks' names above their columns.
-fn push_head(out: &mut String, picture: &Picture<'_>, widths: &[usize]) -> Result<(), OutOfMemory> {
+fn push_head(out: &mut String, picture: &Picture<'_>, widths: &[usize]) -> Result<(), AllocError> {
     if !picture.note.is_empty() {
         write!(out, "{}\n", picture.note)?;
     }
@@ -60,8 +59,8 @@ fn cell(
     alloc: Global,
     picture: &Picture<'_>,
     number: usize,
-    row: &Row<'_>,
-) -> Result<String, OutOfMemory> {
+    row: &Row,
+) -> Result<String, AllocError> {
     let subject = subject(alloc, row)?;
     if !row.is_taking() {
         let outcome = outcome(alloc, picture, number, row)?;
@@ -80,7 +79,7 @@ fn widths_of(
     alloc: Global,
     picture: &Picture<'_>,
     cells: &[String],
-) -> Result<Vec<usize>, OutOfMemory> {
+) -> Result<Vec<usize>, AllocError> {
     let mut widths = Vec::new(alloc);
     for rank in 0..picture.ranks() {
         let mut width = FEWEST;
@@ -100,7 +99,7 @@ fn push_line(
     widths: &[usize],
     rank: usize,
     text: &str,
-) -> Result<(), OutOfMemory> {
+) -> Result<(), AllocError> {
     for column in 0..widths.len() {
         push_cell(out, widths, column, if column == rank { text } else { "|" })?;
     }
@@ -113,7 +112,7 @@ fn push_cell(
     widths: &[usize],
     column: usize,
     text: &str,
-) -> Result<(), OutOfMemory> {
+) -> Result<(), AllocError> {
     out.push_str(text)?;
     if column.saturating_add(1) >= widths.len() {
         return Ok(());
@@ -126,20 +125,20 @@ fn push_cell(
 }
 
 /// Puts how each rank ended, and what steps wait for that stand open.
-fn push_ends(out: &mut String, picture: &Picture<'_>) -> Result<(), OutOfMemory> {
+fn push_ends(out: &mut String, picture: &Picture<'_>) -> Result<(), AllocError> {
     for rank in 0..picture.ranks() {
         let ending = picture.ending(rank);
         write!(out, "rank {rank}: {ending}\n")?;
     }
     for wait in &picture.waits {
-        let (rank, step, need) = (wait.rank, wait.step, wait.need);
+        let (rank, step, need) = (wait.rank, wait.step, wait.need.as_str());
         write!(out, "{rank}.{step} waits for {need}: {}\n", wait.bearer)?;
     }
     Ok(())
 }
 
 /// Puts what the waits come to.
-fn push_conclusions(out: &mut String, picture: &Picture<'_>) -> Result<(), OutOfMemory> {
+fn push_conclusions(out: &mut String, picture: &Picture<'_>) -> Result<(), AllocError> {
     let alloc = *out.allocator();
     for conclusion in conclusions(alloc, picture)? {
         write!(out, "{conclusion}\n")?;

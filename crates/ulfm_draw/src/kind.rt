@@ -1,6 +1,6 @@
 //! Items by what they are.
 
-use crate::words::{number, word};
+use ulfm_moves::Cargo;
 
 /// What an item is.
 #[derive(Clone, Copy, Debug, PartialEq, Eq)]
@@ -26,40 +26,13 @@ pub(crate) const KINDS: [Kind; 5] = [
     Kind::Agreement,
 ];
 
-/// By what an item is told apart: its kind, the tag of a message, and its communicator.
-#[derive(Clone, Copy, Debug, PartialEq, Eq)]
-pub(crate) struct Matter {
-    pub(crate) kind: Kind,
-    pub(crate) tag: usize,
-    pub(crate) comm: usize,
-}
-
-impl Matter {
-    /// Of an item without a tag.
-    pub(crate) fn of(kind: Kind, comm: usize) -> Matter {
-        Matter { kind, tag: 0, comm }
-    }
-
-    /// By the words of an item, as a schedule has them.
-    pub(crate) fn named(words: &str) -> Matter {
-        match word(words, 0) {
-            "message" => Matter {
-                kind: Kind::Message,
-                tag: number(words, 2),
-                comm: number(words, 6),
-            },
-            "notice" => Matter::of(Kind::Notice, 0),
-            "revocation" => Matter::of(Kind::Revocation, number(words, 3)),
-            _ => Matter::of(entered(words), number(words, 6)),
-        }
-    }
-}
-
-/// What is entered, by the words of an entry.
-fn entered(words: &str) -> Kind {
-    if word(words, 3) == "shrink" {
-        Kind::Shrink
-    } else {
-        Kind::Agreement
+/// The kind of an item.
+pub(crate) fn kind_of(cargo: Cargo) -> Kind {
+    match cargo {
+        Cargo::Message(_, _, _) => Kind::Message,
+        Cargo::Notice => Kind::Notice,
+        Cargo::Revocation(_) => Kind::Revocation,
+        Cargo::Shrink(_) => Kind::Shrink,
+        Cargo::Agreement(_) => Kind::Agreement,
     }
 }

@@ -1,14 +1,13 @@
 //! Where items go down beside the line of their rank.
 
 use crate::arrow::Arrow;
-use std::alloc::Global;
-use ulfm_base::OutOfMemory;
+use std::alloc::{AllocError, Global};
 
 /// The most lanes on a side.
 const MOST_LANES: usize = 8;
 
 /// The lane of each arrow, from 0. Items of one move share one.
-pub(crate) fn lanes_of(alloc: Global, arrows: &[Arrow]) -> Result<Vec<usize>, OutOfMemory> {
+pub(crate) fn lanes_of(alloc: Global, arrows: &[Arrow]) -> Result<Vec<usize>, AllocError> {
     let mut lanes = Vec::new(alloc);
     for arrow in arrows {
         let lane = free_lane(arrows, lanes.as_slice(), arrow);

@@ -3,8 +3,7 @@
 use crate::lanes::{lanes_beside, lanes_of};
 use crate::picture::Picture;
 use crate::piece::{Piece, foot_pieces, lines_in, row_pieces, widest};
-use std::alloc::Global;
-use ulfm_base::OutOfMemory;
+use std::alloc::{AllocError, Global};
 
 /// The width of a letter.
 pub(crate) const LETTER: usize = 8;
@@ -63,7 +62,7 @@ pub(crate) struct Layout {
 
 impl Layout {
     /// Of a picture.
-    pub(crate) fn of(alloc: Global, picture: &Picture<'_>) -> Result<Layout, OutOfMemory> {
+    pub(crate) fn of(alloc: Global, picture: &Picture<'_>) -> Result<Layout, AllocError> {
         let mut layout = Layout {
             rows: Vec::new(alloc),
             feet: Vec::new(alloc),
@@ -83,7 +82,7 @@ impl Layout {
     }
 
     /// Places the rows, one below the other.
-    fn place_rows(&mut self, alloc: Global, picture: &Picture<'_>) -> Result<(), OutOfMemory> {
+    fn place_rows(&mut self, alloc: Global, picture: &Picture<'_>) -> Result<(), AllocError> {
         for (number, row) in picture.rows.iter().enumerate() {
             let pieces = row_pieces(alloc, picture, number, row)?;
             let height = LINE.saturating_mul(lines_in(pieces.as_slice()));
@@ -98,7 +97,7 @@ impl Layout {
     }
 
     /// Places the texts below the lines.
-    fn place_feet(&mut self, alloc: Global, picture: &Picture<'_>) -> Result<(), OutOfMemory> {
+    fn place_feet(&mut self, alloc: Global, picture: &Picture<'_>) -> Result<(), AllocError> {
         let mut most = 0_usize;
         for rank in 0..picture.ranks() {
             let pieces = foot_pieces(alloc, picture, rank)?;
@@ -113,7 +112,7 @@ impl Layout {
     }
 
     /// Places the lines, each as far right as the texts of those before it want.
-    fn place_columns(&mut self, picture: &Picture<'_>) -> Result<(), OutOfMemory> {
+    fn place_columns(&mut self, picture: &Picture<'_>) -> Result<(), AllocError> {
         for rank in 0..picture.ranks() {
             let left = self.beside(picture, rank, false).max(HALF_BOX);
             let line = self.width.saturating_add(left);

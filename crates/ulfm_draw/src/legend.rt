@@ -1,13 +1,13 @@
 //! What marks and arrows stand for: those that a picture has.
 
 use crate::ink::{DARK, head, name};
-use crate::kind::{KINDS, Kind};
+use crate::kind::{KINDS, Kind, kind_of};
 use crate::layout::{EDGE, LETTER, LINE};
-use crate::mark::{MARKS, Mark, mark_of, meaning, push_mark};
+use crate::mark::{MARKS, Mark, meaning, push_mark};
 use crate::path::push_path;
 use crate::picture::Picture;
 use crate::svg_text::push_text;
-use ulfm_base::OutOfMemory;
+use std::alloc::AllocError;
 
 /// Where the next entry of a legend stands, and how wide the picture is.
 #[derive(Clone, Copy)]
@@ -29,7 +29,7 @@ impl Pen {
     }
 
     /// Puts the text of an entry behind its sign, and goes on.
-    fn put(&mut self, out: &mut String, sign: usize, text: &str) -> Result<(), OutOfMemory> {
+    fn put(&mut self, out: &mut String, sign: usize, text: &str) -> Result<(), AllocError> {
         let x = self.x.saturating_add(sign);
         push_text(out, x, self.y, text, DARK, "")?;
         let letters = text.len().saturating_mul(LETTER);
@@ -52,7 +52,7 @@ pub(crate) fn push_legend(
     picture: &Picture<'_>,
     width: usize,
     y: usize,
-) -> Result<(usize, usize), OutOfMemory> {
+) -> Result<(usize, usize), AllocError> {
     let mut pen = Pen { x: EDGE, y, width };
     for mark in MARKS {
         if has_mark(picture, mark) {
@@ -72,29 +72,26 @@ pub(crate) fn push_legend(
 
 /// Whether a picture has a mark.
 fn has_mark(picture: &Picture<'_>, mark: Mark) -> bool {
-    picture.rows.iter().any(|row| mark_of(row) == Some(mark))
+    picture.rows.iter().any(|row| row.mark == Some(mark))
 }
 
 /// Whether items of a kind were taken.
 fn has_kind(picture: &Picture<'_>, kind: Kind) -> bool {
-    picture
-        .arrows
-        .iter()
-        .any(|arrow| arrow.end.is_some() && arrow.matter.kind == kind)
+    picture.arrows.iter().any(|arrow| arrow.end.is_some() && kind_of(arrow.cargo) == kind)
 }
 
 /// The kind of the first item that hangs in the air, if one does.
 fn hanging(picture: &Picture<'_>) -> Option<Kind> {
     for arrow in &picture.arrows {
         if picture.hangs(arrow) {
-            return Some(arrow.matter.kind);
+            return Some(kind_of(arrow.cargo));
         }
     }
     None
 }
 
 /// Puts the entry of a mark.
-fn push_mark_entry(out: &mut String, pen: &mut Pen, mark: Mark) -> Result<(), OutOfMemory> {
+fn push_mark_entry(out: &mut String, pen: &mut Pen, mark: Mark) -> Result<(), AllocError> {
     let text = meaning(mark);
     pen.make_room(width_of(18, text));
     push_mark(out, mark, pen.x.saturating_add(6), pen.y.saturating_sub(4))?;
@@ -108,7 +105,7 @@ fn push_kind_entry(
     kind: Kind,
     head: &str,
     text: &str,
-) -> Result<(), OutOfMemory> {
+) -> Result<(), AllocError> {
     pen.make_room(width_of(52, text));
     let x = pen.x;
     let y = pen.y.saturating_sub(4);

@@ -2,9 +2,8 @@
 
 use crate::ink::{ALARM, DARK, colour};
 use crate::kind::Kind;
-use crate::row::{Deed, Row};
-use crate::words::word;
-use ulfm_base::OutOfMemory;
+use std::alloc::AllocError;
+use ulfm_answer::StepAnswer;
 
 /// What stands on the line of a rank where it did something.
 #[derive(Clone, Copy, Debug, PartialEq, Eq)]
@@ -45,39 +44,19 @@ pub(crate) const MARKS: [Mark; 10] = [
     Mark::Stop,
 ];
 
-/// The mark of a row. Where an item was taken, the head of its arrow is one.
-pub(crate) fn mark_of(row: &Row<'_>) -> Option<Mark> {
-    match row.deed {
-        Deed::Opened => Some(Mark::Open),
-        Deed::Answered => Some(mark_by(row.op(), word(row.answer, 0))),
-        Deed::Took(_) => None,
+/// The mark of an answer.
+pub(crate) fn mark_by(answer: &StepAnswer) -> Mark {
+    match answer {
+        StepAnswer::Done(_, _) | StepAnswer::Found(_, _) => Mark::Got,
+        StepAnswer::Refused(_) | StepAnswer::Over(_) => Mark::Refusal,
+        StepAnswer::Shrunk(_, _, _) | StepAnswer::Agreed(_, _) => Mark::Decision,
+        StepAnswer::Unfinished => Mark::Hang,
+        StepAnswer::Pending => Mark::Pending,
+        StepAnswer::Skipped => Mark::Skip,
+        StepAnswer::Noted => Mark::Note,
+        StepAnswer::Stopped => Mark::Stop,
+        _ => Mark::Answer,
     }
-}
-
-/// The marks that the first word of an answer has, whatever the op.
-const BY_WORD: [(&str, Mark); 9] = [
-    ("done", Mark::Got),
-    ("found", Mark::Got),
-    ("refused", Mark::Refusal),
-    ("over", Mark::Refusal),
-    ("unfinished", Mark::Hang),
-    ("pending", Mark::Pending),
-    ("skipped", Mark::Skip),
-    ("noted", Mark::Note),
-    ("stopped", Mark::Stop),
-];
-
-/// The mark of an answer, by the op of its step and its first word.
-fn mark_by(op: &str, answer: &str) -> Mark {
-    if (op == "shrink" && answer == "comm") || (op == "agree" && answer == "agreed") {
-        return Mark::Decision;
-    }
-    for (word, mark) in &BY_WORD {
-        if *word == answer {
-            return *mark;
-        }
-    }
-    Mark::Answer
 }
 
 /// What a mark says, in words.
@@ -102,7 +81,7 @@ pub(crate) fn push_mark(
     mark: Mark,
     x: usize,
     y: usize,
-) -> Result<(), OutOfMemory> {
+) -> Result<(), AllocError> {
     let got = colour(Kind::Message);
     let left = x.saturating_sub(5);
     let top = y.saturating_sub(5);

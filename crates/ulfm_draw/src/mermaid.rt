@@ -3,13 +3,12 @@
 use crate::circles::conclusions;
 use crate::kind::Kind;
 use crate::picture::Picture;
-use crate::row::{Deed, Row};
+use crate::row::Row;
 use crate::saying::{lead, outcome, subject};
-use std::alloc::Global;
-use ulfm_base::OutOfMemory;
+use std::alloc::{AllocError, Global};
 
 /// A picture as a Mermaid sequence diagram. An item is drawn where it was taken: Mermaid's arrows have no length.
-pub(crate) fn diagram(alloc: Global, picture: &Picture<'_>) -> Result<String, OutOfMemory> {
+pub(crate) fn diagram(alloc: Global, picture: &Picture<'_>) -> Result<String, AllocError> {
     let mut out = String::from_str(alloc, "sequenceDiagram\n")?;
     for rank in 0..picture.ranks() {
         write!(out, "    participant r{rank} as rank {rank}\n")?;
@@ -32,12 +31,12 @@ fn push_row(
     out: &mut String,
     picture: &Picture<'_>,
     number: usize,
-    row: &Row<'_>,
-) -> Result<(), OutOfMemory> {
+    row: &Row,
+) -> Result<(), AllocError> {
     let alloc = *out.allocator();
     let rank = row.rank;
     let subject = escaped(alloc, subject(alloc, row)?.as_str())?;
-    if let Deed::Took(kind) = row.deed {
+    if let Some(kind) = row.taken {
         let from = sender(picture, number);
         let arrow = arrow_of(kind);
         return write!(out, "    r{from}{arrow}r{rank}: {subject}\n");
@@ -50,9 +49,9 @@ fn push_call(
     out: &mut String,
     picture: &Picture<'_>,
     number: usize,
-    row: &Row<'_>,
+    row: &Row,
     subject: &str,
-) -> Result<(), OutOfMemory> {
+) -> Result<(), AllocError> {
     let rank = row.rank;
     if row.is_opening() {
         write!(out, "    activate r{rank}\n")?;
@@ -71,9 +70,9 @@ fn push_note(
     out: &mut String,
     picture: &Picture<'_>,
     number: usize,
-    row: &Row<'_>,
+    row: &Row,
     subject: &str,
-) -> Result<(), OutOfMemory> {
+) -> Result<(), AllocError> {
     let alloc = *out.allocator();
     let outcome = escaped(alloc, outcome(alloc, picture, number, row)?.as_str())?;
     write!(
@@ -84,7 +83,7 @@ fn push_note(
 }
 
 /// Puts what the step that a row gave up waited for.
-fn push_left(out: &mut String, picture: &Picture<'_>, row: &Row<'_>) -> Result<(), OutOfMemory> {
+fn push_left(out: &mut String, picture: &Picture<'_>, row: &Row) -> Result<(), AllocError> {
     for wait in &picture.waits {
         if picture.is_left_by(wait, row) {
             let lead = lead(picture, wait);
@@ -95,7 +94,7 @@ fn push_left(out: &mut String, picture: &Picture<'_>, row: &Row<'_>) -> Result<(
 }
 
 /// A text in which the code of the sign `#` stands for it: Mermaid takes the sign itself for the beginning of a comment.
-fn escaped(alloc: Global, text: &str) -> Result<String, OutOfMemory> {
+fn escaped(alloc: Global, text: &str) -> Result<String, AllocError> {
     let mut out = String::new(alloc);
     for letter in text.chars() {
         if letter == '#' {
@@ -108,7 +107,7 @@ fn escaped(alloc: Global, text: &str) -> Result<String, OutOfMemory> {
 }
 
 /// Puts the messages of a row that nobody took.
-fn push_lost(out: &mut String, picture: &Picture<'_>, number: usize) -> Result<(), OutOfMemory> {
+fn push_lost(out: &mut String, picture: &Picture<'_>, number: usize) -> Result<(), AllocError> {
     for arrow in &picture.arrows {
         if arrow.start == number && picture.hangs(arrow) {
             let (from, to) = (arrow.from, arrow.to);
@@ -139,11 +138,11 @@ fn arrow_of(kind: Kind) -> &'static str {
 }
 
 /// Puts what the open step of a rank waits for.
-fn push_end(out: &mut String, picture: &Picture<'_>, rank: usize) -> Result<(), OutOfMemory> {
+fn push_end(out: &mut String, picture: &Picture<'_>, rank: usize) -> Result<(), AllocError> {
     for wait in &picture.waits {
         if wait.rank == rank && picture.lasts(wait) {
             let lead = lead(picture, wait);
-            let (need, bearer) = (wait.need, wait.bearer);
+            let (need, bearer) = (wait.need.as_str(), wait.bearer.as_str());
             write!(
                 out,
                 "    Note right of r{rank}: {lead} {need}:<br/>{bearer}\n"
@@ -154,7 +153,7 @@ fn push_end(out: &mut String, picture: &Picture<'_>, rank: usize) -> Result<(), 
 }
 
 /// Puts what the waits come to, across all ranks.
-fn push_conclusions(out: &mut String, picture: &Picture<'_>) -> Result<(), OutOfMemory> {
+fn push_conclusions(out: &mut String, picture: &Picture<'_>) -> Result<(), AllocError> {
     let alloc = *out.allocator();
     for conclusion in conclusions(alloc, picture)? {
         push_over_all(out, picture, conclusion.as_str())?;
@@ -163,7 +162,7 @@ fn push_conclusions(out: &mut String, picture: &Picture<'_>) -> Result<(), OutOf
 }
 
 /// Puts a text across all ranks.
-fn push_over_all(out: &mut String, picture: &Picture<'_>, text: &str) -> Result<(), OutOfMemory> {
+fn push_over_all(out: &mut String, picture: &Picture<'_>, text: &str) -> Result<(), AllocError> {
     let last = picture.ranks().saturating_sub(1);
     write!(out, "    Note over r0,r{last}: {text}\n")
 }

@@ -2,11 +2,10 @@
 
 use crate::arrow::Arrow;
 use crate::ink::{colour, dashes, head};
-use crate::kind::Kind;
+use crate::kind::{Kind, kind_of};
 use crate::layout::Layout;
 use crate::picture::Picture;
-use std::alloc::Global;
-use ulfm_base::OutOfMemory;
+use std::alloc::{AllocError, Global};
 
 /// So far beside a place, to the right or to the left.
 fn beside(x: usize, by: usize, is_rightward: bool) -> usize {
@@ -23,7 +22,7 @@ pub(crate) fn push_path(
     path: &str,
     kind: Kind,
     head: &str,
-) -> Result<(), OutOfMemory> {
+) -> Result<(), AllocError> {
     let colour = colour(kind);
     let dashes = dashes(kind);
     write!(
@@ -40,9 +39,9 @@ pub(crate) fn push_arrow(
     layout: &Layout,
     number: usize,
     arrow: &Arrow,
-) -> Result<(), OutOfMemory> {
+) -> Result<(), AllocError> {
     let alloc = *out.allocator();
-    let kind = arrow.matter.kind;
+    let kind = kind_of(arrow.cargo);
     if let Some(end) = arrow.end {
         let top = beginning(picture, layout, arrow);
         let path = path_to(alloc, layout, number, arrow, top, end)?;
@@ -71,7 +70,7 @@ fn path_to(
     arrow: &Arrow,
     top: usize,
     end: usize,
-) -> Result<String, OutOfMemory> {
+) -> Result<String, AllocError> {
     let is_right = arrow.is_rightward();
     let line = layout.line(arrow.from);
     let floor = layout.floor(end);
@@ -101,7 +100,7 @@ fn path_to(
 }
 
 /// The path of what hangs in the air: down beside the texts of its row, and then below them.
-fn stub(alloc: Global, layout: &Layout, arrow: &Arrow) -> Result<String, OutOfMemory> {
+fn stub(alloc: Global, layout: &Layout, arrow: &Arrow) -> Result<String, AllocError> {
     let is_right = arrow.is_rightward();
     let mark = layout.mark(arrow.start);
     let floor = layout.floor(arrow.start);

@@ -1,19 +1,20 @@
 //! What a picture shows.
 
 use crate::arrow::Arrow;
-use crate::kind::Kind;
+use crate::kind::{Kind, kind_of};
 use crate::row::Row;
 use crate::wait::Wait;
 use std::alloc::Global;
+use ulfm_moves::End;
 
 /// Moves in their order, items on their way, how ranks ended, and what they wait for.
 #[derive(Drop)]
 pub(crate) struct Picture<'a> {
-    pub(crate) rows: Vec<Row<'a>>,
+    pub(crate) rows: Vec<Row>,
     pub(crate) arrows: Vec<Arrow>,
-    /// A text for each rank: `done`, `stopped` or `not reached`.
-    pub(crate) ends: Vec<&'a str>,
-    pub(crate) waits: Vec<Wait<'a>>,
+    /// How each rank ended.
+    pub(crate) ends: Vec<End>,
+    pub(crate) waits: Vec<Wait>,
     /// A note on all of it, or nothing.
     pub(crate) note: &'a str,
 }
@@ -35,36 +36,36 @@ impl<'a> Picture<'a> {
         self.ends.len()
     }
 
-    /// How a rank ended.
-    pub(crate) fn end(&self, rank: usize) -> &'a str {
-        self.ends.get(rank).copied().unwrap_or("")
+    /// How a rank ended, in words.
+    pub(crate) fn ending(&self, rank: usize) -> &'static str {
+        match self.ends.get(rank) {
+            Some(End::Done) => "done",
+            Some(End::Stopped) => "stopped",
+            _ => "has steps left",
+        }
     }
 
-    /// The same in words that stand alone.
-    pub(crate) fn ending(&self, rank: usize) -> &'a str {
-        if self.has_stopped(rank) || self.is_through(rank) {
-            self.end(rank)
-        } else {
-            "has steps left"
-        }
+    /// The row that comes last, by its number.
+    pub(crate) fn last(&self) -> usize {
+        self.rows.len().saturating_sub(1)
     }
 
     /// Whether a rank ended by its stop.
     pub(crate) fn has_stopped(&self, rank: usize) -> bool {
-        self.end(rank).starts_with("stopped")
+        self.ends.get(rank) == Some(&End::Stopped)
     }
 
     /// Whether a rank came to the end of its script.
     pub(crate) fn is_through(&self, rank: usize) -> bool {
-        self.end(rank).starts_with("done")
+        self.ends.get(rank) == Some(&End::Done)
     }
 
     /// Whether an item hangs in the air: a message that nobody took, or word of a stopped rank that never came to a running one.
     pub(crate) fn hangs(&self, arrow: &Arrow) -> bool {
-        if arrow.end.is_some() || arrow.matter.kind == Kind::Notice {
+        if arrow.end.is_some() || kind_of(arrow.cargo) == Kind::Notice {
             return false;
         }
-        arrow.matter.kind == Kind::Message
+        kind_of(arrow.cargo) == Kind::Message
             || (self.has_stopped(arrow.from) && !self.has_stopped(arrow.to))
     }
 
@@ -105,17 +106,17 @@ impl<'a> Picture<'a> {
     }
 
     /// Whether a wait is one of the step that has its answer in a row, as one that is given up.
-    pub(crate) fn is_left_by(&self, wait: &Wait<'_>, row: &Row<'_>) -> bool {
+    pub(crate) fn is_left_by(&self, wait: &Wait, row: &Row) -> bool {
         !row.is_opening() && row.is_of(wait.rank, wait.step)
     }
 
     /// Whether a wait lasts to the end: its step has no answer.
-    pub(crate) fn lasts(&self, wait: &Wait<'_>) -> bool {
+    pub(crate) fn lasts(&self, wait: &Wait) -> bool {
         !self.rows.iter().any(|row| self.is_left_by(wait, row))
     }
 
     /// Whether a wait is the first one of its step.
-    pub(crate) fn is_first(&self, wait: &Wait<'_>) -> bool {
+    pub(crate) fn is_first(&self, wait: &Wait) -> bool {
         match self.waits.iter().find(|other| other.is_beside(wait)) {
             Some(first) => first.on == wait.on,
             None => false,

@@ -2,12 +2,11 @@
 
 use crate::kind::Kind;
 use crate::picture::Picture;
-use crate::row::{Deed, Row};
+use crate::row::Row;
 use crate::saying::{lead, outcome, subject};
 use crate::wait::Wait;
 use crate::wrapping::{MOST, wrapped};
-use std::alloc::Global;
-use ulfm_base::OutOfMemory;
+use std::alloc::{AllocError, Global};
 
 /// How a text is written.
 #[derive(Clone, Copy, Debug, PartialEq, Eq)]
@@ -54,11 +53,7 @@ pub(crate) fn widest(pieces: &[Piece]) -> usize {
 }
 
 /// Adds the lines of a text below those that are there.
-pub(crate) fn add_lines(
-    pieces: &mut Vec<Piece>,
-    text: &str,
-    face: Face,
-) -> Result<(), OutOfMemory> {
+pub(crate) fn add_lines(pieces: &mut Vec<Piece>, text: &str, face: Face) -> Result<(), AllocError> {
     let alloc = *pieces.allocator();
     let mut line = lines_in(pieces.as_slice());
     for text in wrapped(alloc, text)? {
@@ -78,8 +73,8 @@ pub(crate) fn row_pieces(
     alloc: Global,
     picture: &Picture<'_>,
     number: usize,
-    row: &Row<'_>,
-) -> Result<Vec<Piece>, OutOfMemory> {
+    row: &Row,
+) -> Result<Vec<Piece>, AllocError> {
     let mut pieces = move_pieces(alloc, picture, number, row)?;
     for wait in &picture.waits {
         if picture.is_left_by(wait, row) {
@@ -94,11 +89,11 @@ fn move_pieces(
     alloc: Global,
     picture: &Picture<'_>,
     number: usize,
-    row: &Row<'_>,
-) -> Result<Vec<Piece>, OutOfMemory> {
+    row: &Row,
+) -> Result<Vec<Piece>, AllocError> {
     let mut pieces = Vec::new(alloc);
     let subject = subject(alloc, row)?;
-    if let Deed::Took(kind) = row.deed {
+    if let Some(kind) = row.taken {
         add_lines(&mut pieces, subject.as_str(), Face::Taken(kind))?;
         return Ok(pieces);
     }
@@ -120,15 +115,11 @@ fn move_pieces(
 }
 
 /// Adds what is waited for, and who would bring it.
-fn add_wait(
-    pieces: &mut Vec<Piece>,
-    picture: &Picture<'_>,
-    wait: &Wait<'_>,
-) -> Result<(), OutOfMemory> {
+fn add_wait(pieces: &mut Vec<Piece>, picture: &Picture<'_>, wait: &Wait) -> Result<(), AllocError> {
     let lead = lead(picture, wait);
     let need = format!(in *pieces.allocator(); "{lead} {}:", wait.need)?;
     add_lines(pieces, need.as_str(), Face::Strong)?;
-    add_lines(pieces, wait.bearer, Face::Plain)
+    add_lines(pieces, wait.bearer.as_str(), Face::Plain)
 }
 
 /// The texts below the line of a rank: what its open step waits for, or how it ended.
@@ -136,7 +127,7 @@ pub(crate) fn foot_pieces(
     alloc: Global,
     picture: &Picture<'_>,
     rank: usize,
-) -> Result<Vec<Piece>, OutOfMemory> {
+) -> Result<Vec<Piece>, AllocError> {
     let mut pieces = Vec::new(alloc);
     for wait in &picture.waits {
         if wait.rank == rank && picture.lasts(wait) {

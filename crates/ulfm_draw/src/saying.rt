@@ -3,27 +3,28 @@
 use crate::picture::Picture;
 use crate::row::Row;
 use crate::wait::Wait;
-use crate::words::halves;
 use crate::wrapping::shortened;
-use std::alloc::Global;
-use ulfm_base::OutOfMemory;
+use std::alloc::{AllocError, Global};
 
 /// What a row says first: the step by its place, or the item that was taken, with the number of a message.
-pub(crate) fn subject(alloc: Global, row: &Row<'_>) -> Result<String, OutOfMemory> {
+pub(crate) fn subject(alloc: Global, row: &Row) -> Result<String, AllocError> {
     if !row.is_taking() {
         return step(alloc, row);
     }
     match row.message {
         Some(message) => format!(in alloc; "#{message} {}", row.words),
-        None => String::from_str(alloc, row.words),
+        None => String::from_str(alloc, row.words.as_str()),
     }
 }
 
 /// A step by its place and its words. A bare number looks like that of a rank, so what it is stands before it.
-fn step(alloc: Global, row: &Row<'_>) -> Result<String, OutOfMemory> {
+fn step(alloc: Global, row: &Row) -> Result<String, AllocError> {
     let (rank, step) = (row.rank, row.step);
-    let rest = halves(row.words, " ").1;
-    match row.op() {
+    let (op, rest) = row
+        .words
+        .split_once(" ")
+        .unwrap_or((row.words.as_str(), ""));
+    match op {
         "wait" => format!(in alloc; "{rank}.{step} wait for {rank}.{rest}"),
         "mrecv" => format!(in alloc; "{rank}.{step} mrecv of {rank}.{rest}"),
         "cancel" => format!(in alloc; "{rank}.{step} cancel {rank}.{rest}"),
@@ -38,12 +39,12 @@ pub(crate) fn outcome(
     alloc: Global,
     picture: &Picture<'_>,
     number: usize,
-    row: &Row<'_>,
-) -> Result<String, OutOfMemory> {
+    row: &Row,
+) -> Result<String, AllocError> {
     if row.is_taking() {
         return Ok(String::new(alloc));
     }
-    let mut text = shortened(alloc, row.answer)?;
+    let mut text = shortened(alloc, row.answer.as_str())?;
     if let Some(message) = row.message {
         write!(text, " #{message}")?;
     }
@@ -54,11 +55,11 @@ pub(crate) fn outcome(
 }
 
 /// What stands before the need of a wait: whether its step waits still, and whether one of several needs is enough, or all are.
-pub(crate) fn lead(picture: &Picture<'_>, wait: &Wait<'_>) -> &'static str {
+pub(crate) fn lead(picture: &Picture<'_>, wait: &Wait) -> &'static str {
     match (
         picture.is_first(wait),
         picture.lasts(wait),
-        wait.is_for_message(),
+        wait.is_for_message,
     ) {
         (true, true, _) => "waits for",
         (true, false, _) => "waited for",

@@ -4,13 +4,12 @@ use crate::circles::conclusions;
 use crate::ink::{ALARM, DARK};
 use crate::layout::{EDGE, HALF_BOX, HEAD, LETTER, LINE, Layout};
 use crate::legend::push_legend;
-use crate::mark::{mark_of, push_mark};
+use crate::mark::push_mark;
 use crate::path::push_arrow;
 use crate::picture::Picture;
 use crate::piece::Piece;
 use crate::svg_text::{push_piece, push_text};
-use std::alloc::Global;
-use ulfm_base::OutOfMemory;
+use std::alloc::{AllocError, Global};
 
 /// The heads of arrows, one for each kind of items, and of what is never taken.
 const HEADS: &str = "<defs>
@@ -24,7 +23,7 @@ const HEADS: &str = "<defs>
 ";
 
 /// A picture as a drawing. It brings its own ground, so that it reads on light and on dark pages.
-pub(crate) fn drawing(alloc: Global, picture: &Picture<'_>) -> Result<String, OutOfMemory> {
+pub(crate) fn drawing(alloc: Global, picture: &Picture<'_>) -> Result<String, AllocError> {
     let layout = Layout::of(alloc, picture)?;
     let mut body = String::new(alloc);
     push_lines(&mut body, picture, &layout)?;
@@ -40,7 +39,7 @@ pub(crate) fn drawing(alloc: Global, picture: &Picture<'_>) -> Result<String, Ou
 }
 
 /// The body of a drawing in its frame.
-fn whole(alloc: Global, width: usize, height: usize, body: &str) -> Result<String, OutOfMemory> {
+fn whole(alloc: Global, width: usize, height: usize, body: &str) -> Result<String, AllocError> {
     let mut out = String::new(alloc);
     write!(
         out,
@@ -60,7 +59,7 @@ fn whole(alloc: Global, width: usize, height: usize, body: &str) -> Result<Strin
 }
 
 /// Draws the line of each rank, from its box down to its end.
-fn push_lines(out: &mut String, picture: &Picture<'_>, layout: &Layout) -> Result<(), OutOfMemory> {
+fn push_lines(out: &mut String, picture: &Picture<'_>, layout: &Layout) -> Result<(), AllocError> {
     for rank in 0..picture.ranks() {
         let x = layout.line(rank);
         let end = line_end(picture, layout, rank);
@@ -104,7 +103,7 @@ fn line_end(picture: &Picture<'_>, layout: &Layout, rank: usize) -> usize {
 }
 
 /// Draws a bar for each step that stands open, down to its answer, or past the end.
-fn push_bars(out: &mut String, picture: &Picture<'_>, layout: &Layout) -> Result<(), OutOfMemory> {
+fn push_bars(out: &mut String, picture: &Picture<'_>, layout: &Layout) -> Result<(), AllocError> {
     for (number, row) in picture.rows.iter().enumerate() {
         if row.is_opening() {
             let left = layout.line(row.rank).saturating_sub(4);
@@ -119,7 +118,7 @@ fn push_bars(out: &mut String, picture: &Picture<'_>, layout: &Layout) -> Result
 }
 
 /// Draws a bar.
-fn push_bar(out: &mut String, left: usize, top: usize, end: usize) -> Result<(), OutOfMemory> {
+fn push_bar(out: &mut String, left: usize, top: usize, end: usize) -> Result<(), AllocError> {
     let height = end.saturating_sub(top);
     write!(
         out,
@@ -128,7 +127,7 @@ fn push_bar(out: &mut String, left: usize, top: usize, end: usize) -> Result<(),
 }
 
 /// Draws a bar that goes on past the end.
-fn push_open_bar(out: &mut String, left: usize, top: usize, end: usize) -> Result<(), OutOfMemory> {
+fn push_open_bar(out: &mut String, left: usize, top: usize, end: usize) -> Result<(), AllocError> {
     let right = left.saturating_add(8);
     let west = left.saturating_sub(3);
     let below = end.saturating_add(6);
@@ -144,10 +143,10 @@ fn push_open_bar(out: &mut String, left: usize, top: usize, end: usize) -> Resul
 }
 
 /// Draws the mark and the texts of each row.
-fn push_rows(out: &mut String, picture: &Picture<'_>, layout: &Layout) -> Result<(), OutOfMemory> {
+fn push_rows(out: &mut String, picture: &Picture<'_>, layout: &Layout) -> Result<(), AllocError> {
     for (number, row) in picture.rows.iter().enumerate() {
         let y = layout.mark(number);
-        if let Some(mark) = mark_of(row) {
+        if let Some(mark) = row.mark {
             push_mark(out, mark, layout.line(row.rank), y)?;
         }
         if let Some(pieces) = layout.rows.get(number) {
@@ -163,7 +162,7 @@ fn push_rows(out: &mut String, picture: &Picture<'_>, layout: &Layout) -> Result
 }
 
 /// Puts texts, the first line of them at a height.
-fn push_pieces(out: &mut String, pieces: &[Piece], x: usize, y: usize) -> Result<(), OutOfMemory> {
+fn push_pieces(out: &mut String, pieces: &[Piece], x: usize, y: usize) -> Result<(), AllocError> {
     for piece in pieces {
         let x = x.saturating_add(LETTER.saturating_mul(piece.column));
         let y = y.saturating_add(LINE.saturating_mul(piece.line));
@@ -173,7 +172,7 @@ fn push_pieces(out: &mut String, pieces: &[Piece], x: usize, y: usize) -> Result
 }
 
 /// Puts the texts below the line of each rank.
-fn push_feet(out: &mut String, picture: &Picture<'_>, layout: &Layout) -> Result<(), OutOfMemory> {
+fn push_feet(out: &mut String, picture: &Picture<'_>, layout: &Layout) -> Result<(), AllocError> {
     for rank in 0..picture.ranks() {
         if let Some(pieces) = layout.feet.get(rank) {
             push_pieces(
@@ -192,7 +191,7 @@ fn push_conclusions(
     out: &mut String,
     picture: &Picture<'_>,
     layout: &Layout,
-) -> Result<usize, OutOfMemory> {
+) -> Result<usize, AllocError> {
     let alloc = *out.allocator();
     let mut y = layout.foot;
     if !picture.note.is_empty() {

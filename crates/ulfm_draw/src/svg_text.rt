@@ -3,7 +3,7 @@
 use crate::ink::{DARK, colour};
 use crate::layout::LETTER;
 use crate::piece::{Face, Piece};
-use ulfm_base::OutOfMemory;
+use std::alloc::AllocError;
 
 /// Puts a text at a place: the left end of its ground line.
 pub(crate) fn push_text(
@@ -13,7 +13,7 @@ pub(crate) fn push_text(
     text: &str,
     fill: &str,
     more: &str,
-) -> Result<(), OutOfMemory> {
+) -> Result<(), AllocError> {
     let width = text.len().saturating_mul(LETTER);
     write!(
         out,
@@ -27,7 +27,7 @@ pub(crate) fn push_piece(
     piece: &Piece,
     x: usize,
     y: usize,
-) -> Result<(), OutOfMemory> {
+) -> Result<(), AllocError> {
     let text = piece.text.as_str();
     match piece.face {
         Face::Plain => push_text(out, x, y, text, DARK, ""),

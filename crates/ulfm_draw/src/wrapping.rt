@@ -1,7 +1,6 @@
 //! Texts in lines.
 
-use std::alloc::Global;
-use ulfm_base::OutOfMemory;
+use std::alloc::{AllocError, Global};
 
 /// The most letters of a line.
 pub(crate) const MOST: usize = 28;
@@ -13,7 +12,7 @@ const LONG: usize = 24;
 const FIRST: usize = 16;
 
 /// A text in lines of at most `MOST` letters, parted at spaces.
-pub(crate) fn wrapped(alloc: Global, text: &str) -> Result<Vec<String>, OutOfMemory> {
+pub(crate) fn wrapped(alloc: Global, text: &str) -> Result<Vec<String>, AllocError> {
     let mut lines = Vec::new(alloc);
     let mut line = String::new(alloc);
     for word in text.split(' ') {
@@ -31,7 +30,7 @@ pub(crate) fn wrapped(alloc: Global, text: &str) -> Result<Vec<String>, OutOfMem
 }
 
 /// A text in which the first letters stand for each long word, as a long body is.
-pub(crate) fn shortened(alloc: Global, text: &str) -> Result<String, OutOfMemory> {
+pub(crate) fn shortened(alloc: Global, text: &str) -> Result<String, AllocError> {
     let mut short = String::new(alloc);
     for word in text.split(' ') {
         if !short.is_empty() {
@@ -47,7 +46,7 @@ pub(crate) fn shortened(alloc: Global, text: &str) -> Result<String, OutOfMemory
 }
 
 /// Puts the first letters of a word, and dots.
-fn push_first(text: &mut String, word: &str) -> Result<(), OutOfMemory> {
+fn push_first(text: &mut String, word: &str) -> Result<(), AllocError> {
     for letter in word.chars().take(FIRST) {
         text.push(letter)?;
     }

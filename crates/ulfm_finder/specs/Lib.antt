@@ -2,10 +2,6 @@ pub mod Codebook
 pub mod Outcomes
 pub mod Goals
 pub mod Showing
-pub mod Lines
-pub mod Turns
-pub mod Waits
-pub mod Ranks
 pub mod Schedule
 pub mod Told
 pub mod Unmet

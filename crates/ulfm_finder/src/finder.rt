@@ -10,7 +10,7 @@ use ulfm_job::Job;
 use ulfm_lists::Told;
 use ulfm_reach::{Reach, Watch};
 
-/// Finds what the steps of a job may be answered, and schedules that show answers, in words. `ulfm_outcomes` has the one of the program. What is
+/// Finds what the steps of a job may be answered, and schedules that show answers. `ulfm_outcomes` has the one of the program. What is
 /// replied rests on these two contracts alone, so it is proved beside that one.
 pub trait Finder {
     /// What each step of a job may be answered, and which steps may be left open for ever, over every schedule. Or that worlds of more
@@ -28,8 +28,8 @@ pub trait Finder {
     ) -> Result<Reach, OutOfMemory>
         ensures { IfOk result (λ reach. IsList job.now limit reach) };
 
-    /// A schedule of a job in which all of these hold, in words: its events, the trace that it leaves, and what steps wait for that are to
-    /// stand open for ever. Or that there are more worlds than the limit in which they don't hold; nothing where no schedule of the job has
+    /// A schedule of a job in which all of these hold: its events, the trace that it leaves, and what steps wait for that are to stand open
+    /// for ever. Or that there are more worlds than the limit in which they don't hold; nothing where no schedule of the job has
     /// all of these. In brief, without any one of its events the others aren't such a schedule. `watch` is told how far it is.
     ///
     /// # Errors

@@ -4,8 +4,7 @@
 //!     let unmet = first_unmet(&job, &reached.found);
 //!
 //! Read `IsWholeList` of specs/Outcomes.antt: it says that the list is whole, and that nothing else is in it. Then `IsPossible` and
-//! `IsSchedule` of specs/Goals.antt, `IsScheduleText` of specs/Schedule.antt, whose lines are said in Lines.antt, Turns.antt,
-//! Ranks.antt and Waits.antt, and `IsLook` of specs/Told.antt, which puts them together.
+//! `IsSchedule` of specs/Goals.antt, `IsScheduleText` of specs/Schedule.antt, whose lines are said in specs/ of `ulfm_shown`, and `IsLook` of specs/Told.antt, which puts them together.
 #![tactic(auto)]
 
 mod finder;

@@ -10,8 +10,10 @@ mod answer;
 mod call;
 mod form;
 mod parts;
+mod style;
 mod trace;
 
 pub use form::Form;
 pub use parts::push_texts;
+pub use style::Style;
 pub use trace::{push_end, push_head, push_steps};

@@ -108,7 +108,8 @@ fn reached_reply<F: Finder, W: Watch>(
     ensures { (bytes : List ℕ) → IsAskedAt options.place bytes (asked_view asked.now) → IfOk result (λ r. IsOutcomesReply form options bytes r.status (string_bytes r.text)) }
 {
     let limit = options.limit as usize;
-    let text = list_in(alloc, form, &asked.names, &asked.job, reach, limit)?;
+    let names = asked.names.as_slice();
+    let text = list_in(alloc, form, names, &asked.job, reach, limit)?;
     match reach {
         Reach::All(reached) => judged(finder, alloc, form, options, asked, reached, text, watch),
         Reach::More => Ok(Reply {

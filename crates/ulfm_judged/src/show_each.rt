@@ -11,11 +11,11 @@ ghost use Rattle.ulfm_stops.specs.declared.place.Place.TheVariants.{Nowhere};
 use crate::onlooker::{Onlooker, Seen};
 use crate::shown::{no_goal, nowhere, status_of};
 use std::alloc::{AllocError, Global};
-use ulfm_draw::{Style, drawn};
+use ulfm_draw::drawn;
 use ulfm_finder::Finder;
 use ulfm_found::Goals;
 use ulfm_job::{Clause, Job, JobFault, MOST_STEPS};
-use ulfm_json::Form;
+use ulfm_json::{Form, Style};
 use ulfm_lists::{Told, push_told_at};
 use ulfm_reader::Reading;
 use ulfm_replies::{DONE, ListOptions, NO_SCHEDULE, Place, Reply, asked_at, refusal};
@@ -198,7 +198,7 @@ fn told_reply(
 {
     if let (Told::Schedule(schedule), Some(style)) = (told, style) {
         let note = note_of(alloc, place)?;
-        let text = drawn(alloc, style, schedule.as_str(), note.as_str())?;
+        let text = drawn(alloc, style, schedule, note.as_str())?;
         return Ok(Reply {
             status: DONE,
             text,

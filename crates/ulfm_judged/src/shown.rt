@@ -6,10 +6,10 @@ ghost use Rattle.ulfm_lists.specs.Told.{told_view};
 ghost use Rattle.ulfm_replies.specs.Stopped.{IsAskedAt, asked_view};
 
 use std::alloc::{AllocError, Global};
-use ulfm_draw::{Style, drawn};
+use ulfm_draw::drawn;
 use ulfm_finder::Finder;
 use ulfm_found::Goals;
-use ulfm_json::Form;
+use ulfm_json::{Form, Style};
 use ulfm_lists::{Told, push_told};
 use ulfm_reach::Watch;
 use ulfm_reader::Reading;
@@ -103,7 +103,7 @@ fn told_reply(
     ensures { IfOk result (λ r. (r.status ≡ look_status (Some (told_view told.now))) × IsLookText form style (Some (told_view told.now)) (string_bytes r.text)) }
 {
     if let (Told::Schedule(schedule), Some(style)) = (told, style) {
-        let text = drawn(alloc, style, schedule.as_str(), "")?;
+        let text = drawn(alloc, style, schedule, "")?;
         return Ok(Reply {
             status: DONE,
             text,

@@ -1,9 +1,10 @@
 -- What is told of a search for a schedule.
-use Rattle.std.specs.Prelude.{string_bytes, ℕ, List, ◌++◌, codes}
+use Rattle.std.specs.Prelude.{ℕ, List, ◌++◌, codes}
 use Rattle.std.specs.Fmt.{decimal}
 use Rattle.std.specs.Str.Lines.{lines}
 use Rattle.ulfm_found.specs.declared.unmet.Unmet.{Unmet}
 use Rattle.ulfm_json.specs.Parts.{texts_json}
+use Rattle.ulfm_moves.specs.Words.{schedule_text}
 use Rattle.ulfm_json.specs.declared.form.Form.{Form}
 use Rattle.ulfm_json.specs.declared.form.Form.TheVariants.{Words, Json}
 use Rattle.ulfm_lists.specs.declared.told.Told.{Told as Kept}
@@ -55,7 +56,7 @@ abbrev pub row_in : Form → ℕ → Told → List ℕ
 row_in Words number told = row_words number ++ told_words told
 row_in Json number told = codes "{\"never\":" ++ decimal number ++ codes "," ++ told_json told ++ codes "}\n"
 
--- what was told, without the form that it has in memory
+-- what was told, by its text
 abbrev pub told_view : Kept → Told
-told_view (kept.Schedule text) = schedule (string_bytes text)
+told_view (kept.Schedule s) = schedule (schedule_text s)
 told_view (kept.Many limit) = many limit

@@ -2,18 +2,20 @@
 ghost use Rattle.std.specs.Prelude.{◌≡◌, ◌++◌, codes, map, IfOk, OnOk, string_bytes};
 ghost use Rattle.std.specs.Str.Lines.{lines};
 ghost use Rattle.ulfm_json.specs.Parts.{texts_json};
-ghost use Rattle.ulfm_lists.specs.Told.{place_json, row_in, row_words, told_in, told_json, told_words, unmet_in, unmet_json, unmet_words};
+ghost use Rattle.ulfm_moves.specs.Words.{schedule_text};
+ghost use Rattle.ulfm_lists.specs.Told.{schedule as by_text, place_json, row_in, row_words, told_in, told_json, told_words, unmet_in, unmet_json, unmet_words};
 ghost use Rattle.ulfm_lists.specs.Told.{told_view};
 
 use std::alloc::{AllocError, Global};
 use ulfm_found::Unmet;
 use ulfm_json::{Form, push_texts};
+use ulfm_moves::{Schedule, push_schedule};
 
 /// What a search came to that may show a schedule.
 #[derive(Drop)]
 pub enum Told {
-    /// The text of a schedule.
-    Schedule(String),
+    /// A schedule.
+    Schedule(Schedule),
     /// There are more states than this limit.
     Many(usize),
 }
@@ -110,7 +112,7 @@ pub(crate) fn push_words(text: &mut String, told: &Told) -> Result<(), AllocErro
     ensures { OnOk result (string_bytes text.new ≡ string_bytes text.old ++ told_words (told_view told.now)) }
 {
     match told {
-        Told::Schedule(schedule) => text.push_str(schedule.as_str()),
+        Told::Schedule(schedule) => push_schedule(text, schedule),
         Told::Many(limit) => write!(text, "more than {limit} states\n"),
     }
 }
@@ -120,12 +122,20 @@ pub(crate) fn push_key(text: &mut String, told: &Told) -> Result<(), AllocError>
     ensures { OnOk result (string_bytes text.new ≡ string_bytes text.old ++ told_json (told_view told.now)) }
 {
     match told {
-        Told::Schedule(schedule) => {
-            let lines = lines_of(*text.allocator(), schedule.as_str())?;
-            push_lines(text, lines.as_slice())
-        }
+        Told::Schedule(schedule) => push_lines_of(text, schedule),
         Told::Many(limit) => write!(text, "\"more_states_than\":{limit}"),
     }
+}
+
+/// The key of a schedule.
+fn push_lines_of(text: &mut String, schedule: &Schedule) -> Result<(), AllocError>
+    ensures { OnOk result (string_bytes text.new ≡ string_bytes text.old ++ told_json (by_text (schedule_text schedule.now))) }
+{
+    let alloc = *text.allocator();
+    let mut words = String::new(alloc);
+    push_schedule(&mut words, schedule)?;
+    let lines = lines_of(alloc, words.as_str())?;
+    push_lines(text, lines.as_slice())
 }
 
 /// The key of a schedule with its lines.

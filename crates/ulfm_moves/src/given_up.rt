@@ -8,7 +8,7 @@ use ulfm_base::OutOfMemory;
 use ulfm_job::{Job, Step};
 use ulfm_log::{Entry, tells_gone};
 use ulfm_script::RankReport;
-use ulfm_waits::{awaited, due_of, need_of, position_by, push_words};
+use ulfm_waits::{Remark, Wait, awaited, due_of, need_of, position_by};
 
 /// A step that was given up, or answered only by what others did behind such steps.
 #[derive(Drop)]
@@ -59,32 +59,37 @@ impl<'a> GivenUp<'a> {
     }
 }
 
-/// Puts a line for each rank of which a step waits for something that was given up, or that would be open for ever but for such steps, as a
-/// schedule has them of steps that stand open.
-pub(crate) fn push_given_up(
-    text: &mut String,
+/// What each step of a job's ranks with these reports waited for that was given up, or that would be open for ever but for such steps.
+///
+/// # Errors
+///
+/// `OutOfMemory` where a growth was refused.
+pub(crate) fn given_up(
+    alloc: Global,
     job: &Job,
     reports: &[RankReport],
-) -> Result<(), OutOfMemory> {
-    let held = all_held(*text.allocator(), job, reports)?;
+) -> Result<Vec<Wait>, OutOfMemory> {
+    let held = all_held(alloc, job, reports)?;
+    let held = held.as_slice();
+    let mut waits = Vec::new(alloc);
     for report in reports {
-        if let Some(own) = held_at(held.as_slice(), report.me().number) {
+        if let Some(own) = held_at(held, report.me().number) {
             if !own.is_given_up {
-                push_step(text, job, reports, held.as_slice(), report, own.step)?;
+                add_step(&mut waits, job, reports, held, report, own.step)?;
             }
         }
         for (number, step) in report.steps().iter().enumerate() {
             if matches!(step.answer, StepAnswer::Unfinished) {
-                push_step(text, job, reports, held.as_slice(), report, number)?;
+                add_step(&mut waits, job, reports, held, report, number)?;
             }
         }
     }
-    Ok(())
+    Ok(waits)
 }
 
-/// Puts the lines of a step.
-fn push_step(
-    text: &mut String,
+/// Adds what a step waits for.
+fn add_step(
+    waits: &mut Vec<Wait>,
     job: &Job,
     reports: &[RankReport],
     held: &[Option<Held>],
@@ -95,28 +100,28 @@ fn push_step(
         return Ok(());
     };
     if given.is_decided() {
-        return push_decided(text, job, reports, held, &given);
+        return add_decided(waits, job, reports, held, &given);
     }
-    for s in ranks_of(*text.allocator(), &given)? {
+    for s in ranks_of(*waits.allocator(), &given)? {
         if let Some(source) = reports.get(s as usize) {
-            push_wait(text, job, held, &given, source)?;
+            waits.push(wait_on(job, held, &given, source)?)?;
         }
     }
     Ok(())
 }
 
-/// Puts the lines of a step that was decided: of each member that entered behind where it would stand.
-fn push_decided(
-    text: &mut String,
+/// Adds what a step waits for that was decided: the entry of each member that entered behind where it would stand.
+fn add_decided(
+    waits: &mut Vec<Wait>,
     job: &Job,
     reports: &[RankReport],
     held: &[Option<Held>],
     given: &GivenUp<'_>,
 ) -> Result<(), OutOfMemory> {
-    for s in members(*text.allocator(), given)? {
+    for s in members(*waits.allocator(), given)? {
         if enters_behind(job, reports, held, given, s) {
             if let Some(source) = reports.get(s as usize) {
-                push_wait(text, job, held, given, source)?;
+                waits.push(wait_on(job, held, given, source)?)?;
             }
         }
     }
@@ -146,22 +151,20 @@ fn ranks_of(alloc: Global, given: &GivenUp<'_>) -> Result<Vec<u8>, OutOfMemory> 
     }
 }
 
-/// Puts the line of what it waits for of a rank.
-fn push_wait(
-    text: &mut String,
+/// What it waits for of a rank.
+fn wait_on(
     job: &Job,
     held: &[Option<Held>],
     given: &GivenUp<'_>,
     source: &RankReport,
-) -> Result<(), OutOfMemory> {
+) -> Result<Wait, OutOfMemory> {
     let s = source.me().number;
     let missed = missed_step(job, given, source);
     let due = match missed {
         Some(missed) => Some(missed.step),
         None => due_of(given.need, given.position, job, s, source.steps()),
     };
-    push_words(
-        text,
+    let mut wait = Wait::of(
         given.report.me().number,
         given.step,
         given.need,
@@ -171,50 +174,38 @@ fn push_wait(
         job.script(s),
         due,
     )?;
-    match missed {
-        Some(missed) => push_missed(text, held, s, missed)?,
-        None => push_notice(text, given, source)?,
-    }
-    text.push_str("\n")
+    wait.remark = match missed {
+        Some(missed) => Some(lateness(held, s, missed)),
+        None => notice(given, source),
+    };
+    Ok(wait)
 }
 
-/// Puts why a step of the rank `s` that brought it came too late.
-fn push_missed(
-    text: &mut String,
-    held: &[Option<Held>],
-    s: u8,
-    missed: Missed,
-) -> Result<(), OutOfMemory> {
+/// Why a step of the rank `s` that brought it came too late.
+fn lateness(held: &[Option<Held>], s: u8, missed: Missed) -> Remark {
     if missed.is_lost {
-        return text.push_str(", but lost");
+        return Remark::Lost;
     }
     match held_at(held, s) {
-        Some(own) if missed.step > own.step => {
-            write!(text, ", but only after {s}.{}", own.step)?;
-            if own.is_given_up {
-                text.push_str(" was given up")?;
-            }
-            Ok(())
-        }
-        _ => text.push_str(", but later"),
+        Some(own) if missed.step > own.step && own.is_given_up => Remark::AfterGivenUp(own.step),
+        Some(own) if missed.step > own.step => Remark::After(own.step),
+        _ => Remark::Later,
     }
 }
 
-/// Puts that the notice of a rank's stop came later, or hadn't come, if it stopped and the one that waits didn't know it.
-fn push_notice(
-    text: &mut String,
-    given: &GivenUp<'_>,
-    source: &RankReport,
-) -> Result<(), OutOfMemory> {
+/// That the notice of a rank's stop came later, or hadn't come, if it stopped and the one that waits didn't know it.
+fn notice(given: &GivenUp<'_>, source: &RankReport) -> Option<Remark> {
+    if !source.stopped() {
+        return None;
+    }
     let place = given
         .report
         .log()
         .iter()
         .position(|entry| tells_gone(entry, source.me()));
     match place {
-        _ if !source.stopped() => Ok(()),
-        Some(place) if place < given.known => Ok(()),
-        Some(_) => text.push_str(", and the notice of its stop came later"),
-        None => text.push_str(", and the notice of its stop hadn't come yet"),
+        Some(place) if place < given.known => None,
+        Some(_) => Some(Remark::NoticeLater),
+        None => Some(Remark::NoticeMissing),
     }
 }

@@ -1,17 +1,31 @@
-//! What ranks did, as the text of a schedule.
+//! Schedules as values: what ranks do one after another, which message each receive gets, what came of each rank, and what steps wait for.
 //!
-//!     let text = played_text(alloc, &job, &reports)?;
+//!     push_schedule(&mut text, &schedule)?;
 //!
-//! [`played_text`] gives the reports of a job the form in which `outcomes --show` prints a schedule: their answers, and the items that the
-//! logs tell of, in an order in which each item is taken behind the move that sent it. Pictures are drawn of it, by `ulfm_draw`. No contract
-//! says anything of it. Pictures are held byte for byte by `tools/check-pictures`.
+//! A [`Schedule`] is made of a world that was shown by `ulfm_shown`, which also says by contracts that its text is the one of that world;
+//! words, JSON and the pictures of `ulfm_draw` are printed from it. [`replayed`] gives that of a replay, with what steps wait for that it gave
+//! up, by the reports of its ranks.
+//!
+//! Read specs/Words.antt. No contract says anything of the numbers of messages, of what moves send, nor of [`replayed`]. Pictures, which show
+//! them, are held byte for byte by `tools/check-pictures`.
 #![tactic(auto)]
 
+mod cargo;
+mod course;
 mod given_up;
 mod held;
 mod missed;
-mod played;
-mod told;
+mod moved;
+mod numbers;
+mod parcel;
+mod replaying;
+mod schedule;
 mod under_way;
 
-pub use played::played_text;
+pub use cargo::{Cargo, push_cargo};
+pub use course::{Course, End};
+pub use moved::{Deed, Move};
+pub use numbers::{Before, Numbers};
+pub use parcel::Parcel;
+pub use replaying::replayed;
+pub use schedule::{Schedule, push_schedule};

@@ -1,8 +1,7 @@
 //! Items between two ranks, by the reports of both.
 
 use ulfm_answer::StepAnswer;
-use ulfm_base::{Entrance, ItemKind, OutOfMemory, Purpose};
-use ulfm_job::{Job, Step};
+use ulfm_base::ItemKind;
 use ulfm_log::{Entry, revokes};
 use ulfm_script::RankReport;
 
@@ -92,69 +91,4 @@ pub(crate) fn step_of(source: &RankReport, entry: usize) -> Option<usize> {
         }
     }
     None
-}
-
-/// Puts the words of an item that the other rank takes by the entry `at` of its log.
-pub(crate) fn push_item(
-    text: &mut String,
-    job: &Job,
-    source: &RankReport,
-    report: &RankReport,
-    at: usize,
-    item: &ItemKind,
-) -> Result<(), OutOfMemory> {
-    let from = source.me().number;
-    match item {
-        ItemKind::Letter(_) => {
-            let before = letters_before(report, at, source);
-            let entry = sent_by(source, report.me().number, before);
-            push_letter(
-                text,
-                job,
-                from,
-                entry.and_then(|entry| step_of(source, entry)),
-            )
-        }
-        ItemKind::Gone => write!(text, "notice that {from} stopped"),
-        ItemKind::Revoke(context) => write!(text, "revocation of comm {}", context.number),
-        ItemKind::Enter(entrance) => push_entrance(text, entrance),
-    }
-}
-
-/// Puts the words of a message, by the step that sent it.
-fn push_letter(
-    text: &mut String,
-    job: &Job,
-    from: u8,
-    step: Option<usize>,
-) -> Result<(), OutOfMemory> {
-    let Some(number) = step else {
-        return text.push_str("message");
-    };
-    match job.script(from).get(number) {
-        Some(
-            Step::Send {
-                tag,
-                body,
-                comm,
-                ..
-            },
-        ) => write!(
-            text,
-            "message tag {} length {} comm {}",
-            tag.number,
-            body.as_bytes().len(),
-            comm.number
-        ),
-        _ => text.push_str("message"),
-    }
-}
-
-/// Puts the words of an entry.
-fn push_entrance(text: &mut String, entrance: &Entrance) -> Result<(), OutOfMemory> {
-    let comm = entrance.topic.context.number;
-    match entrance.topic.purpose {
-        Purpose::Shrink => write!(text, "entry into the shrink of comm {comm}"),
-        Purpose::Agree { .. } => write!(text, "entry into an agreement on comm {comm}"),
-    }
 }

@@ -5,13 +5,12 @@ ghost use Rattle.ulfm_replies.specs.CommandLine.{AreTurns};
 
 use crate::turns::given_turns;
 use std::alloc::{AllocError, Global};
-use ulfm_draw::{Style, drawn};
+use ulfm_draw::drawn;
 use ulfm_job::Job;
-use ulfm_json::Form;
-use ulfm_moves::played_text;
-use ulfm_replay::replay;
+use ulfm_json::{Form, Style};
+use ulfm_moves::replayed;
+use ulfm_replay::{Played, replay_in_order};
 use ulfm_replies::{DONE, Place, Reply, asked_at};
-use ulfm_script::RankReport;
 
 /// The reply of `draw`, in this style.
 pub fn draw_reply(
@@ -30,23 +29,18 @@ pub fn draw_reply(
         Ok(asked) => given_turns(asked, turns),
         Err(reply) => return Ok(reply),
     };
-    match replay(alloc, &asked.job) {
-        Ok(reports) => picture_of(alloc, style, &asked.job, reports.as_slice()),
+    match replay_in_order(alloc, &asked.job) {
+        Ok(played) => picture_of(alloc, style, &asked.job, played),
         Err(_) => Err(AllocError),
     }
 }
 
-/// The picture of the reports of a job's ranks.
-fn picture_of(
-    alloc: Global,
-    style: Style,
-    job: &Job,
-    reports: &[RankReport],
-) -> Result<Reply, AllocError>
+/// The picture of a replay.
+fn picture_of(alloc: Global, style: Style, job: &Job, played: Played) -> Result<Reply, AllocError>
     ensures { IfOk result (λ r. r.status ≡ 0) }
 {
-    let played = played_text(alloc, job, reports)?;
-    let text = drawn(alloc, style, played.as_str(), "")?;
+    let schedule = replayed(alloc, job, played.moves, played.reports.as_slice())?;
+    let text = drawn(alloc, style, &schedule, "")?;
     Ok(Reply {
         status: DONE,
         text,

@@ -6,9 +6,12 @@ ghost use Rattle.std.specs.Prelude.{◌≡◌, ◌<◌, ℕ, length, false, IfEr
 ghost use Rattle.ulfm_world.specs.inside.Rounds.{Moves, Follows, IsStuck};
 ghost use Rattle.ulfm_world.specs.Replay.{MadeAtRest};
 
+use crate::played::Played;
+use crate::recording::{Recording, apply};
 use std::alloc::Global;
 use ulfm_job::Job;
 use ulfm_script::{Hands, RankReport, RunFault, turn};
+use ulfm_shown::Recorder;
 use ulfm_world::{Event, Refused, World};
 
 /// The job, round by round. One inbox holds `capacity` items for each rank. In a round the ranks come upwards, and each
@@ -26,9 +29,42 @@ use ulfm_world::{Event, Refused, World};
 /// # Errors
 ///
 /// `OutOfMemory` where a growth outside the poll of a step is refused.
-#[tactic(auto, using(ulfm_world::proofs::Ends::rests))]
 pub fn replay(alloc: Global, job: &Job) -> Result<Vec<RankReport>, RunFault>
     ensures settled { IfOk result (λ reports. MadeAtRest job.now reports.items) }
+    ensures refused { IfErr result (λ fault. fault ≡ RunFault.OutOfMemory) }
+{
+    match play(alloc, job, Recording::Off) {
+        Ok(played) => Ok(played.0),
+        Err(fault) => Err(fault),
+    }
+}
+
+/// The same, with the moves of its ranks in the order that they had.
+///
+/// # Errors
+///
+/// `OutOfMemory` where a growth outside the poll of a step is refused.
+pub fn replay_in_order(alloc: Global, job: &Job) -> Result<Played, RunFault>
+    ensures settled { IfOk result (λ played. MadeAtRest job.now played.reports.items) }
+    ensures refused { IfErr result (λ fault. fault ≡ RunFault.OutOfMemory) }
+{
+    match play(alloc, job, Recording::On(Recorder::new(alloc))) {
+        Ok((reports, recording)) => match recording.into_moves() {
+            Some(moves) => Ok(Played { reports, moves }),
+            None => Err(RunFault::OutOfMemory),
+        },
+        Err(fault) => Err(fault),
+    }
+}
+
+/// The job, round by round, and the recording of it.
+#[tactic(auto, using(ulfm_world::proofs::Ends::rests))]
+fn play(
+    alloc: Global,
+    job: &Job,
+    recording: Recording,
+) -> Result<(Vec<RankReport>, Recording), RunFault>
+    ensures settled { IfOk result (λ played. MadeAtRest job.now played.0.items) }
     ensures refused { IfErr result (λ fault. fault ≡ RunFault.OutOfMemory) }
 {
     let Ok(world) = World::new(alloc, job.ranks(), job.capacity()) else {
@@ -40,15 +76,22 @@ pub fn replay(alloc: Global, job: &Job) -> Result<Vec<RankReport>, RunFault>
         rank: 0,
         most: 1,
         is_idle: false,
+        recording,
     };
     while round(job, &mut rounds)? {
         rounds.most = rounds.polls_each();
     }
-    rounds.world.into_reports(alloc)
+    let Rounds {
+        world,
+        recording,
+        ..
+    } = rounds;
+    let reports = world.into_reports(alloc)?;
+    Ok((reports, recording))
 }
 
 /// A world on its way through a job, the rank whose turn it is, how many polls an open step may get in one turn, and whether all that
-/// happened in this round were polls of open steps that left them open.
+/// happened in this round were polls of open steps that left them open, and the recording of it.
 #[derive(Drop)]
 struct Rounds<'a> {
     job: &'a Job,
@@ -56,6 +99,7 @@ struct Rounds<'a> {
     rank: u8,
     most: u32,
     is_idle: bool,
+    recording: Recording,
 }
 
 impl Rounds<'_> {
@@ -126,7 +170,7 @@ impl Hands for Rounds<'_> {
     }
 
     fn take_one(&mut self) -> Result<bool, RunFault> {
-        match self.world.apply(Event::Take(self.rank)) {
+        match apply(&mut self.world, &mut self.recording, Event::Take(self.rank)) {
             Ok(_) => {
                 self.is_idle = false;
                 Ok(true)
@@ -138,7 +182,13 @@ impl Hands for Rounds<'_> {
 
     fn poll(&mut self) -> Result<bool, RunFault> {
         let before = self.world.polls(self.rank);
-        let polled = polling::poll(self.job, &mut self.world, self.rank, self.most)?;
+        let polled = polling::poll(
+            self.job,
+            &mut self.world,
+            &mut self.recording,
+            self.rank,
+            self.most,
+        )?;
         if polled && (before == 0 || self.world.polls(self.rank) == 0) {
             self.is_idle = false;
         }

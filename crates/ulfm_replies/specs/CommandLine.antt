@@ -9,8 +9,8 @@ use Rattle.ulfm_replies.specs.declared.command.ListOptions.{ListOptions}
 use Rattle.ulfm_replies.specs.declared.command.RunOptions.{RunOptions}
 use Rattle.ulfm_replies.specs.declared.command.Wanted.{Wanted}
 use Rattle.ulfm_replies.specs.declared.command.Wanted.TheVariants.{Check, Replay, Run, Sweep, Outcomes, Places, Expand, Draw}
-use Rattle.ulfm_draw.specs.declared.style.Style.{Style}
-use Rattle.ulfm_draw.specs.declared.style.Style.TheVariants as style
+use Rattle.ulfm_json.specs.declared.style.Style.{Style}
+use Rattle.ulfm_json.specs.declared.style.Style.TheVariants as style
 use Rattle.ulfm_json.specs.declared.form.Form.{Form}
 use Rattle.ulfm_json.specs.declared.form.Form.TheVariants.{Words, Json}
 use Rattle.ulfm_stops.specs.Text.{place_of_text}

@@ -14,9 +14,8 @@ use clap::error::ErrorKind;
 use clap::{ArgMatches, Command, Error};
 use std::alloc::{AllocError, Global};
 use std::convert::AsStr;
-use ulfm_draw::Style;
 use ulfm_job::limits::MOST_TURNS;
-use ulfm_json::Form;
+use ulfm_json::{Form, Style};
 use ulfm_stops::Place;
 
 /// What takes the items of a run from rank to rank.

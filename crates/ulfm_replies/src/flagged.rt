@@ -5,7 +5,7 @@ ghost use Rattle.ulfm_replies.specs.CommandLine.{drawn_in, is_flagged, is_strict
 
 use crate::command::value_of;
 use clap::ArgMatches;
-use ulfm_draw::Style;
+use ulfm_json::Style;
 
 /// Whether the flag `--strict` was given.
 pub(crate) fn is_strict(options: &ArgMatches<'_>) -> bool

@@ -1,15 +1,18 @@
-//! Words for what happens in a schedule: the line of an event, the trace that a world has so far, and what its open steps wait for.
+//! Schedules as values, made of worlds: the moves of events, what came of ranks so far, and what their open steps wait for.
 //!
-//!     push_move(&mut text, &world, &event)?;
-//!     push_trace(&mut text, &job, &world)?;
+//!     let underway = recorder.before(&world, &event)?;
+//!     world.apply(event)?;
+//!     recorder.after(&world, underway)?;
 //!
-//! The words are said in specs/ of `ulfm_finder`: read Lines.antt first (the events), then Turns.antt, Ranks.antt (the trace) and Waits.antt
-//! (what open steps wait for).
+//! Each function says by its contract what its value says in words. Read Lines.antt of specs/ first (the events), then Turns.antt, Ranks.antt
+//! (the trace) and Waits.antt (what open steps wait for).
 #![tactic(auto)]
 
 mod lines;
 mod ranks;
+mod recorder;
 mod waits;
 
-pub use lines::{push_move, push_turn, turning};
-pub use ranks::{push_trace, push_waiting};
+pub use ranks::courses_of;
+pub use recorder::{Recorder, Underway};
+pub use waits::waits_of;

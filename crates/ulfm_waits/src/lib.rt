@@ -2,16 +2,24 @@
 //!
 //!     for s in &awaited(alloc, rank, rank.log(), need)? {
 //!         let due = due_of(need, position_by(rank, need), &job, *s, done);
-//!         push_words(&mut text, r, k, need, *s, done, is_open, job.script(*s), due)?;
+//!         waits.push(Wait::of(r, k, need, *s, done, is_open, job.script(*s), due)?)?;
 //!     }
 //!
-//! Read specs/Waits.antt.
+//! Read specs/Waits.antt, then Values.antt: what a [`Wait`] says in words.
 #![tactic(auto)]
 
 mod awaiting;
+mod bearer;
 mod bearing;
+mod need;
+mod remark;
+mod wait;
 mod wording;
 
 pub use awaiting::{awaited, position_by};
+pub use bearer::{Bearer, Fate};
 pub use bearing::{due_of, need_of, would_bring};
-pub use wording::{push_named, push_words};
+pub use need::Need;
+pub use remark::Remark;
+pub use wait::Wait;
+pub use wording::{push_bringing, push_named, push_needed, push_wait};

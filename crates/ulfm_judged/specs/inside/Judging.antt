@@ -26,7 +26,7 @@ use Rattle.ulfm_finder.specs.Told.{IsLook}
 use Rattle.ulfm_judged.specs.inside.Looking.{look_status}
 use Rattle.ulfm_lists.specs.Told.{told_view}
 use Rattle.ulfm_found.specs.declared.goals.Goals.{Goals}
-use Rattle.ulfm_draw.specs.declared.style.Style.{Style}
+use Rattle.ulfm_json.specs.declared.style.Style.{Style}
 
 -- so many threads share the places: as many as are asked for, and one at least, else 64 at most
 abbrev pub AreSharing : Option ℕ → ℕ → Type 0

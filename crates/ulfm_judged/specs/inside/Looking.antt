@@ -4,7 +4,7 @@ use Rattle.ulfm_job.specs.declared.clause.Clause.{Clause}
 use Rattle.ulfm_job.specs.Job.{JobView}
 use Rattle.ulfm_finder.specs.Told.{IsLook}
 use Rattle.ulfm_found.specs.declared.goals.Goals.{Goals}
-use Rattle.ulfm_draw.specs.declared.style.Style.{Style}
+use Rattle.ulfm_json.specs.declared.style.Style.{Style}
 use Rattle.ulfm_json.specs.declared.form.Form.{Form}
 use Rattle.ulfm_judged.specs.Outcomes.{AreOfRow, NeverComes, NoneComes, nowhere_in}
 use Rattle.ulfm_lists.specs.Told.{Told, many, schedule, told_in}

@@ -8,13 +8,20 @@ ghost use Rattle.ulfm_answer.specs.Reacting.{is_played};
 ghost use Rattle.ulfm_world.specs.World.{IsRunning, player_at};
 ghost use Rattle.ulfm_world.specs.inside.Rounds.{Moves, Follows};
 
+use crate::recording::{Recording, apply};
 use ulfm_job::{Job, Step};
 use ulfm_script::RunFault;
 use ulfm_world::{Asked, Event, Outcome, Refused, World};
 
 /// The poll of the next step that is to be played, if there is one: an open shrink or agreement that has a proposal is decided. Those
 /// before it are skipped, and take no poll. An open step may get as many polls at once as `most`.
-pub(super) fn poll(job: &Job, world: &mut World, r: u8, most: u32) -> Result<bool, RunFault>
+pub(super) fn poll(
+    job: &Job,
+    world: &mut World,
+    recording: &mut Recording,
+    r: u8,
+    most: u32,
+) -> Result<bool, RunFault>
     requires inside { r < length world.old.players }
     requires scripts { job.now.ranks ≡ length world.old.players }
     requires follows { Follows job.now world.old }
@@ -28,20 +35,26 @@ pub(super) fn poll(job: &Job, world: &mut World, r: u8, most: u32) -> Result<boo
         return Ok(false);
     };
     if !world.is_next_played(r, job.conditions()) {
-        skip(job, world, r, step)?;
-        poll(job, world, r, most)?;
+        skip(job, world, recording, r, step)?;
+        poll(job, world, recording, r, most)?;
         return Ok(true);
     }
-    if decide(job, world, r, step) {
+    if decide(job, world, recording, r, step) {
         return Ok(true);
     }
-    call(job, world, r, step, most)?;
+    call(job, world, recording, r, step, most)?;
     Ok(true)
 }
 
 /// The step isn't played, since none of its conditions holds.
 #[tactic(auto, using(ulfm_world::proofs::Refusals::refusals))]
-fn skip(job: &Job, world: &mut World, r: u8, step: &Step) -> Result<(), RunFault>
+fn skip(
+    job: &Job,
+    world: &mut World,
+    recording: &mut Recording,
+    r: u8,
+    step: &Step,
+) -> Result<(), RunFault>
     requires inside { r < length world.old.players }
     requires running { IsRunning world.old r }
     requires follows { Follows job.now world.old }
@@ -51,7 +64,7 @@ fn skip(job: &Job, world: &mut World, r: u8, step: &Step) -> Result<(), RunFault
 {
     // It tells the limits that each job keeps.
     let _ = job.turns();
-    match world.apply(Event::Skip(r, Asked::of(step))) {
+    match apply(world, recording, Event::Skip(r, Asked::of(step))) {
         Ok(_) => Ok(()),
         Err(Refused::OutOfMemory) => Err(RunFault::OutOfMemory),
         Err(_) => unreachable!(),
@@ -59,7 +72,14 @@ fn skip(job: &Job, world: &mut World, r: u8, step: &Step) -> Result<(), RunFault
 }
 
 /// One poll of a step; or as many at once as `most`, where it stands open and none of them is its last.
-fn call(job: &Job, world: &mut World, r: u8, step: &Step, most: u32) -> Result<(), RunFault>
+fn call(
+    job: &Job,
+    world: &mut World,
+    recording: &mut Recording,
+    r: u8,
+    step: &Step,
+    most: u32,
+) -> Result<(), RunFault>
     requires inside { r < length world.old.players }
     requires running { IsRunning world.old r }
     requires follows { Follows job.now world.old }
@@ -73,7 +93,7 @@ fn call(job: &Job, world: &mut World, r: u8, step: &Step, most: u32) -> Result<(
     if polls > 0 && times > 1 {
         return call_often(job, world, r, step, times);
     }
-    call_once(job, world, r, step)
+    call_once(job, world, recording, r, step)
 }
 
 /// So many polls of the open step at once, of which none is its last.
@@ -100,7 +120,7 @@ fn call_often(job: &Job, world: &mut World, r: u8, step: &Step, times: u32) -> R
 }
 
 /// The decision of a step that stands open and has a proposal: a shrink or an agreement.
-fn decide(job: &Job, world: &mut World, r: u8, step: &Step) -> bool
+fn decide(job: &Job, world: &mut World, recording: &mut Recording, r: u8, step: &Step) -> bool
     requires inside { r < length world.old.players }
     requires running { IsRunning world.old r }
     requires follows { Follows job.now world.old }
@@ -112,7 +132,7 @@ fn decide(job: &Job, world: &mut World, r: u8, step: &Step) -> bool
     let Some(comm) = step.decides_on() else {
         return false;
     };
-    match world.apply(Event::Decide(r, comm)) {
+    match apply(world, recording, Event::Decide(r, comm)) {
         Ok(_) => true,
         Err(Refused::NotReady) => false,
         Err(_) => unreachable!(),
@@ -122,7 +142,13 @@ fn decide(job: &Job, world: &mut World, r: u8, step: &Step) -> bool
 /// One poll of a step by `call`; it is given up where this was the last poll, or the first of one that may be given up early, and left it
 /// open.
 #[tactic(auto, using(ulfm_world::proofs::Refusals::refusals))]
-fn call_once(job: &Job, world: &mut World, r: u8, step: &Step) -> Result<(), RunFault>
+fn call_once(
+    job: &Job,
+    world: &mut World,
+    recording: &mut Recording,
+    r: u8,
+    step: &Step,
+) -> Result<(), RunFault>
     requires inside { r < length world.old.players }
     requires running { IsRunning world.old r }
     requires follows { Follows job.now world.old }
@@ -132,7 +158,7 @@ fn call_once(job: &Job, world: &mut World, r: u8, step: &Step) -> Result<(), Run
     ensures { OnOk result (Moves job.now world.old world.new true) }
 {
     let turns = job.turns_at(r, world.answered(r));
-    match world.apply(Event::Call(r, Asked::of(step))) {
+    match apply(world, recording, Event::Call(r, Asked::of(step))) {
         Ok(Outcome::Answered) => return Ok(()),
         Ok(_) => {}
         Err(Refused::OutOfMemory) => return Err(RunFault::OutOfMemory),
@@ -141,7 +167,7 @@ fn call_once(job: &Job, world: &mut World, r: u8, step: &Step) -> Result<(), Run
     if world.polls(r) < turns {
         return Ok(());
     }
-    match world.apply(Event::Leave(r)) {
+    match apply(world, recording, Event::Leave(r)) {
         Ok(_) => Ok(()),
         Err(_) => unreachable!(),
     }

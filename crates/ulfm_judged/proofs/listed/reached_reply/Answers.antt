@@ -1,6 +1,7 @@
 use Rattle.std.proofs.Common.{ℕ, List, ap, subst, sym, ◌∙◌, string_bytes}
 use Rattle.std.proofs.lemmas.Result.{IfOk-weaker}
 use Rattle.ulfm_replies.specs.Stopped.{asked_view}
+use Rattle.ulfm_reader.specs.declared.name.Name.{Name}
 use Rattle.ulfm_reach.specs.declared.reach.Reach.{Reach}
 use Rattle.ulfm_finder.specs.Outcomes.{IsList}
 use Rattle.ulfm_found.specs.Objects.{list_in}
@@ -19,7 +20,8 @@ returns-in-All g c = λ bytes read.
     let options = c.args.options in
     let limit = options.limit in
     let list = subst (IsList asked.job limit) c.in-All.is c.requires in
-    let text = c.in_ok-text.ensures ∙ ap (λ (reach : Reach). list_in form asked.names asked.job reach limit) c.in-All.is in
+    let named = ap (λ (names : List Name). list_in form names asked.job c.args.reach.now limit) c.as_slice-names.ensures.value in
+    let text = c.in_ok-text.ensures ∙ named ∙ ap (λ (reach : Reach). list_in form asked.names asked.job reach limit) c.in-All.is in
     IfOk-weaker c.judged.result _ _ (λ r h. listed asked reached r.status (string_bytes r.text) read list
     (subst (λ (words : List ℕ). IsJudged form options asked.job asked.rows reached.found words r.status (string_bytes r.text)) text h)) c.judged.ensures
 
@@ -29,5 +31,6 @@ returns-in-More g c = λ bytes read.
     let form = c.args.form in
     let options = c.args.options in
     let limit = options.limit in
-    subst (λ (words : List ℕ). IsOutcomesReply form options bytes 7 words) (sym (c.in_ok-text.ensures ∙ ap (λ (reach : Reach). list_in form asked.names asked.job reach limit) c.in-More.is))
+    let named = ap (λ (names : List Name). list_in form names asked.job c.args.reach.now limit) c.as_slice-names.ensures.value in
+    subst (λ (words : List ℕ). IsOutcomesReply form options bytes 7 words) (sym (c.in_ok-text.ensures ∙ named ∙ ap (λ (reach : Reach). list_in form asked.names asked.job reach limit) c.in-More.is))
     (past_limit asked read (subst (IsList asked.job limit) c.in-More.is c.requires))

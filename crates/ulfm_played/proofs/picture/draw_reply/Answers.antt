@@ -10,10 +10,10 @@ use Rattle.ulfm_played.proofs.picture.draw_reply.Goals as goal
 pub returns-in-Err : goal.returns-in-Err
 returns-in-Err c = not_drawn _ _ (subst (IsAsked c.args.form c.args.place c.args.bytes.now) c.in-Err.is c.in_ok-read.ensures)
 
-pub returns-in-Ok-replay : goal.returns-in-Ok-replay
-returns-in-Ok-replay c =
-    let reports = c.in-Ok-replay.reports.items in
+pub returns-in-Ok-replay_in_order : goal.returns-in-Ok-replay_in_order
+returns-in-Ok-replay_in_order c =
+    let reports = c.in-Ok-replay_in_order.played.reports.items in
     let asked = subst (IsAsked c.args.form c.args.place c.args.bytes.now) c.in-Ok.is c.in_ok-read.ensures in
     let job : c.given_turns-asked.result.job ≡ given_turns c.args.turns c.in-Ok.asked.job = ap (λ (asked : Reading). asked.job) c.given_turns-asked.ensures in
     IfOk-weaker c.picture_of.result _ _ (λ r h. rw h (drawn (asked_view c.in-Ok.asked) reports (string_bytes r.text) asked
-    (subst (λ (j : JobView). MadeAtRest j reports) job c.in-Ok-replay.ensures.settled))) c.picture_of.ensures
+    (subst (λ (j : JobView). MadeAtRest j reports) job c.in-Ok-replay_in_order.ensures.settled))) c.picture_of.ensures

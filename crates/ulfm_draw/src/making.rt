@@ -1,0 +1,142 @@
+//! A picture by a schedule.
+
+use crate::arrow::Arrow;
+use crate::kind::kind_of;
+use crate::mark::{Mark, mark_by};
+use crate::picture::Picture;
+use crate::row::Row;
+use crate::wait::Wait;
+use std::alloc::{AllocError, Global};
+use ulfm_answer::{StepReport, push_answer};
+use ulfm_job::NotedStep;
+use ulfm_moves::{Cargo, Deed, Move, Schedule, push_cargo};
+
+/// The picture of a schedule, with a note on it.
+pub(crate) fn picture_of<'a>(
+    alloc: Global,
+    schedule: &Schedule,
+    note: &'a str,
+) -> Result<Picture<'a>, AllocError> {
+    let mut picture = Picture::new(alloc, note);
+    for course in &schedule.courses {
+        picture.ends.push(course.end)?;
+    }
+    for moved in &schedule.moves {
+        add_move(&mut picture, moved)?;
+    }
+    for course in &schedule.courses {
+        let rank = course.rank as usize;
+        let step = course.steps.len();
+        if let Some(call) = &course.open {
+            if !picture.has_row(rank, step) {
+                picture.rows.push(opened(alloc, rank, step, call)?)?;
+            }
+        }
+    }
+    if let Some(waits) = &schedule.waits {
+        for wait in waits {
+            picture.waits.push(Wait::of(alloc, wait)?)?;
+        }
+    }
+    Ok(picture)
+}
+
+/// Adds a move. An item on its way isn't seen: it is as soon as it is taken.
+fn add_move(picture: &mut Picture<'_>, moved: &Move) -> Result<(), AllocError> {
+    let alloc = *picture.rows.allocator();
+    let rank = moved.rank as usize;
+    let mut row = match &moved.deed {
+        Deed::Left(_, _) => return Ok(()),
+        Deed::Took(from, cargo) => taken(alloc, rank, *from, *cargo)?,
+        Deed::Opened(step, call) => opened(alloc, rank, *step, call)?,
+        Deed::Answered(step, report) => answered(alloc, rank, *step, report)?,
+    };
+    row.message = moved.message;
+    picture.rows.push(row)?;
+    if let Deed::Took(from, cargo) = &moved.deed {
+        land(picture, *from as usize, rank, *cargo)?;
+    }
+    send(picture, moved)
+}
+
+/// The row of an item that a rank took.
+fn taken(alloc: Global, rank: usize, from: u8, cargo: Cargo) -> Result<Row, AllocError> {
+    let mut words = String::new(alloc);
+    push_cargo(&mut words, from, cargo)?;
+    Ok(Row {
+        rank,
+        step: 0,
+        mark: None,
+        taken: Some(kind_of(cargo)),
+        words,
+        answer: String::new(alloc),
+        message: None,
+    })
+}
+
+/// The row of a step that was opened.
+fn opened(alloc: Global, rank: usize, step: usize, call: &NotedStep) -> Result<Row, AllocError> {
+    Ok(Row {
+        rank,
+        step,
+        mark: Some(Mark::Open),
+        taken: None,
+        words: format!(in alloc; "{call}")?,
+        answer: String::from_str(alloc, "open")?,
+        message: None,
+    })
+}
+
+/// The row of a step that has its answer.
+fn answered(
+    alloc: Global,
+    rank: usize,
+    step: usize,
+    report: &StepReport,
+) -> Result<Row, AllocError> {
+    let mut answer = String::new(alloc);
+    push_answer(&mut answer, &report.answer)?;
+    Ok(Row {
+        rank,
+        step,
+        mark: Some(mark_by(&report.answer)),
+        taken: None,
+        words: format!(in alloc; "{}", report.step)?,
+        answer,
+        message: None,
+    })
+}
+
+/// The first item under way like this ends in the last row. One that nothing is known of begins there too.
+fn land(picture: &mut Picture<'_>, from: usize, to: usize, cargo: Cargo) -> Result<(), AllocError> {
+    let last = picture.last();
+    for arrow in picture.arrows.iter_mut() {
+        if arrow.is_awaited(from, to, cargo) {
+            arrow.end = Some(last);
+            return Ok(());
+        }
+    }
+    picture.arrows.push(Arrow {
+        from,
+        to,
+        cargo,
+        start: last,
+        end: Some(last),
+    })?;
+    Ok(())
+}
+
+/// What a move sends goes out from the last row.
+fn send(picture: &mut Picture<'_>, moved: &Move) -> Result<(), AllocError> {
+    let start = picture.last();
+    for parcel in &moved.sent {
+        picture.arrows.push(Arrow {
+            from: moved.rank as usize,
+            to: parcel.to as usize,
+            cargo: parcel.cargo,
+            start,
+            end: None,
+        })?;
+    }
+    Ok(())
+}

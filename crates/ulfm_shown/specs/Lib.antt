@@ -1,0 +1,5 @@
+pub mod Lines
+pub mod Turns
+pub mod Ranks
+pub mod Waits
+pub mod Moves

@@ -1,0 +1,15 @@
+-- What moves say in words that may not be there.
+use Rattle.std.specs.Prelude.{◌≡◌, ℕ, List, [], Option, Some, None, option_map}
+use Rattle.ulfm_base.specs.declared.item.Item.{Item}
+use Rattle.ulfm_moves.specs.Words.{cargo_text, deed_text, item_text}
+use Rattle.ulfm_moves.specs.declared.cargo.Cargo.{Cargo}
+use Rattle.ulfm_moves.specs.declared.moved.Deed.{Deed}
+
+-- the line of what a rank does, if it does something
+abbrev pub moved_text : Option (ℕ × Deed) → List ℕ
+moved_text None = []
+moved_text (Some moved) = deed_text moved.0 moved.1
+
+-- this is what an item of the rank s brings, if there is one
+abbrev pub Brings : ℕ → Option Cargo → Option Item → Type 0
+Brings s cargo item = option_map (cargo_text s) cargo ≡ option_map (item_text s) item
