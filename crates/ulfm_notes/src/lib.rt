@@ -2,14 +2,16 @@
 //!
 //!     write_notes(alloc, wanted, bytes, &reply, &mut errors);
 //!     write_fault(alloc, usage, &mut errors);
+//!     write_goal(alloc, wanted, bytes, text, goal, &mut errors);
 //!
 //! That is for people, and no contract speaks of it. What is wrong with a job is found by `ulfm_explain`;
 //! what is told of steps and rows comes with the reply.
 #![tactic(auto)]
 
 mod counted;
+mod goal;
 mod misplaced;
 mod notes;
 mod told;
 
-pub use notes::{write_fault, write_notes};
+pub use notes::{write_fault, write_goal, write_notes};

@@ -1,5 +1,6 @@
 //! What standard error says beside a reply: for people, and none of it is promised.
 
+use crate::goal::goal_reason;
 use crate::misplaced::{misplaced_line, place_of};
 use crate::told::remarks_told;
 use std::alloc::{AllocError, Global};
@@ -45,6 +46,37 @@ pub fn write_fault<E: Write>(alloc: Global, usage: &str, errors: &mut E) {
     if let Ok(line) = fault_line(alloc, usage) {
         let _is_written = write_whole(errors, line.as_bytes());
     }
+}
+
+/// Tells in one line that a goal is refused, in this text, and why. Where that finds no memory, nothing is told.
+pub fn write_goal<E: Write>(
+    alloc: Global,
+    wanted: Wanted,
+    bytes: &[u8],
+    text: &str,
+    goal: &str,
+    errors: &mut E,
+) {
+    if let Ok(line) = goal_line(alloc, wanted, bytes, text, goal) {
+        let _is_written = write_whole(errors, line.as_bytes());
+    }
+}
+
+/// The text that a goal is refused, and why, as one line.
+fn goal_line(
+    alloc: Global,
+    wanted: Wanted,
+    bytes: &[u8],
+    text: &str,
+    goal: &str,
+) -> Result<String, AllocError> {
+    let goal = goal.trim_ascii();
+    let reason = goal_reason(alloc, wanted, bytes, goal)?;
+    if reason.is_empty() {
+        return fault_line(alloc, text);
+    }
+    let end = if goal.is_empty() { "" } else { ":" };
+    format!(in alloc; "ulfm: {}{end} {reason}\n", text.trim_ascii())
 }
 
 /// The first paragraph of a usage text, as one line.

@@ -19,7 +19,7 @@ use ulfm_finder::Finder;
 use ulfm_findings::{InputFault, read_front, write_whole};
 use ulfm_json::Form;
 use ulfm_judged::NO_GOAL;
-use ulfm_notes::{write_fault, write_notes};
+use ulfm_notes::{write_fault, write_goal, write_notes};
 use ulfm_replies::{
     Asked, DONE, Failure, INPUT_FAILED, JOB_REFUSED, OUTPUT_FAILED, PAST_LIMIT, RUN_FAILED, Reply,
     USAGE, Unfollowed, Wanted, asked_for, failed_line,
@@ -131,13 +131,26 @@ where
             let status = write_reply(output, reply.status, reply.text.as_bytes());
             match reply.status {
                 JOB_REFUSED if reply.text.as_str().starts_with(NO_GOAL) => {
-                    write_fault(alloc, reply.text.as_str(), errors)
+                    write_refused_goal(alloc, wanted, bytes.as_slice(), reply.text.as_str(), errors)
                 }
                 _ => write_remarks(alloc, wanted, bytes.as_slice(), &reply, far, errors),
             }
             status
         }
         Err(_) => write_starved(output, form),
+    }
+}
+
+/// Writes that a goal is refused, and why.
+fn write_refused_goal<E: Write>(
+    alloc: Global,
+    wanted: Wanted,
+    bytes: &[u8],
+    text: &str,
+    errors: &mut E,
+) {
+    if let Some(goal) = text.strip_prefix(NO_GOAL) {
+        write_goal(alloc, wanted, bytes, text, goal, errors);
     }
 }
 
