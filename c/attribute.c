@@ -22,9 +22,9 @@ int MPI_COMM_NULL_DELETE_FN(MPI_Comm comm, int keyval, void *value, void *more) 
     return MPI_SUCCESS;
 }
 
-static struct keyval *keyval_at(int keyval, bool is_of_types) {
+static struct keyval *keyval_at(int keyval, enum kind_of_bearer kind) {
     struct keyval *at = keyval >= FIRST_OWN && keyval - FIRST_OWN < me->keyval_count ? &me->keyvals[keyval - FIRST_OWN] : 0;
-    return at && at->is_of_types == is_of_types ? at : 0;
+    return at && at->kind == kind ? at : 0;
 }
 
 int create_keyval(const struct keyval *made, int *keyval) {
@@ -45,16 +45,16 @@ int MPI_Comm_create_keyval(MPI_Comm_copy_attr_function *copies, MPI_Comm_delete_
 }
 
 /* The handle goes; attributes with it stay (7.7.2). */
-int free_keyval(int *keyval, bool is_of_types) {
+int free_keyval(int *keyval, enum kind_of_bearer kind) {
     WRITES(0, keyval);
-    if (!keyval_at(*keyval, is_of_types)) return fail(0, MPI_ERR_KEYVAL);
+    if (!keyval_at(*keyval, kind)) return fail(0, MPI_ERR_KEYVAL);
     *keyval = MPI_KEYVAL_INVALID;
     return MPI_SUCCESS;
 }
 
 int MPI_Comm_free_keyval(int *keyval) {
     ENTER_LOOK(0, MPI_UNDEFINED, MPI_UNDEFINED);
-    return free_keyval(keyval, false);
+    return free_keyval(keyval, OF_COMMS);
 }
 
 static struct attribute **place_of(struct attribute **at, int keyval) {
@@ -62,12 +62,17 @@ static struct attribute **place_of(struct attribute **at, int keyval) {
     return at;
 }
 
+static int deletes(const struct bearer *bearer, const struct keyval *keyval, const struct attribute *of) {
+    if (keyval->kind == OF_COMMS) return keyval->comm.deletes(bearer->comm, of->keyval, of->value, keyval->more);
+    if (keyval->kind == OF_TYPES) return keyval->type.deletes(bearer->type, of->keyval, of->value, keyval->more);
+    return keyval->win.deletes(bearer->win, of->keyval, of->value, keyval->more);
+}
+
 /* Takes an attribute away, where its deletion allows that. */
 static int delete_at(const struct bearer *bearer, struct attribute **at) {
     struct attribute *attribute = *at;
     const struct keyval *keyval = &me->keyvals[attribute->keyval - FIRST_OWN];
-    int code = keyval->is_of_types ? keyval->type.deletes(bearer->type, attribute->keyval, attribute->value, keyval->more)
-                                   : keyval->comm.deletes(bearer->comm, attribute->keyval, attribute->value, keyval->more);
+    int code = deletes(bearer, keyval, attribute);
     if (code != MPI_SUCCESS) return code;
     *at = attribute->next;
     free(attribute);
@@ -84,20 +89,20 @@ static int add(struct attribute **at, int keyval, void *value) {
 }
 
 int set_attribute(const struct bearer *bearer, int keyval, void *value) {
-    if (!keyval_at(keyval, !bearer->comm)) return MPI_ERR_KEYVAL;
+    if (!keyval_at(keyval, bearer->kind)) return MPI_ERR_KEYVAL;
     struct attribute **at = place_of(bearer->first, keyval);
     int code = *at ? delete_at(bearer, at) : MPI_SUCCESS;
     return code != MPI_SUCCESS ? code : add(bearer->first, keyval, value);
 }
 
 int delete_attribute(const struct bearer *bearer, int keyval) {
-    if (!keyval_at(keyval, !bearer->comm)) return MPI_ERR_KEYVAL;
+    if (!keyval_at(keyval, bearer->kind)) return MPI_ERR_KEYVAL;
     struct attribute **at = place_of(bearer->first, keyval);
     return *at ? delete_at(bearer, at) : MPI_SUCCESS;
 }
 
 int get_attribute(const struct bearer *bearer, int keyval, void *value, int *flag) {
-    if (!keyval_at(keyval, !bearer->comm)) return MPI_ERR_KEYVAL;
+    if (!keyval_at(keyval, bearer->kind)) return MPI_ERR_KEYVAL;
     const struct attribute *own = *place_of(bearer->first, keyval);
     *flag = own != 0;
     if (own) *(void **)value = own->value;
@@ -112,8 +117,8 @@ int copy_all_attributes(const struct bearer *from, struct attribute **end) {
         const struct keyval *keyval = &me->keyvals[of->keyval - FIRST_OWN];
         void *value = 0;
         int flag = 0;
-        code = keyval->is_of_types ? keyval->type.copies(from->type, of->keyval, keyval->more, of->value, &value, &flag)
-                                   : keyval->comm.copies(from->comm, of->keyval, keyval->more, of->value, &value, &flag);
+        code = keyval->kind == OF_TYPES ? keyval->type.copies(from->type, of->keyval, keyval->more, of->value, &value, &flag)
+                                        : keyval->comm.copies(from->comm, of->keyval, keyval->more, of->value, &value, &flag);
         if (code == MPI_SUCCESS && flag) code = add(end, of->keyval, value);
         if (*end) end = &(*end)->next;
     }
@@ -135,7 +140,7 @@ void free_attributes(struct attribute *first) {
     }
 }
 
-static struct bearer bearer_of(struct comm *comm) { return (struct bearer){handle_of(comm), MPI_DATATYPE_NULL, &comm->attributes}; }
+static struct bearer bearer_of(struct comm *comm) { return (struct bearer){.kind = OF_COMMS, .comm = handle_of(comm), .first = &comm->attributes}; }
 
 int copy_attributes(struct comm *from, struct comm *to) {
     struct bearer bearer = bearer_of(from);

@@ -1,12 +1,14 @@
-/* Attributes, of communicators and of datatypes. */
+/* Attributes, of communicators, of datatypes and of windows. */
 #ifndef ULFM_MPI_ATTRIBUTE_H
 #define ULFM_MPI_ATTRIBUTE_H
 
 #include "run.h"
 
+enum kind_of_bearer { OF_COMMS, OF_TYPES, OF_WINDOWS };
+
 /* A key: what copies and deletes the attributes with it. */
 struct keyval {
-    bool is_of_types;
+    enum kind_of_bearer kind;
     union {
         struct {
             MPI_Comm_copy_attr_function *copies;
@@ -16,6 +18,10 @@ struct keyval {
             MPI_Type_copy_attr_function *copies;
             MPI_Type_delete_attr_function *deletes;
         } type;
+        struct {
+            MPI_Win_copy_attr_function *copies;   /* a window is never duplicated */
+            MPI_Win_delete_attr_function *deletes;
+        } win;
     };
     void *more;
 };
@@ -26,15 +32,19 @@ struct attribute {
     void *value;
 };
 
-/* What has attributes: a communicator, or a datatype where that is null; and its first one, the last that was set. */
+/* What has attributes, and its first one, the last that was set. */
 struct bearer {
-    MPI_Comm comm;
-    MPI_Datatype type;
+    enum kind_of_bearer kind;
+    union {
+        MPI_Comm comm;
+        MPI_Datatype type;
+        MPI_Win win;
+    };
     struct attribute **first;
 };
 
 int create_keyval(const struct keyval *made, int *keyval);
-int free_keyval(int *keyval, bool is_of_types);
+int free_keyval(int *keyval, enum kind_of_bearer kind);
 int set_attribute(const struct bearer *bearer, int keyval, void *value);
 int delete_attribute(const struct bearer *bearer, int keyval);
 int get_attribute(const struct bearer *bearer, int keyval, void *value, int *flag);

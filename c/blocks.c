@@ -85,6 +85,7 @@ static bool add_piece(struct type *type, const struct piece *piece, bool *is_ove
     if (is_first || least < type->least) type->least = least;
     if (is_first || most > type->most) type->most = most;
     if (of->alignment > type->alignment) type->alignment = of->alignment;
+    type->base = is_first || type->base == of->base ? of->base : MPI_DATATYPE_NULL;
     count_up(&type->size, piece->count, of->size, is_over);
     count_up(&type->elements, piece->count, of->elements, is_over);
     count_up(&type->external, piece->count, of->external, is_over);

@@ -1,9 +1,9 @@
 /* Buffered sends (MPI 4.0, 3.4 and 3.6). A message is copied in its call, so the buffer that a program attaches is never written to; it has to be
    large enough all the same. */
 #include "run.h"
+#include <limits.h>
 
-int MPI_Buffer_attach(void *buffer, int size) {
-    ENTER_LOOK(0, MPI_UNDEFINED, MPI_UNDEFINED);
+static int attach(void *buffer, MPI_Count size) {
     if (size < 0) return fail(0, MPI_ERR_ARG);
     if (me->attached || !buffer) return fail(0, MPI_ERR_BUFFER);
     me->attached = buffer;
@@ -11,14 +11,37 @@ int MPI_Buffer_attach(void *buffer, int size) {
     return MPI_SUCCESS;
 }
 
-/* *buffer: the address that was attached, null where there is none. */
+/* Its size, and *buffer: the address that was attached, null where there is none. */
+static MPI_Count detach(void *buffer) {
+    MPI_Count size = me->attached_size;
+    *(void **)buffer = me->attached;
+    me->attached = 0;
+    me->attached_size = 0;
+    return size;
+}
+
+int MPI_Buffer_attach(void *buffer, int size) {
+    ENTER_LOOK(0, MPI_UNDEFINED, MPI_UNDEFINED);
+    return attach(buffer, size);
+}
+
+int MPI_Buffer_attach_c(void *buffer, MPI_Count size) {
+    ENTER_LOOK(0, MPI_UNDEFINED, MPI_UNDEFINED);
+    return attach(buffer, size);
+}
+
 int MPI_Buffer_detach(void *buffer, int *size) {
     ENTER_LOOK(0, MPI_UNDEFINED, MPI_UNDEFINED);
     WRITES(0, buffer && size);
-    *(void **)buffer = me->attached;
-    *size = me->attached_size;
-    me->attached = 0;
-    me->attached_size = 0;
+    MPI_Count bytes = detach(buffer);
+    *size = bytes > INT_MAX ? MPI_UNDEFINED : (int)bytes;
+    return MPI_SUCCESS;
+}
+
+int MPI_Buffer_detach_c(void *buffer, MPI_Count *size) {
+    ENTER_LOOK(0, MPI_UNDEFINED, MPI_UNDEFINED);
+    WRITES(0, buffer && size);
+    *size = detach(buffer);
     return MPI_SUCCESS;
 }
 

@@ -85,6 +85,7 @@ static bool before_look(struct event call, uint64_t request, bool is_vain) {
 static void push(ulfm_slot *slot) {
     uint32_t moved;
     ulfm_push(slot, &moved);
+    block_rings(me->number);
 }
 
 static uint32_t bits_of_group(const ulfm_group *group) {

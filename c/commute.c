@@ -104,6 +104,7 @@ static bool are_entry_and_poll(const struct footprint *a, const struct footprint
 /* Whether a, of the number `at`, and a later event of another process don't commute. */
 bool is_dependent(const struct footprint *a, int at, const struct footprint *b) {
     bool have_found = a->flags & b->flags & FOUND;
+    if (a->kind == LOSES || b->kind == LOSES) return false;   /* these are no races: see keep_nodes */
     if (a->rank != b->rank) return is_poll(a) && is_poll(b) && a->topic == b->topic && have_found && a->proposal != b->proposal;
     if (is_silent_before(a, b)) return true;
     if (a->comm == b->comm && is_revoker(a) && is_revoker(b) && (is_revocation(a) || is_revocation(b))) return (a->flags | b->flags) & REVOKED_FIRST;
@@ -111,8 +112,13 @@ bool is_dependent(const struct footprint *a, int at, const struct footprint *b) 
            is_before_message(a, b) || is_after_message(a, at, b) || are_entry_and_poll(a, b);
 }
 
+/* Whether both are of one ring: an item is taken, and what is behind is lost. */
+static bool are_of_ring(const struct footprint *a, const struct footprint *b) {
+    return ((a->kind == LOSES && b->kind == TAKES) || (a->kind == TAKES && b->kind == LOSES)) && a->rank == b->rank && a->source == b->source;
+}
+
 bool do_commute(const struct footprint *a, const struct footprint *b) {
-    return a->process != b->process && !is_dependent(a, BEFORE, b) && !is_dependent(b, BEFORE, a);
+    return !are_of_ring(a, b) && a->process != b->process && !is_dependent(a, BEFORE, b) && !is_dependent(b, BEFORE, a);
 }
 
 /* Whether b couldn't be without a: then they are no race. */

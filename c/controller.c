@@ -57,7 +57,7 @@ void wait_as_played(bool (*is_done)(void *, bool is_settled), void *of) {
 /* ---- What may happen next ---- */
 
 /* What is first from a rank to each. */
-static void look_ahead(int from) {
+void look_ahead(int from) {
     for (int k = 0; k < options.ranks; k++) ulfm_next(&ranks[k].home, (uint32_t)from, &heads[from][k]);
 }
 
@@ -76,6 +76,7 @@ void settle(void) {
 
 static struct event event_of_item(int from, int to) {
     const ulfm_next_item *item = &heads[from][to];
+    if (players[from].has_stopped && is_blocked(from, to)) return (struct event){.kind = LOSES, .rank = (uint8_t)to, .peer = (uint8_t)from, .tag = -1};
     bool is_message = item->kind == ULFM_MESSAGE, is_agreement = item->kind == ULFM_AGREE_ENTRY;
     return (struct event){.kind = TAKES, .rank = (uint8_t)to, .peer = (uint8_t)from, .item = (uint8_t)item->kind, .comm = (uint8_t)item->comm,
                           .tag = is_message ? (int32_t)item->tag : is_agreement ? (int32_t)item->round : -1};
@@ -119,6 +120,7 @@ static void take(const struct event *event) {
     ulfm_take(&rank->home, event->peer, &took);
     if (footprints) note_taken(event, was_revoked);
     ulfm_push(&rank->home, &moved);   /* word of a revocation is handed on */
+    block_rings(event->rank);
     ulfm_push(&ranks[event->peer].home, &moved);   /* what found no place before */
     players[event->rank].taken++;
     forget_looks(&players[event->rank]);
@@ -126,8 +128,10 @@ static void take(const struct event *event) {
 }
 
 void perform(const struct event *event) {
+    if (event->kind == TAKES || event->kind == LOSES) unblock(event->peer, event->rank);
     if (footprints) begin_footprint(event);
     if (event->kind == TAKES) take(event);
+    else if (event->kind == LOSES) look_ahead(event->peer);
     else resume(event->rank);
     look_ahead(event->rank);
     settle();

@@ -92,14 +92,32 @@ int describe(int code, MPI_Datatype *made, const struct arguments *arguments) {
     return MPI_ERR_NO_MEM;
 }
 
-int MPI_Type_get_envelope(MPI_Datatype type, int *ints, int *addresses, int *types, int *combiner) {
+static const struct recipe *recipe_of(const struct type *type) {
     static const struct recipe named = {.combiner = MPI_COMBINER_NAMED};
+    return type->recipe ? type->recipe : &named;
+}
+
+int MPI_Type_get_envelope(MPI_Datatype type, int *ints, int *addresses, int *types, int *combiner) {
     ENTER_LOOK(0, MPI_UNDEFINED, MPI_UNDEFINED);
     if (!type_at(type)) return fail(0, MPI_ERR_TYPE);
     WRITES(0, ints && addresses && types && combiner);
-    const struct recipe *recipe = type_at(type)->recipe ? type_at(type)->recipe : &named;
+    const struct recipe *recipe = recipe_of(type_at(type));
     *ints = recipe->ints;
     *addresses = recipe->addresses;
+    *types = recipe->types;
+    *combiner = recipe->combiner;
+    return MPI_SUCCESS;
+}
+
+/* No type has large counts here: how one was made by a call that has them isn't told. */
+int MPI_Type_get_envelope_c(MPI_Datatype type, MPI_Count *ints, MPI_Count *addresses, MPI_Count *counts, MPI_Count *types, int *combiner) {
+    ENTER_LOOK(0, MPI_UNDEFINED, MPI_UNDEFINED);
+    if (!type_at(type)) return fail(0, MPI_ERR_TYPE);
+    WRITES(0, ints && addresses && counts && types && combiner);
+    const struct recipe *recipe = recipe_of(type_at(type));
+    *ints = recipe->ints;
+    *addresses = recipe->addresses;
+    *counts = 0;
     *types = recipe->types;
     *combiner = recipe->combiner;
     return MPI_SUCCESS;
@@ -115,8 +133,7 @@ static int hand_out(struct type *type, MPI_Datatype *handle) {
     return add_type(type, handle);
 }
 
-int MPI_Type_get_contents(MPI_Datatype type, int ints, int addresses, int types, int number[], MPI_Aint address[], MPI_Datatype of[]) {
-    ENTER_LOOK(0, MPI_UNDEFINED, MPI_UNDEFINED);
+static int tell_contents(MPI_Datatype type, MPI_Count ints, MPI_Count addresses, MPI_Count types, int number[], MPI_Aint address[], MPI_Datatype of[]) {
     const struct recipe *recipe = type_at(type) ? type_at(type)->recipe : 0;
     int code = MPI_SUCCESS;
     if (!recipe) return fail(0, MPI_ERR_TYPE);
@@ -126,4 +143,16 @@ int MPI_Type_get_contents(MPI_Datatype type, int ints, int addresses, int types,
     if (recipe->addresses) memcpy(address, recipe->address, (size_t)recipe->addresses * sizeof *address);
     for (int k = 0; k < recipe->types && code == MPI_SUCCESS; k++) code = hand_out(recipe->type[k], &of[k]);
     return fail(0, code);
+}
+
+int MPI_Type_get_contents(MPI_Datatype type, int ints, int addresses, int types, int number[], MPI_Aint address[], MPI_Datatype of[]) {
+    ENTER_LOOK(0, MPI_UNDEFINED, MPI_UNDEFINED);
+    return tell_contents(type, ints, addresses, types, number, address, of);
+}
+
+int MPI_Type_get_contents_c(MPI_Datatype type, MPI_Count ints, MPI_Count addresses, MPI_Count counts, MPI_Count types, int number[], MPI_Aint address[],
+                            MPI_Count large[], MPI_Datatype of[]) {
+    (void)counts, (void)large;
+    ENTER_LOOK(0, MPI_UNDEFINED, MPI_UNDEFINED);
+    return tell_contents(type, ints, addresses, types, number, address, of);
 }

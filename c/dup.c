@@ -2,22 +2,10 @@
    chain: its first context, the duplicate of that, which all of them share for their collectives, the duplicate of the duplicate, and so on. A plane is
    a communicator's place in the chain. The members agree on it, so that those that missed one that others made, since a failure met it, agree with
    them again; and a plane that all of them freed is used again. */
+#include "dup.h"
 #include "graph.h"
 #include <stdlib.h>
 #include <string.h>
-
-struct wish {
-    unsigned free, old;      /* the planes that can be used, and those that were made here before, as bits */
-    unsigned begun[PLANES];  /* the collectives that began on each */
-    int color, key;          /* of MPI_Comm_split */
-};
-
-/* What position 0 tells all. */
-struct decided {
-    int plane;
-    bool is_old;             /* a member had it before */
-    struct plans plans;
-};
 
 /* Marks of revocation that parts share, in one list, so that they are freed at the end. */
 struct marks {
@@ -27,7 +15,7 @@ struct marks {
 static struct marks *all_marks;
 static pthread_mutex_t marks_lock = PTHREAD_MUTEX_INITIALIZER;
 
-static _Atomic int *new_marks(void) {
+_Atomic int *new_marks(void) {
     struct marks *marks = calloc(1, sizeof *marks);
     if (!marks) return 0;
     pthread_mutex_lock(&marks_lock);
@@ -63,9 +51,16 @@ static unsigned free_planes(const struct chain *chain) {
     return all;
 }
 
-/* What comes of the wishes of all. */
-static void decide(const struct comm *team, const struct wish *all, struct decided *decided) {
+/* What this rank wishes. */
+void wish_for(const struct chain *chain, struct wish *own) {
+    *own = (struct wish){.free = free_planes(chain), .old = (1u << chain->planes) - 1};
+    for (int k = 0; k < chain->planes; k++) own->begun[k] = chain->plane[k].begun;
+}
+
+/* What comes of the wishes of all, but for the marks. */
+void decide(const struct comm *team, const struct wish *all, struct decided *decided) {
     unsigned common = all[0].free;
+    *decided = (struct decided){0};
     for (int k = 0; k < team->size; k++) {
         common &= all[k].free;
         decided->plans.colors[k] = all[k].color;
@@ -76,11 +71,12 @@ static void decide(const struct comm *team, const struct wish *all, struct decid
         if (all[k].begun[decided->plane] > decided->plans.begun) decided->plans.begun = all[k].begun[decided->plane];
         decided->is_old = decided->is_old || (all[k].old >> decided->plane & 1);
     }
-    decided->plans.marks = new_marks();
 }
 
-/* Takes away what was sent on a context and never received. */
-static void drop_letters(uint32_t context) {
+/* Takes away what was sent on a plane before and never received. */
+void drop_letters(const struct chain *chain, int plane) {
+    if (plane >= chain->planes) return;
+    uint32_t context = chain->plane[plane].context;
     ulfm_status told;
     uint64_t id;
     uint8_t letter[BODY];
@@ -91,20 +87,24 @@ static void drop_letters(uint32_t context) {
 /* Takes away what is left of the communicator that a plane had before. All are done with it before any of them sends on the new one. */
 static int empty_plane(struct comm *team, int plane) {
     char verdict[VERDICT];
-    if (plane < team->chain->planes) drop_letters(team->chain->plane[plane].context);
+    drop_letters(team->chain, plane);
     return spread_verdict(team, gather_all(team, 0, 0, 0), verdict, 0);
 }
 
 /* The plane that all members of a team take, and what else they agree on. */
 int agree_on_plane(struct comm *team, int *plane, struct plans *plans) {
-    const struct chain *chain = team->chain;
-    struct wish own = {.free = free_planes(chain), .old = (1u << chain->planes) - 1, .color = plans->colors[0], .key = plans->keys[0]};
-    struct wish all[MAX_RANKS];
-    for (int k = 0; k < chain->planes; k++) own.begun[k] = chain->plane[k].begun;
+    struct wish own, all[MAX_RANKS];
     struct decided decided = {0};
     char verdict[VERDICT + sizeof decided];
+    wait_for_copies(team->chain);
+    wish_for(team->chain, &own);
+    own.color = plans->colors[0];
+    own.key = plans->keys[0];
     int code = gather_all(team, &own, sizeof own, all);
-    if (team->position == 0 && code == MPI_SUCCESS) decide(team, all, &decided);
+    if (team->position == 0 && code == MPI_SUCCESS) {
+        decide(team, all, &decided);
+        decided.plans.marks = new_marks();
+    }
     memcpy(verdict + VERDICT, &decided, sizeof decided);
     code = spread_verdict(team, code, verdict, sizeof decided);
     memcpy(&decided, verdict + VERDICT, sizeof decided);
@@ -135,7 +135,7 @@ int make_on_plane(struct comm *of, int plane, const struct group *group, const s
 }
 
 /* Takes a communicator away, where the deletion of its attributes allows that. */
-static int release(struct comm *of, MPI_Comm *handle) {
+int release_comm(struct comm *of, MPI_Comm *handle) {
     int code = delete_attributes(of);
     if (code != MPI_SUCCESS) return code;
     bool is_used = has_requests(of->context) || has_messages();
@@ -167,7 +167,7 @@ static int duplicate(struct comm *of, MPI_Comm *made) {
     code = copy_graph(of, comm_at(*made));
     if (code == MPI_SUCCESS) code = copy_attributes(of, comm_at(*made));
     /* A copy function failed: there is no duplicate here (7.7.2). */
-    if (code != MPI_SUCCESS) (void)release(comm_at(*made), made);
+    if (code != MPI_SUCCESS) (void)release_comm(comm_at(*made), made);
     if (code != MPI_SUCCESS) *made = MPI_COMM_NULL;
     return code;
 }
@@ -196,7 +196,7 @@ int MPI_Comm_free(MPI_Comm *comm) {
     ENTER_LOOK(of, MPI_UNDEFINED, MPI_UNDEFINED);
     if (!of || *comm == MPI_COMM_WORLD || *comm == MPI_COMM_SELF) return fail(0, MPI_ERR_COMM);
     me->place.comm = 0;
-    return fail(of, release(of, comm));
+    return fail(of, release_comm(of, comm));
 }
 
 /* What was sent is received after it too, so it has nothing to wait for (11.10.4). */

@@ -1,10 +1,12 @@
 /* Errors: classes, texts, and handlers (MPI 4.0, 9.3 and 9.4). */
-#include "run.h"
+#include "window.h"
 #include <stdlib.h>
 #include <string.h>
 
+/* Of communicators, or of windows. */
 struct errhandler {
     MPI_Comm_errhandler_function *function;
+    MPI_Win_errhandler_function *of_windows;
 };
 enum { FIRST_OWN = 4 };
 
@@ -104,46 +106,64 @@ int MPI_Error_string(int errorcode, char *string, int *length) {
     return MPI_SUCCESS;
 }
 
-static bool is_handler(MPI_Errhandler handler) {
+bool is_handler(MPI_Errhandler handler) {
     uintptr_t number = (uintptr_t)handler;
     return (number && number < FIRST_OWN) || (number >= FIRST_OWN && number - FIRST_OWN < (uintptr_t)me->handler_count);
 }
 
 /* An error is fatal: says where and which, and ends the run. */
-static void end_by(struct comm *comm, int code) {
+static void end_by(const char *name, int code) {
     const char *call = me->place.call;
     char line[256];
     begin_report();
-    fprintf(stderr, "ulfm-mpirun: rank %d: %s%s: %s; errors are fatal on %s: the run ends\n", me->number, call,
-            line_of(me, line, sizeof line), text_of(code), comm->name[0] ? comm->name : "this communicator");
+    fprintf(stderr, "ulfm-mpirun: rank %d: %s%s: %s; errors are fatal on %s: the run ends\n", me->number, call, line_of(me, line, sizeof line), text_of(code), name);
     write_rests(true);
     report("fatal %d %s %d\n", me->number, call, code & 255);
     end_run(STATUS_FATAL);
 }
 
-/* Hands an error to the handler of its communicator, of MPI_COMM_WORLD where there is none (9.3), and returns it. */
-int fail(struct comm *comm, int code) {
+/* Hands an error on a communicator, or on a window of it, to a handler, and returns it. */
+int fail_by(MPI_Errhandler handler, struct comm *comm, void *window, const char *name, int code) {
     if (is_played) look_as_played();   /* at what came in the call, which ends here */
     if (code == MPI_SUCCESS) return code;
-    if (!comm) comm = comm_at(MPI_COMM_WORLD);
-    uintptr_t number = (uintptr_t)comm->handler;
-    if (number == (uintptr_t)MPI_ERRORS_RETURN) return code;
-    if (number < FIRST_OWN || !is_handler(comm->handler)) end_by(comm, code);
+    if (code == MPIX_ERR_PROC_FAILED || code == MPIX_ERR_PROC_FAILED_PENDING || code == MPI_ERR_IN_STATUS) me->is_told = true;
+    uintptr_t number = (uintptr_t)handler;
+    if (handler == MPI_ERRORS_RETURN) return code;
+    if (number < FIRST_OWN || !is_handler(handler)) end_by(name, code);
+    const struct errhandler *own = &me->handlers[number - FIRST_OWN];
     MPI_Comm handle = handle_of(comm);
     int told = code;
     me->is_starting = false;   /* the handler may jump out of the call */
     comm->repeats = 0;
-    me->handlers[number - FIRST_OWN].function(&handle, &told);
+    if (window && own->of_windows) own->of_windows(window, &told);
+    else if (own->function) own->function(&handle, &told);
     return code;
+}
+
+/* Hands an error to the handler of its communicator, of MPI_COMM_WORLD where there is none (9.3), and returns it. */
+int fail(struct comm *comm, int code) {
+    if (code == MPI_SUCCESS) return fail_by(0, 0, 0, 0, code);   /* a communicator that the call took away isn't there any more */
+    if (!comm) comm = comm_at(MPI_COMM_WORLD);
+    return fail_by(comm->handler, comm, 0, comm->name[0] ? comm->name : "this communicator", code);
+}
+
+static int add_handler(struct errhandler made, MPI_Errhandler *handler) {
+    if (!grow(&me->handlers, me->handler_count, sizeof *me->handlers)) return fail(0, MPI_ERR_NO_MEM);
+    me->handlers[me->handler_count] = made;
+    *handler = (MPI_Errhandler)(uintptr_t)(FIRST_OWN + me->handler_count++);
+    return MPI_SUCCESS;
 }
 
 int MPI_Comm_create_errhandler(MPI_Comm_errhandler_function *function, MPI_Errhandler *handler) {
     ENTER_LOOK(0, MPI_UNDEFINED, MPI_UNDEFINED);
-    if (!function || !handler) return fail(0, MPI_ERR_ARG);
-    if (!grow(&me->handlers, me->handler_count, sizeof *me->handlers)) return fail(0, MPI_ERR_NO_MEM);
-    me->handlers[me->handler_count].function = function;
-    *handler = (MPI_Errhandler)(uintptr_t)(FIRST_OWN + me->handler_count++);
-    return MPI_SUCCESS;
+    WRITES(0, function && handler);
+    return add_handler((struct errhandler){function, 0}, handler);
+}
+
+int MPI_Win_create_errhandler(MPI_Win_errhandler_function *function, MPI_Errhandler *handler) {
+    ENTER_LOOK(0, MPI_UNDEFINED, MPI_UNDEFINED);
+    WRITES(0, function && handler);
+    return add_handler((struct errhandler){0, function}, handler);
 }
 
 int MPI_Comm_set_errhandler(MPI_Comm comm, MPI_Errhandler handler) {

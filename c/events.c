@@ -1,7 +1,7 @@
 /* The events of a schedule in words, one a line: `rank 0 takes of 3: word of revocation on 0`. A file of them is played again line by line. */
 #define _GNU_SOURCE
 #include "every.h"
-#include "play.h"
+#include "search.h"
 #include <stdlib.h>
 #include <string.h>
 
@@ -15,6 +15,10 @@ static const char *const words_of_items[] = {
 /* The line of an event. */
 void text_of_event(const struct event *event, char *text, size_t room) {
     char peer[24] = "", tag[24] = "", comm[24] = "";
+    if (event->kind == LOSES) {
+        snprintf(text, room, "rank %d loses what %d sent", event->rank, event->peer);
+        return;
+    }
     bool takes = event->kind == TAKES, is_look = event->kind == TESTS || event->kind == CANCELS;
     bool is_message = event->kind == SENDS || event->kind == POSTS || event->kind == PROBES;
     bool has_number = is_look || (takes && event->item == ULFM_AGREE_ENTRY);
@@ -32,10 +36,25 @@ void text_of_event(const struct event *event, char *text, size_t room) {
 static FILE *schedule;
 static int line_number;
 
+/* Plans the losses of a file: of how many items each keeps. Whether there are some. */
+static bool plan_losses_of_file(void) {
+    char line[LINE];
+    int to, from, taken[MAX_RANKS][MAX_RANKS] = {{0}};
+    bool is_any = false;
+    while (fgets(line, LINE, schedule)) {
+        if (sscanf(line, "rank %1d takes of %1d", &to, &from) == 2 && to < MAX_RANKS && from < MAX_RANKS) taken[from][to]++;
+        if (sscanf(line, "rank %1d loses what %1d", &to, &from) != 2 || to >= MAX_RANKS || from >= MAX_RANKS) continue;
+        plan_loss(from, to, taken[from][to]);
+        is_any = true;
+    }
+    rewind(schedule);
+    return is_any;
+}
+
 bool open_schedule(void) {
     schedule = fopen(options.schedule, "r");
     if (!schedule) fprintf(stderr, "ulfm-mpirun: %s can't be read\n", options.schedule);
-    return schedule != 0;
+    return schedule && (!plan_losses_of_file() || begin_search());   /* what was sent is counted by footprints */
 }
 
 /* The next event of the file; false at its end. */

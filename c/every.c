@@ -2,7 +2,6 @@
    are buffered and with sends that wait; and prints what came out. */
 #define _GNU_SOURCE
 #include "every.h"
-#include <sched.h>
 #include <signal.h>
 #include <stdlib.h>
 #include <string.h>
@@ -10,22 +9,20 @@
 #include <time.h>
 #include <unistd.h>
 
+enum { MANY = 1000 };   /* so many places may take long */
+
 /* One kind of sends: the run without a stop, and its places. */
 struct kind_of_sends {
     bool sends_wait;
     struct result base;
     struct spot *spots;
     int count;
+    double seconds;        /* that the run took */
     struct found *found;   /* of --every-schedule: what the search at each place found; else null */
 };
 
 static struct job *jobs;
 static int job_count, counts[2][OUTCOMES];
-
-static int processors(void) {
-    cpu_set_t set;
-    return sched_getaffinity(0, sizeof set, &set) == 0 ? CPU_COUNT(&set) : 1;
-}
 
 static bool make_jobs(void) {
     job_count = options.jobs ? options.jobs : processors();
@@ -42,14 +39,22 @@ static int wait_for_job(void) {
     return -1;
 }
 
+static double seconds(void) {
+    struct timespec now;
+    clock_gettime(CLOCK_MONOTONIC, &now);
+    return (double)now.tv_sec + 1e-9 * (double)now.tv_nsec;
+}
+
 /* Runs the program once, alone, without a stop. False where it doesn't end well. */
 static bool run_base(struct kind_of_sends *kind, const char *launcher) {
     struct job *job = &jobs[0];
     *job = (struct job){.spot = -1, .sends_wait = kind->sends_wait};
+    double begun = seconds();
     if (!start_job(job, launcher, 0)) return false;
     while (wait_for_job() != 0) {}
     read_result(job, &kind->base);
     kind->spots = read_spots(job, &kind->count);
+    kind->seconds = seconds() - begun;
     bool is_well = kind->base.end == RIGHT && kind->count > 0;
     for (int k = 0; k < options.ranks; k++) is_well = is_well && (kind->base.fate[k] == ENDED || kind->base.fate[k] == STOPPED);
     if (!is_well) {
@@ -64,9 +69,16 @@ static bool run_base(struct kind_of_sends *kind, const char *launcher) {
     return is_well;
 }
 
+static void tell_result(const struct kind_of_sends *kind, const struct spot *spot, struct result *result) {
+    char why[600];
+    enum outcome outcome = judge(&kind->base, result, spot, why, sizeof why);
+    counts[kind->sends_wait][outcome]++;
+    tell_outcome(spot, kind->sends_wait, outcome, why);
+    free(result->output);
+}
+
 static void end_job(struct job *job, const struct kind_of_sends *kind) {
     struct result result;
-    char why[600];
     if (kind->found) {
         read_found(job, &kind->found[job->spot]);
         close_job(job);
@@ -74,10 +86,7 @@ static void end_job(struct job *job, const struct kind_of_sends *kind) {
         return;
     }
     read_result(job, &result);
-    enum outcome outcome = judge(&kind->base, &result, &kind->spots[job->spot], why, sizeof why);
-    counts[job->sends_wait][outcome]++;
-    tell_outcome(&kind->spots[job->spot], job->sends_wait, outcome, why);
-    free(result.output);
+    tell_result(kind, &kind->spots[job->spot], &result);
     close_job(job);
     job->pid = 0;
 }
@@ -122,7 +131,7 @@ static bool run_spots(const struct kind_of_sends *kind, const char *launcher) {
     while ((next < kind->count && !is_interrupted) || running > 0) {
         int free_job = 0;
         while (free_job < job_count && jobs[free_job].pid) free_job++;
-        if (kind->found) tell_progress(next - running, kind->count);
+        tell_progress(next - running, kind->count);
         if (next < kind->count && free_job < job_count && !is_interrupted) {
             jobs[free_job] = (struct job){.spot = next, .sends_wait = kind->sends_wait};
             if (!start_job(&jobs[free_job], launcher, &kind->spots[next])) return false;
@@ -163,6 +172,40 @@ int every_schedule(const char *launcher) {
     return status;
 }
 
+/* Of many places, how many there are and about how long they take, before they are tried. */
+static void tell_estimate(const struct kind_of_sends *kind) {
+    double whole = kind->seconds * kind->count / job_count, left = options.seed ? whole / 2 : whole;
+    if (kind->count < MANY) return;
+    fprintf(stderr, "ulfm-mpirun: %d places with %s, about %.0f s; --sample N tries N of them%s\n", kind->count, kind->sends_wait ? "sends that wait" : "buffered sends", left,
+            options.seed ? "" : ", and by --seed 1 each is gone on from where the run comes to it");
+}
+
+/* Plays the program once by its seed, and goes on from each place in a process of its own. */
+static bool run_branches(const struct kind_of_sends *kind, const char *launcher) {
+    struct job *job = &jobs[0];
+    *job = (struct job){.spot = -1, .sends_wait = kind->sends_wait, .branches = write_wanted(kind->spots, kind->count)};
+    struct result *results = calloc((size_t)kind->count, sizeof *results);
+    bool is_well = results && job->branches > 0 && start_job(job, launcher, 0);
+    while (is_well && wait_for_job() != 0) {}
+    if (is_well) is_well = read_branches(job, kind->spots, kind->count, results);
+    for (int k = 0; k < kind->count && is_well; k++) tell_result(kind, &kind->spots[k], &results[k]);
+    if (!is_well) fprintf(stderr, "ulfm-mpirun: the places can't be gone on from\n");
+    close(job->branches);
+    close_job(job);
+    job->pid = 0;
+    free(results);
+    return is_well;
+}
+
+static bool try_places(struct kind_of_sends *kind, const char *launcher) {
+    kind->count = choose_spots(kind->spots, kind->count);
+    tell_estimate(kind);
+    begun = time(0);
+    bool is_well = options.seed ? run_branches(kind, launcher) : run_spots(kind, launcher);
+    tell_progress(kind->count, kind->count);
+    return is_well;
+}
+
 /* 0: each stop that was reached came out right. 1: not so. 2: it couldn't be tried. */
 int every_stop(const char *launcher) {
     bool is_well = true;
@@ -171,7 +214,7 @@ int every_stop(const char *launcher) {
     for (int k = 0; k < 2; k++) {
         struct kind_of_sends kind = {.sends_wait = k};
         if (!run_base(&kind, launcher)) is_well = false;
-        else if (!run_spots(&kind, launcher)) return STATUS_USAGE;
+        else if (!try_places(&kind, launcher)) return STATUS_USAGE;
         free(kind.spots);
         free(kind.base.output);
     }

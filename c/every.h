@@ -5,7 +5,7 @@
 #include "run.h"
 #include <sys/types.h>
 
-enum outcome { RIGHT, NOT_REACHED, OTHER_STATUS, OTHER_OUTPUT, FAILED, STUCK, LOOPS, LATE, FATAL, ABORTED, CRASHED, OUTCOMES };
+enum outcome { RIGHT, NOT_REACHED, OTHER_STATUS, OTHER_OUTPUT, FAILED, STUCK, LOOPS, LATE, LONG, FATAL, ABORTED, CRASHED, OUTCOMES };
 enum fate { NO_FATE, ENDED, STOPPED, FAILED_ITSELF };
 
 /* A place where a rank may stop: before a call, or inside it. */
@@ -29,6 +29,7 @@ struct job {
     int spot;                   /* its number, -1: no stop */
     bool sends_wait;
     int files[3];               /* what it writes to standard output, to standard error, and for the table */
+    int branches;               /* a file with the places from which it goes on in processes of their own, or 0 */
 };
 
 /* What the search at a place found. */
@@ -57,14 +58,22 @@ bool is_right(const struct found *found);
 int tell_all_found(const struct spot *spots, const struct found *found, int count);
 
 /* jobs.c */
+int processors(void);
 bool start_job(struct job *job, const char *launcher, const struct spot *spot);
 void read_report(char *text, struct result *result);
 void read_result(const struct job *job, struct result *result);
+void read_output(char *text, struct result *result);
 void close_job(struct job *job);
 char *read_all(int file);
 
 /* spots.c */
 struct spot *read_spots(const struct job *job, int *count);
+int compare_spots(const void *a, const void *b);
+int choose_spots(struct spot *spots, int count);
+
+/* branches.c */
+int write_wanted(const struct spot *spots, int count);
+bool read_branches(const struct job *job, const struct spot *spots, int count, struct result *results);
 
 /* table.c */
 const char *words_of_outcome(enum outcome outcome);

@@ -1,5 +1,5 @@
 /* Data in the form "external32" (MPI 4.0, 5.3 and 14.5.2): the highest byte first, integers and numbers of fixed lengths, whatever the machine. */
-#include "type.h"
+#include "large.h"
 #include <limits.h>
 #include <string.h>
 
@@ -59,48 +59,79 @@ static bool turn_run(void *of, ptrdiff_t at, const struct block *block) {
     return true;
 }
 
-/* Why so many can't be packed or unpacked there, or MPI_SUCCESS; and how many bytes they are in the form. */
-static int check(const char *form, const void *buffer, int count, MPI_Datatype type, const void *packed, MPI_Aint room, const MPI_Aint *position, size_t *bytes) {
+/* Why they can't be packed or unpacked at a position, or MPI_SUCCESS; and how many bytes they are in the form. */
+static int check(const char *form, const struct packing *of, MPI_Count position, size_t *bytes) {
     int code;
-    if (!form || room < 0 || !position || *position < 0) return MPI_ERR_ARG;
+    if (!form || of->room < 0 || position < 0) return MPI_ERR_ARG;
     if (strcmp(form, "external32")) return MPI_ERR_UNSUPPORTED_DATAREP;
-    const struct type *of = check_type(count, type, bytes, &code);
-    if (!of) return code;
-    if (__builtin_mul_overflow((size_t)count, of->external, bytes)) return MPI_ERR_COUNT;
-    if (!is_buffer(buffer, *bytes, type) || !is_buffer(packed, *bytes, MPI_PACKED)) return MPI_ERR_BUFFER;
-    return *position > room || *bytes > (size_t)(room - *position) ? MPI_ERR_TRUNCATE : MPI_SUCCESS;
+    const struct type *type = check_type(small(of->count), of->type, bytes, &code);
+    if (!type) return code;
+    if (__builtin_mul_overflow((size_t)of->count, type->external, bytes)) return MPI_ERR_COUNT;
+    if (!is_buffer(of->buffer, *bytes, of->type) || !is_buffer(of->packed, *bytes, MPI_PACKED)) return MPI_ERR_BUFFER;
+    return position > of->room || *bytes > (size_t)(of->room - position) ? MPI_ERR_TRUNCATE : MPI_SUCCESS;
 }
 
-static void turn_all(MPI_Datatype type, int count, void *memory, char *packed, bool is_out) {
-    struct turning turning = {memory, packed, is_out};
-    for (int k = 0; k < count; k++) each_run(type_at(type), k * extent_of(type_at(type)), turn_run, &turning);
-}
+/* What is done with the data: they are counted, packed or unpacked. */
+enum what { SIZE, OUT, IN };
 
-int MPI_Pack_external(const char form[], const void *buffer, int count, MPI_Datatype type, void *packed, MPI_Aint room, MPI_Aint *position) {
+/* Does it at a position, and moves that on. */
+static int pack(const char *form, struct packing of, MPI_Count *position, enum what what) {
+    struct large large = {0};
     size_t bytes = 0;
+    hold_count(&large, &of.count, &of.type);
+    int code = large.code == MPI_SUCCESS ? check(form, &of, *position, &bytes) : large.code;
+    if (code == MPI_SUCCESS && what != SIZE) {
+        struct type *type = type_at(of.type);
+        struct turning turning = {of.buffer, of.packed + *position, what == OUT};
+        for (int k = 0; k < small(of.count); k++) each_run(type, k * extent_of(type), turn_run, &turning);
+    }
+    if (code == MPI_SUCCESS) *position += (MPI_Count)bytes;
+    return end_large(&large, code);
+}
+
+int MPI_Pack_external_c(const char form[], const void *buffer, MPI_Count count, MPI_Datatype type, void *packed, MPI_Count room, MPI_Count *position) {
     ENTER_LOOK(0, MPI_UNDEFINED, MPI_UNDEFINED);
-    int code = check(form, buffer, count, type, packed, room, position, &bytes);
+    WRITES(0, position);
+    return fail(0, pack(form, (struct packing){(void *)(uintptr_t)buffer, count, type, packed, room}, position, OUT));
+}
+
+int MPI_Unpack_external_c(const char form[], const void *packed, MPI_Count room, MPI_Count *position, void *buffer, MPI_Count count, MPI_Datatype type) {
+    ENTER_LOOK(0, MPI_UNDEFINED, MPI_UNDEFINED);
+    WRITES(0, position);
+    return fail(0, pack(form, (struct packing){buffer, count, type, (char *)(uintptr_t)packed, room}, position, IN));
+}
+
+int MPI_Pack_external_size_c(const char form[], MPI_Count count, MPI_Datatype type, MPI_Count *size) {
+    MPI_Count bytes = 0;
+    ENTER_LOOK(0, MPI_UNDEFINED, MPI_UNDEFINED);
+    int code = pack(form, (struct packing){&bytes, count, type, (char *)&bytes, LLONG_MAX}, &bytes, SIZE);
     if (code != MPI_SUCCESS) return fail(0, code);
-    turn_all(type, count, (void *)(uintptr_t)buffer, (char *)packed + *position, true);
-    *position += (MPI_Aint)bytes;
+    WRITES(0, size);
+    *size = bytes;
     return MPI_SUCCESS;
+}
+
+/* An MPI_Aint and an MPI_Count hold the same numbers. */
+int MPI_Pack_external(const char form[], const void *buffer, int count, MPI_Datatype type, void *packed, MPI_Aint room, MPI_Aint *position) {
+    MPI_Count at = position ? *position : -1;
+    ENTER_LOOK(0, MPI_UNDEFINED, MPI_UNDEFINED);
+    int code = pack(form, (struct packing){(void *)(uintptr_t)buffer, count, type, packed, room}, &at, OUT);
+    if (code == MPI_SUCCESS) *position = (MPI_Aint)at;
+    return fail(0, code);
 }
 
 int MPI_Unpack_external(const char form[], const void *packed, MPI_Aint room, MPI_Aint *position, void *buffer, int count, MPI_Datatype type) {
-    size_t bytes = 0;
+    MPI_Count at = position ? *position : -1;
     ENTER_LOOK(0, MPI_UNDEFINED, MPI_UNDEFINED);
-    int code = check(form, buffer, count, type, packed, room, position, &bytes);
-    if (code != MPI_SUCCESS) return fail(0, code);
-    turn_all(type, count, buffer, (char *)(uintptr_t)packed + *position, false);
-    *position += (MPI_Aint)bytes;
-    return MPI_SUCCESS;
+    int code = pack(form, (struct packing){buffer, count, type, (char *)(uintptr_t)packed, room}, &at, IN);
+    if (code == MPI_SUCCESS) *position = (MPI_Aint)at;
+    return fail(0, code);
 }
 
 int MPI_Pack_external_size(const char form[], int count, MPI_Datatype type, MPI_Aint *size) {
-    MPI_Aint position = 0;
-    size_t bytes = 0;
+    MPI_Count bytes = 0;
     ENTER_LOOK(0, MPI_UNDEFINED, MPI_UNDEFINED);
-    int code = check(form, &position, count, type, &position, LONG_MAX, &position, &bytes);
+    int code = pack(form, (struct packing){&bytes, count, type, (char *)&bytes, LLONG_MAX}, &bytes, SIZE);
     if (code != MPI_SUCCESS) return fail(0, code);
     WRITES(0, size);
     *size = (MPI_Aint)bytes;

@@ -4,16 +4,11 @@
 #include <stdlib.h>
 #include <string.h>
 
-enum { MOST_SILENT = 8, MOST_ROUNDS = 4096 };
+enum { MOST_ROUNDS = 4096 };
 
 struct footprint *footprints;
 int step;
 
-/* The events that pushed what is in a ring. */
-struct ring {
-    int16_t *at;
-    int first, count;
-};
 /* A receive that is open, or that ended and isn't told. */
 struct receive {
     uint64_t id;
@@ -26,27 +21,12 @@ struct waiting {
     int comm, from, tag;
     int16_t came;
 };
-static struct ring rings[MAX_RANKS][MAX_RANKS];
 static struct receive *receives[MAX_RANKS];
 static struct waiting *waiting[MAX_RANKS];
 static int receive_count[MAX_RANKS], waiting_count[MAX_RANKS], silent_count[MAX_RANKS];
-static struct {
-    int comm, source;
-    bool is_message;
-} silent[MAX_RANKS][MOST_SILENT];
+static struct silence silent[MAX_RANKS][SILENT];
 
 static struct footprint *present(void) { return &footprints[step]; }
-static void push(int from, int to) {
-    struct ring *ring = &rings[from][to];
-    if (grow(&ring->at, ring->count, sizeof *ring->at)) ring->at[ring->count++] = (int16_t)step;
-}
-
-/* To all but those that are known to have failed. */
-static void push_to_all(int from, uint32_t members) {
-    for (int k = 0; k < options.ranks; k++)
-        if (k != from && members >> k & 1 && !knows_failed(from, k)) push(from, k);
-}
-
 static uint32_t members_of(int rank, uint32_t comm) {
     ulfm_group group;
     uint32_t bits = 0;
@@ -75,16 +55,22 @@ static struct receive *receive_of(int rank, uint64_t id) {
 void note_silent(const struct event *call) {
     int rank = call->rank, count = silent_count[rank]++, comm = call->comm, source = -2;
     bool is_message = call->kind == TESTS || call->kind == PROBES;
+    if (count >= SILENT) return;
     const struct receive *receive = call->kind == TESTS ? receive_of(rank, (uint64_t)call->tag) : 0;
-    if (count >= MOST_SILENT) return;
     if (receive) comm = receive->comm, source = receive->source;
     else if (is_message) source = call->peer == NOBODY ? ANYBODY : member_at(rank, call->comm, call->peer);
-    silent[rank][count].comm = comm;
-    silent[rank][count].source = source;
-    silent[rank][count].is_message = is_message;
+    silent[rank][count] = (struct silence){(int8_t)comm, (int8_t)source, is_message};
 }
 
 /* ---- Items ---- */
+
+/* Whether an item may end a receive: a message, word of a failure, or of a revocation. */
+static bool concerns(const struct footprint *item, const struct receive *receive) {
+    bool is_from = receive->source == ANYBODY || receive->source == item->source;
+    if (item->kind == TAKES && item->item == ULFM_STOP_NOTICE) return is_from;
+    if (item->kind != TAKES || item->item != ULFM_MESSAGE) return receive->comm == item->comm;
+    return is_from && receive->comm == item->comm && (receive->tag == -1 || receive->tag == item->tag);
+}
 
 /* An item came that ends open receives. Whether it ended one. */
 static bool end_receives(int rank) {
@@ -92,7 +78,8 @@ static bool end_receives(int rank) {
     for (int k = 0; k < receive_count[rank]; k++) {
         struct receive *receive = &receives[rank][k];
         uint32_t code = ULFM_NOT_YET;
-        if (!receive->is_open || ulfm_would(&ranks[rank].home, receive->id, &code) != ULFM_OK || code != ULFM_OK) continue;
+        if (!receive->is_open || !concerns(present(), receive)) continue;
+        if (ulfm_would(&ranks[rank].home, receive->id, &code) != ULFM_OK || code != ULFM_OK) continue;
         receive->is_open = false;
         receive->by = (int16_t)step;
         has_ended = true;
@@ -122,11 +109,11 @@ void begin_footprint(const struct event *event) {
     bool takes = event->kind == TAKES;
     *own = (struct footprint){.process = (uint8_t)process_of(event), .rank = event->rank, .kind = event->kind, .item = event->item, .other = NOBODY,
                               .comm = (int8_t)event->comm, .source = ANYBODY, .tag = event->tag, .pushed = NO_STEP, .by = NO_STEP, .found = NO_STEP};
-    if (!takes) return;
-    struct ring *ring = &rings[event->peer][event->rank];
-    own->pushed = ring->first < ring->count ? ring->at[ring->first++] : NO_STEP;
+    if (!takes && event->kind != LOSES) return;
+    own->pushed = takes ? pull(event->peer, event->rank) : lose(event->peer, event->rank);
     own->source = (int8_t)event->peer;
     own->other = event->peer;
+    if (!takes) return;
     if (event->item == ULFM_STOP_NOTICE) own->fails = (uint8_t)(1u << event->peer);
     if (event->item == ULFM_AGREE_ENTRY || event->item == ULFM_SHRINK_ENTRY) {
         bool agrees = event->item == ULFM_AGREE_ENTRY;
@@ -157,11 +144,7 @@ void begin_call(const struct event *call) {
     if (!player->in_wait) return;
     int count = silent_count[call->rank];
     own->silent_count = count > SILENT ? TOO_MANY : (uint8_t)count;
-    for (int k = 0; k < count && k < SILENT; k++) {
-        own->silent[k].comm = (int8_t)silent[call->rank][k].comm;
-        own->silent[k].source = (int8_t)silent[call->rank][k].source;
-        own->silent[k].is_message = silent[call->rank][k].is_message;
-    }
+    memcpy(own->silent, silent[call->rank], sizeof own->silent);
 }
 
 void end_send(uint32_t dest, uint32_t code) {
@@ -171,7 +154,7 @@ void end_send(uint32_t dest, uint32_t code) {
     if (to == ANYBODY) return;
     own->fails = (uint8_t)(1u << to);
     if (code != ULFM_REVOKED) own->other = (uint8_t)to;
-    if (code == ULFM_OK) push(own->rank, to);
+    if (code == ULFM_OK) note_push(own->rank, to);
 }
 
 /* The first message that waits and that a receive or a probe takes; -1: none. */
@@ -296,5 +279,3 @@ void end_poll(bool agrees, const struct proposal *proposal, uint32_t answer) {
     own->fails = agrees ? 0 : proposal->all;
     own->proposal = agrees ? ((uint64_t)proposal->value << 8 | (proposal->listed & proposal->all)) : proposal->excluded;
 }
-
-void end_stop(void) { push_to_all(present()->rank, UINT32_MAX); }

@@ -13,6 +13,7 @@ NUMBERS(Request, MPI_Request)
 NUMBERS(Info, MPI_Info)
 NUMBERS(Errhandler, MPI_Errhandler)
 NUMBERS(Message, MPI_Message)
+NUMBERS(Win, MPI_Win)
 
 _Static_assert(sizeof(MPI_Status) == MPI_F_STATUS_SIZE * sizeof(MPI_Fint), "a status in numbers");
 

@@ -28,4 +28,7 @@ void neighbors_of_graph(const struct comm *comm, int rank, struct neighbors *nei
 enum { MAX_DIMS = 32 };
 int neighbors_of_cart(const struct comm *comm, int neighbors[]);
 
+/* neighbor.c */
+int neighbors_of(const struct comm *comm, bool is_in);
+
 #endif

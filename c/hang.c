@@ -41,8 +41,37 @@ static void tell_peer(const struct rank *rank, char *text, size_t room) {
         if (waits_for >> k & 1) used += snprintf(text + used, room - used, "%s %d", used ? "," : " for rank", k);
 }
 
-static void tell_place(const struct rank *rank) {
-    char line[256], name[128], peer[128] = "";
+uint32_t __real_ulfm_get_failed(ulfm_slot *slot, uint32_t comm, ulfm_group *failed);
+
+/* Which failures this rank knows, so that others can tell. In a run that is played nobody else runs, and it is asked then: it is no event. */
+static uint32_t known_by(struct rank *rank) {
+    ulfm_group failed;
+    uint32_t bits = 0;
+    if (__real_ulfm_get_failed(rank->slot, 0, &failed) != ULFM_OK) return 0;
+    for (uint32_t k = 0; k < failed.size; k++) bits |= 1u << failed.members[k];
+    return bits;
+}
+
+void note_failures(void) {
+    if (is_played) return;
+    uint32_t bits = known_by(me);
+    atomic_store(&me->known, bits);
+    me->known_count = __builtin_popcount(bits);
+}
+
+/* What a rank knows of failures when the time is over. */
+static const char *failures_of(struct rank *rank, char *text, size_t room) {
+    uint32_t bits = is_played ? known_by(rank) : atomic_load(&rank->known);
+    size_t used = 0;
+    *text = 0;
+    for (int k = 0; k < options.ranks; k++)
+        if (bits >> k & 1) used += (size_t)snprintf(text + used, room - used, "%s %d", used ? "," : " (knows that", k);
+    if (used) snprintf(text + used, room - used, " failed%s)", rank->is_told ? "" : ", and no call told it");
+    return text;
+}
+
+static void tell_place(struct rank *rank, bool is_late) {
+    char line[256], name[128], peer[128] = "", failures[96] = "";
     const struct place *place = &rank->place;
     fprintf(stderr, "  rank %d: ", rank->number);
     line_of(rank, line, sizeof line);
@@ -55,14 +84,15 @@ static void tell_place(const struct rank *rank) {
         fprintf(stderr, "%s\n", rank->has_finalized ? "has finalized" : "has made no call");
         return;
     }
-    report("at %d %s\n", rank->number, place->call);
+    if (is_late) failures_of(rank, failures, sizeof failures);
+    report("at %d %s%s\n", rank->number, place->call, failures);
     tell_peer(rank, peer, sizeof peer);
-    fprintf(stderr, "%s %s%s%s%s (call %d)\n", rank->loops ? "loops over" : rank->idle ? "waits in" : "runs, after", place->call, peer,
-            name_of(place->comm, name, sizeof name), line, rank->calls);
+    fprintf(stderr, "%s %s%s%s%s (call %d)%s\n", rank->loops ? "loops over" : rank->idle ? "waits in" : "runs, after", place->call, peer,
+            name_of(place->comm, name, sizeof name), line, rank->calls, failures);
 }
 
-void tell_places(void) {
-    for (int k = 0; k < options.ranks; k++) tell_place(&ranks[k]);
+void tell_places(bool is_late) {
+    for (int k = 0; k < options.ranks; k++) tell_place(&ranks[k], is_late);
 }
 
 /* What ends the run is told once: who comes second waits for that end. */
@@ -75,7 +105,7 @@ void begin_report(void) {
 void tell_stuck(void) {
     begin_report();
     fprintf(stderr, "ulfm-mpirun: nobody can move any more:\n");
-    tell_places();
+    tell_places(false);
     write_rests(true);
     bool loops = false;
     for (int k = 0; k < options.ranks; k++) loops = loops || ranks[k].loops;

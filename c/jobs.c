@@ -2,6 +2,7 @@
 #define _GNU_SOURCE
 #include "every.h"
 #include <fcntl.h>
+#include <sched.h>
 #include <stdlib.h>
 #include <string.h>
 #include <sys/mman.h>
@@ -9,6 +10,11 @@
 #include <unistd.h>
 
 enum { MOST_WORDS = 32 + 2 * MAX_STOPS, TEXTS = 8 + MAX_STOPS, SECONDS = 60 };
+
+int processors(void) {
+    cpu_set_t set;
+    return sched_getaffinity(0, sizeof set, &set) == 0 ? CPU_COUNT(&set) : 1;
+}
 
 /* The words of a search at a place, or of a first run without one: how many there are. */
 static int words_of_search(char *words[], char texts[][64], const struct spot *spot) {
@@ -26,10 +32,24 @@ static int words_of_search(char *words[], char texts[][64], const struct spot *s
     words[count++] = texts[0];
     words[count++] = "--keep";
     words[count++] = path;
+    if (options.no_loss) words[count++] = "--no-loss";
     if (options.checks) {
         words[count++] = "--checks";
         words[count++] = texts[1];
     }
+    return count;
+}
+
+/* The words of a run that goes on from each place: how many there are. */
+static int words_of_branches(char *words[], char texts[][64], const struct job *job) {
+    int count = 0;
+    snprintf(texts[0], 64, "%d", job->branches);
+    snprintf(texts[1], 64, "%d", options.jobs ? options.jobs : processors());
+    words[count++] = "--branches";
+    words[count++] = texts[0];
+    words[count++] = "--jobs";
+    words[count++] = texts[1];
+    if (options.same_output) words[count++] = "--same-output";
     return count;
 }
 
@@ -60,6 +80,8 @@ static int words_of(char *words[], const char *launcher, char texts[][64], const
         text_of_stop(&options.stop[k], texts[8 + k], 64);
     }
     if (options.every_schedule) count += words_of_search(&words[count], &texts[6], spot);
+    if (!spot && !job->branches) words[count++] = "--calls";
+    if (job->branches) count += words_of_branches(&words[count], &texts[6], job);
     if (options.seed) {
         words[count++] = "--seed";
         words[count++] = texts[5];
@@ -84,6 +106,7 @@ static void become(pid_t parent, const struct job *job, const char *launcher, co
     dup2(job->files[0], 1);
     dup2(job->files[1], 2);
     fcntl(job->files[2], F_SETFD, 0);
+    if (job->branches) fcntl(job->branches, F_SETFD, 0);
     execv("/proc/self/exe", words);
     _exit(STATUS_USAGE);
 }
@@ -138,15 +161,16 @@ static char *sorted(char *text) {
 /* Reads one line of a report. */
 static void read_line(const char *line, struct result *result) {
     int rank, number;
-    char name[48];
+    char name[48], failures[96] = "";
     size_t used = strlen(result->detail), room = sizeof result->detail - used;
     if (sscanf(line, "stopped %d", &rank) == 1) result->fate[rank] = STOPPED;
     else if (sscanf(line, "failed %d %d", &rank, &number) == 2) result->fate[rank] = FAILED_ITSELF;
     else if (sscanf(line, "end %d %d", &rank, &number) == 2) result->fate[rank] = ENDED, result->status[rank] = number;
-    else if (sscanf(line, "at %d %47s", &rank, name) == 2) snprintf(result->detail + used, room, "%s %d in %s", used ? "," : "", rank, name);
+    else if (sscanf(line, "at %d %47s%95[^\n]", &rank, name, failures) >= 2) snprintf(result->detail + used, room, "%s %d in %s%s", used ? "," : "", rank, name, failures);
     else if (!strncmp(line, "stuck", 5)) result->end = STUCK;
     else if (!strncmp(line, "loops", 5)) result->end = LOOPS;
     else if (!strncmp(line, "late", 4)) result->end = LATE;
+    else if (!strncmp(line, "long", 4)) result->end = LONG;
     else if (result->end != RIGHT) return;
     else if (sscanf(line, "fatal %d %47s %d", &rank, name, &number) == 3) {
         result->end = FATAL;
@@ -167,11 +191,14 @@ void read_report(char *text, struct result *result) {
     for (char *line = text ? strtok_r(text, "\n", &rest) : 0; line; line = strtok_r(0, "\n", &rest)) read_line(line, result);
 }
 
+/* Reads what a run wrote, which is cut into its lines. */
+void read_output(char *text, struct result *result) { result->output = sorted(text); }
+
 void read_result(const struct job *job, struct result *result) {
     char *text = read_all(job->files[2]);
     read_report(text, result);
     free(text);
     text = read_all(job->files[0]);
-    result->output = sorted(text);
+    read_output(text, result);
     free(text);
 }

@@ -13,24 +13,35 @@ static int make(struct piece *pieces, MPI_Count count, bool aligns, MPI_Datatype
     return code;
 }
 
-/* So many blocks of elements, by displacements in bytes, or in extents of the type; each of its own type where there are several. */
-static int make_blocks(MPI_Count count, const MPI_Count lengths[], const MPI_Count displs[], bool is_bytes, const MPI_Datatype types[], bool has_several,
-                       MPI_Datatype *made) {
-    ENTER_LOOK(0, MPI_UNDEFINED, MPI_UNDEFINED);
-    if (count < 0) return fail(0, MPI_ERR_COUNT);
-    if (!made || !types || (count > 0 && (!lengths || !displs))) return fail(0, MPI_ERR_ARG);
-    struct piece *pieces = malloc(((size_t)count + 1) * sizeof *pieces);
-    for (MPI_Count k = 0; pieces && k < count; k++) {
-        struct type *of = type_at(types[has_several ? k : 0]);
-        ptrdiff_t at = (ptrdiff_t)displs[k];
-        int code = !of ? MPI_ERR_TYPE : lengths[k] < 0 || (!is_bytes && __builtin_mul_overflow(at, extent_of(of), &at)) ? MPI_ERR_ARG : MPI_SUCCESS;
-        if (code != MPI_SUCCESS) {
-            free(pieces);
-            return fail(0, code);
-        }
-        pieces[k] = (struct piece){(size_t)lengths[k], at, extent_of(of), of};
-    }
-    return fail(0, make(pieces, count, has_several, made));
+/* Blocks of elements, as the call has them: lengths, or all of `length`; displacements in bytes, or in extents of the type; each of its own type where
+   there are several. */
+struct blocks {
+    MPI_Count count, length;
+    const MPI_Count *lengths, *displs;
+    bool is_bytes, has_several;
+    const MPI_Datatype *types;
+};
+
+/* Writes one of them; MPI_SUCCESS, or why there is no such one. */
+static int cut(const struct blocks *blocks, MPI_Count k, struct piece *piece) {
+    struct type *of = type_at(blocks->types[blocks->has_several ? k : 0]);
+    MPI_Count length = blocks->lengths ? blocks->lengths[k] : blocks->length;
+    ptrdiff_t at = (ptrdiff_t)blocks->displs[k];
+    if (!of) return MPI_ERR_TYPE;
+    if (length < 0 || (!blocks->is_bytes && __builtin_mul_overflow(at, extent_of(of), &at))) return MPI_ERR_ARG;
+    *piece = (struct piece){(size_t)length, at, extent_of(of), of};
+    return MPI_SUCCESS;
+}
+
+static int make_blocks(const struct blocks *blocks, MPI_Datatype *made) {
+    int code = MPI_SUCCESS;
+    if (blocks->count < 0) return MPI_ERR_COUNT;
+    if (!made || !blocks->types || (blocks->count > 0 && !blocks->displs)) return MPI_ERR_ARG;
+    struct piece *pieces = malloc(((size_t)blocks->count + 1) * sizeof *pieces);
+    for (MPI_Count k = 0; pieces && k < blocks->count && code == MPI_SUCCESS; k++) code = cut(blocks, k, &pieces[k]);
+    if (code == MPI_SUCCESS) return make(pieces, blocks->count, blocks->has_several, made);
+    free(pieces);
+    return code;
 }
 
 /* The same blocks, `stride` bytes from one to the next. */
@@ -63,15 +74,32 @@ int MPI_Type_create_hvector_c(MPI_Count count, MPI_Count length, MPI_Count strid
 }
 
 int MPI_Type_indexed_c(MPI_Count count, const MPI_Count lengths[], const MPI_Count displs[], MPI_Datatype type, MPI_Datatype *made) {
-    return make_blocks(count, lengths, displs, false, &type, false, made);
+    ENTER_LOOK(0, MPI_UNDEFINED, MPI_UNDEFINED);
+    WRITES(0, count <= 0 || lengths);
+    return fail(0, make_blocks(&(struct blocks){.count = count, .lengths = lengths, .displs = displs, .types = &type}, made));
 }
 
 int MPI_Type_create_hindexed_c(MPI_Count count, const MPI_Count lengths[], const MPI_Count displs[], MPI_Datatype type, MPI_Datatype *made) {
-    return make_blocks(count, lengths, displs, true, &type, false, made);
+    ENTER_LOOK(0, MPI_UNDEFINED, MPI_UNDEFINED);
+    WRITES(0, count <= 0 || lengths);
+    return fail(0, make_blocks(&(struct blocks){.count = count, .lengths = lengths, .displs = displs, .is_bytes = true, .types = &type}, made));
+}
+
+int MPI_Type_create_indexed_block_c(MPI_Count count, MPI_Count length, const MPI_Count displs[], MPI_Datatype type, MPI_Datatype *made) {
+    ENTER_LOOK(0, MPI_UNDEFINED, MPI_UNDEFINED);
+    return fail(0, make_blocks(&(struct blocks){.count = count, .length = length, .displs = displs, .types = &type}, made));
+}
+
+int MPI_Type_create_hindexed_block_c(MPI_Count count, MPI_Count length, const MPI_Count displs[], MPI_Datatype type, MPI_Datatype *made) {
+    ENTER_LOOK(0, MPI_UNDEFINED, MPI_UNDEFINED);
+    return fail(0, make_blocks(&(struct blocks){.count = count, .length = length, .displs = displs, .is_bytes = true, .types = &type}, made));
 }
 
 int MPI_Type_create_struct_c(MPI_Count count, const MPI_Count lengths[], const MPI_Count displs[], const MPI_Datatype types[], MPI_Datatype *made) {
-    return make_blocks(count, lengths, displs, true, types, true, made);
+    ENTER_LOOK(0, MPI_UNDEFINED, MPI_UNDEFINED);
+    WRITES(0, count <= 0 || lengths);
+    struct blocks blocks = {.count = count, .lengths = lengths, .displs = displs, .is_bytes = true, .types = types, .has_several = true};
+    return fail(0, make_blocks(&blocks, made));
 }
 
 int MPI_Get_count_c(const MPI_Status *status, MPI_Datatype type, MPI_Count *count) {

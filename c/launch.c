@@ -1,6 +1,6 @@
 /* The launcher's main, and the threads of the ranks. */
 #define _GNU_SOURCE
-#include "run.h"
+#include "window.h"
 #include <errno.h>
 #include <limits.h>
 #include <malloc.h>
@@ -37,13 +37,14 @@ void report(const char *format, ...) {
     va_start(words, format);
     int length = vsnprintf(line, sizeof line, format, words);
     va_end(words);
-    if (note_report(line, (size_t)length)) return;
+    if (note_report(line, (size_t)length) || note_past(line, (size_t)length)) return;
     pthread_mutex_lock(&lock);
     if (write(options.report, line, (size_t)length) != length) options.report = -1;
     pthread_mutex_unlock(&lock);
 }
 
 static void clear_rank(void) {
+    clear_windows();
     clear_requests();
     clear_messages();
     clear_comms();
@@ -138,7 +139,7 @@ uint32_t make_ranks(void) {
 void tell_late(void) {
     begin_report();
     fprintf(stderr, "ulfm-mpirun: the time is over after %g seconds:\n", options.timeout);
-    tell_places();
+    tell_places(true);
     write_rests(true);
     report("late\n");
     end_run(STATUS_LATE);

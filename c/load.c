@@ -67,8 +67,13 @@ bool copy_programs(void) {
     return is_well;
 }
 
+static bool are_left;
+
+/* Another process takes them away. */
+void leave_copies(void) { are_left = true; }
+
 void remove_copies(void) {
-    if (!is_launcher()) return;
+    if (!is_launcher() || are_left) return;
     for (int k = 0; k < options.ranks; k++)
         if (ranks[k].path) unlink(ranks[k].path);
     if (folder[0]) rmdir(folder);

@@ -144,6 +144,8 @@ int MPI_Comm_rank(MPI_Comm comm, int *rank);
 int MPI_Comm_compare(MPI_Comm a, MPI_Comm b, int *result);
 int MPI_Comm_dup(MPI_Comm comm, MPI_Comm *made);
 int MPI_Comm_dup_with_info(MPI_Comm comm, MPI_Info info, MPI_Comm *made);
+int MPI_Comm_idup(MPI_Comm comm, MPI_Comm *made, MPI_Request *request);
+int MPI_Comm_idup_with_info(MPI_Comm comm, MPI_Info info, MPI_Comm *made, MPI_Request *request);
 int MPI_Comm_split(MPI_Comm comm, int color, int key, MPI_Comm *made);
 int MPI_Comm_split_type(MPI_Comm comm, int type, int key, MPI_Info info, MPI_Comm *made);
 int MPI_Comm_create(MPI_Comm comm, MPI_Group group, MPI_Comm *made);
@@ -266,8 +268,9 @@ int MPIX_Comm_failure_get_acked(MPI_Comm comm, MPI_Group *failed);
 #include "ulfm_mpi_attributes.h"
 #include "ulfm_mpi_large.h"
 #include "ulfm_mpi_older.h"
-#include "ulfm_mpi_repeated.h"
 #include "ulfm_mpi_topologies.h"
+#include "ulfm_mpi_windows.h"
+#include "ulfm_mpi_made.h"
 
 /* Each of these calls by its other name too, PMPI_Send or PMPIX_Comm_agree (15.2). `make` writes this file. */
 #include "ulfm_mpi_profile.h"

@@ -67,13 +67,27 @@ static int exchange_with(struct request *made, int member, const struct parts *s
     return code;
 }
 
+/* The neighbours of this rank; of a grid they stand in `grid`. False where there is no topology. */
+static bool find_neighbors(const struct comm *comm, int grid[], struct neighbors *of) {
+    *of = (struct neighbors){0};
+    if (comm->graph) neighbors_of_graph(comm, comm->position, of);
+    else if (comm->cart) of->sources = of->targets = neighbors_of_cart(comm, grid), of->source = of->target = grid;
+    return comm->graph || comm->cart;
+}
+
+/* How many neighbours this rank gets data of, or sends data to. */
+int neighbors_of(const struct comm *comm, bool is_in) {
+    int grid[2 * MAX_DIMS];
+    struct neighbors of;
+    if (!comm || !find_neighbors(comm, grid, &of)) return 0;
+    return is_in ? of.sources : of.targets;
+}
+
 static int begin(const struct parts *send, const struct parts *recv, struct comm *comm, struct request **made) {
     int grid[2 * MAX_DIMS];
-    struct neighbors of = {0};
+    struct neighbors of;
     if (!comm) return MPI_ERR_COMM;
-    if (!comm->cart && !comm->graph) return refuse_collective(comm, MPI_ERR_TOPOLOGY);
-    if (comm->graph) neighbors_of_graph(comm, comm->position, &of);
-    else of.sources = of.targets = neighbors_of_cart(comm, grid), of.source = of.target = grid;
+    if (!find_neighbors(comm, grid, &of)) return refuse_collective(comm, MPI_ERR_TOPOLOGY);
     int code = check_parts(send, send->is_one && of.targets ? 1 : of.targets);
     if (code == MPI_SUCCESS) code = check_parts(recv, of.sources);
     if (code != MPI_SUCCESS) return refuse_collective(comm, code);

@@ -36,10 +36,10 @@ void look_at_collective(struct request *collective) {
     end_request(collective, code);
 }
 
-/* The world ranks that a collective or an agreement waits for, as bits. */
+/* The world ranks that a collective, an agreement or a duplicate waits for, as bits. */
 uint32_t awaited_by(const struct request *request) {
     uint32_t bits = 0;
-    if (request->kind == RECOVERY) return missing_from_agreement(request);
+    if (request->kind == RECOVERY) return missing_from_agreement(request) | missing_from_copy(request);
     for (int k = 0; k < MAX_RANKS && request->kind == COLLECTIVE; k++)
         if (request->parts[k] && !request->parts[k]->over) bits |= 1u << request->comm->members[k];
     return bits;

@@ -4,9 +4,11 @@
 #include <string.h>
 #include <wchar.h>
 
+/* What a program folds by: a function that has the count as an int, or as an MPI_Count. */
 struct op {
     MPI_User_function *function;
     bool commutes;
+    MPI_User_function_c *large;
 };
 enum { FIRST_OWN = 32, LAST_BASIC = 14 };
 
@@ -14,10 +16,12 @@ static const struct op *own_at(MPI_Op op) {
     uintptr_t number = (uintptr_t)op;
     if (number < FIRST_OWN || number - FIRST_OWN >= (uintptr_t)me->op_count) return 0;
     const struct op *own = &me->ops[number - FIRST_OWN];
-    return own->function ? own : 0;
+    return own->function || own->large ? own : 0;
 }
 
-bool is_op(MPI_Op op) { return ((uintptr_t)op && (uintptr_t)op <= LAST_BASIC) || own_at(op); }
+bool is_basic_op(MPI_Op op) { return (uintptr_t)op && (uintptr_t)op <= LAST_BASIC; }
+
+bool is_op(MPI_Op op) { return is_basic_op(op) || own_at(op); }
 
 #define EACH(operation) \
     for (int k = 0; k < count; k++) operation; \
@@ -107,7 +111,8 @@ int check_op(MPI_Op op, MPI_Datatype type) {
 int fold(const void *in, void *into, int count, MPI_Datatype type, MPI_Op op) {
     const struct op *own = own_at(op);
     if (count == 0) return MPI_SUCCESS;
-    if (own) own->function((void *)(uintptr_t)in, into, &count, &type);
+    if (own && own->large) own->large((void *)(uintptr_t)in, into, &(MPI_Count){count}, &type);
+    else if (own) own->function((void *)(uintptr_t)in, into, &count, &type);
     else return foldings[(uintptr_t)type](in, into, count, (int)(uintptr_t)op) ? MPI_SUCCESS : MPI_ERR_OP;
     return MPI_SUCCESS;
 }
@@ -115,7 +120,7 @@ int fold(const void *in, void *into, int count, MPI_Datatype type, MPI_Op op) {
 /* A handle of an operation, or MPI_OP_NULL where there is no memory. */
 static MPI_Op add_op(struct op op) {
     int place = 0;
-    while (place < me->op_count && me->ops[place].function) place++;
+    while (place < me->op_count && (me->ops[place].function || me->ops[place].large)) place++;
     if (place == me->op_count) {
         if (!grow(&me->ops, place, sizeof *me->ops)) return MPI_OP_NULL;
         me->op_count++;
@@ -134,7 +139,14 @@ void drop_op(MPI_Op op) {
 int MPI_Op_create(MPI_User_function *function, int commutes, MPI_Op *op) {
     ENTER_LOOK(0, MPI_UNDEFINED, MPI_UNDEFINED);
     WRITES(0, function && op);
-    *op = add_op((struct op){function, commutes != 0});
+    *op = add_op((struct op){function, commutes != 0, 0});
+    return *op == MPI_OP_NULL ? fail(0, MPI_ERR_NO_MEM) : MPI_SUCCESS;
+}
+
+int MPI_Op_create_c(MPI_User_function_c *function, int commutes, MPI_Op *op) {
+    ENTER_LOOK(0, MPI_UNDEFINED, MPI_UNDEFINED);
+    WRITES(0, function && op);
+    *op = add_op((struct op){0, commutes != 0, function});
     return *op == MPI_OP_NULL ? fail(0, MPI_ERR_NO_MEM) : MPI_SUCCESS;
 }
 

@@ -1,5 +1,5 @@
 /* Data between memory, where a datatype lays them out, and one piece of bytes, which goes into messages (MPI 4.0, 5.1 and 5.2). */
-#include "type.h"
+#include "large.h"
 #include <limits.h>
 #include <stdlib.h>
 #include <string.h>
@@ -119,47 +119,88 @@ void free_landing(struct landing *landing) {
     free(landing);
 }
 
+/* The bytes of so many elements, as they are packed; MPI_SUCCESS, or why they can't be. */
+static int size_of(MPI_Count count, MPI_Datatype type, const struct comm *comm, size_t *bytes) {
+    struct large large = {0};
+    if (!comm) return MPI_ERR_COMM;
+    hold_count(&large, &count, &type);
+    if (large.code == MPI_SUCCESS) check_buffer(small(count), type, bytes, &large.code);
+    return end_large(&large, large.code);
+}
+
 int MPI_Pack_size(int count, MPI_Datatype type, MPI_Comm comm, int *size) {
     struct comm *of = comm_at(comm);
     size_t bytes;
-    int code;
     ENTER_LOOK(of, MPI_UNDEFINED, MPI_UNDEFINED);
-    if (!of) return fail(0, MPI_ERR_COMM);
-    if (!check_buffer(count, type, &bytes, &code)) return fail(of, code);
+    int code = size_of(count, type, of, &bytes);
+    if (code != MPI_SUCCESS) return fail(of, code);
     WRITES(of, size);
     *size = bytes > INT_MAX ? MPI_UNDEFINED : (int)bytes;
     return MPI_SUCCESS;
 }
 
-/* Why so many bytes can't be packed or unpacked at a position of a buffer of `room` bytes, or MPI_SUCCESS. */
-static int check(const struct comm *comm, const void *buffer, int count, MPI_Datatype type, const void *packed, int room, const int *position,
-                 size_t *bytes) {
+int MPI_Pack_size_c(MPI_Count count, MPI_Datatype type, MPI_Comm comm, MPI_Count *size) {
+    struct comm *of = comm_at(comm);
+    size_t bytes;
+    ENTER_LOOK(of, MPI_UNDEFINED, MPI_UNDEFINED);
+    int code = size_of(count, type, of, &bytes);
+    if (code != MPI_SUCCESS) return fail(of, code);
+    WRITES(of, size);
+    *size = (MPI_Count)bytes;
+    return MPI_SUCCESS;
+}
+
+/* Why they can't be packed or unpacked at a position of a buffer of `room` bytes, or MPI_SUCCESS. */
+static int check(const struct packing *of, MPI_Count position, size_t *bytes) {
     int code;
+    if (of->room < 0 || position < 0) return MPI_ERR_ARG;
+    if (!check_buffer(small(of->count), of->type, bytes, &code)) return code;
+    if (!is_buffer(of->buffer, *bytes, of->type) || !is_buffer(of->packed, *bytes, MPI_PACKED)) return MPI_ERR_BUFFER;
+    return position > of->room || *bytes > (size_t)(of->room - position) ? MPI_ERR_TRUNCATE : MPI_SUCCESS;
+}
+
+/* Packs or unpacks at a position, and moves it on. */
+static int pack(struct packing of, MPI_Count *position, const struct comm *comm, bool is_out) {
+    struct large large = {0};
+    size_t bytes = 0;
     if (!comm) return MPI_ERR_COMM;
-    if (room < 0 || !position || *position < 0) return MPI_ERR_ARG;
-    if (!check_buffer(count, type, bytes, &code)) return code;
-    if (!is_buffer(buffer, *bytes, type) || !is_buffer(packed, *bytes, MPI_PACKED)) return MPI_ERR_BUFFER;
-    return *bytes > (size_t)(room - *position) || *position > room ? MPI_ERR_TRUNCATE : MPI_SUCCESS;
+    hold_count(&large, &of.count, &of.type);
+    int code = large.code == MPI_SUCCESS ? check(&of, *position, &bytes) : large.code;
+    if (code == MPI_SUCCESS) {
+        move_data(type_at(of.type), small(of.count), of.buffer, of.packed + *position, bytes, is_out);
+        *position += (MPI_Count)bytes;
+    }
+    return end_large(&large, code);
 }
 
 int MPI_Pack(const void *buffer, int count, MPI_Datatype type, void *packed, int room, int *position, MPI_Comm comm) {
     struct comm *of = comm_at(comm);
-    size_t bytes = 0;
+    MPI_Count at = position ? *position : -1;
     ENTER_LOOK(of, MPI_UNDEFINED, MPI_UNDEFINED);
-    int code = check(of, buffer, count, type, packed, room, position, &bytes);
-    if (code != MPI_SUCCESS) return fail(of, code);
-    move_data(type_at(type), count, (void *)(uintptr_t)buffer, (char *)packed + *position, bytes, true);
-    *position += (int)bytes;
-    return MPI_SUCCESS;
+    int code = pack((struct packing){(void *)(uintptr_t)buffer, count, type, packed, room}, &at, of, true);
+    if (code == MPI_SUCCESS) *position = (int)at;
+    return fail(of, code);
 }
 
 int MPI_Unpack(const void *packed, int room, int *position, void *buffer, int count, MPI_Datatype type, MPI_Comm comm) {
     struct comm *of = comm_at(comm);
-    size_t bytes = 0;
+    MPI_Count at = position ? *position : -1;
     ENTER_LOOK(of, MPI_UNDEFINED, MPI_UNDEFINED);
-    int code = check(of, buffer, count, type, packed, room, position, &bytes);
-    if (code != MPI_SUCCESS) return fail(of, code);
-    move_data(type_at(type), count, buffer, (char *)(uintptr_t)packed + *position, bytes, false);
-    *position += (int)bytes;
-    return MPI_SUCCESS;
+    int code = pack((struct packing){buffer, count, type, (char *)(uintptr_t)packed, room}, &at, of, false);
+    if (code == MPI_SUCCESS) *position = (int)at;
+    return fail(of, code);
+}
+
+int MPI_Pack_c(const void *buffer, MPI_Count count, MPI_Datatype type, void *packed, MPI_Count room, MPI_Count *position, MPI_Comm comm) {
+    struct comm *of = comm_at(comm);
+    ENTER_LOOK(of, MPI_UNDEFINED, MPI_UNDEFINED);
+    WRITES(of, position);
+    return fail(of, pack((struct packing){(void *)(uintptr_t)buffer, count, type, packed, room}, position, of, true));
+}
+
+int MPI_Unpack_c(const void *packed, MPI_Count room, MPI_Count *position, void *buffer, MPI_Count count, MPI_Datatype type, MPI_Comm comm) {
+    struct comm *of = comm_at(comm);
+    ENTER_LOOK(of, MPI_UNDEFINED, MPI_UNDEFINED);
+    WRITES(of, position);
+    return fail(of, pack((struct packing){buffer, count, type, (char *)(uintptr_t)packed, room}, position, of, false));
 }

@@ -47,15 +47,43 @@ void read_found(const struct job *job, struct found *found) {
     if (!found->is_there) snprintf(found->other, sizeof found->other, "the search didn't end well");
 }
 
+/* A schedule that is too long is none that is known to be wrong. */
 bool is_right(const struct found *found) {
     bool is_well = found->is_there && !*found->other;
-    for (int k = 0; k < found->count; k++) is_well = is_well && (found->endings[k].outcome == RIGHT || found->endings[k].outcome == NOT_REACHED);
+    for (int k = 0; k < found->count; k++) {
+        enum outcome outcome = found->endings[k].outcome;
+        is_well = is_well && (outcome == RIGHT || outcome == NOT_REACHED || outcome == LONG);
+    }
     return is_well;
+}
+
+static bool has_ending(const struct found *found, const struct found_ending *ending) {
+    bool has = false;
+    for (int k = 0; k < found->count; k++) has = has || (found->endings[k].outcome == ending->outcome && !strcmp(found->endings[k].why, ending->why));
+    return has;
+}
+
+/* Whether each ending of a place that isn't right is one of the other place. */
+static bool are_endings_of(const struct found *found, const struct found *other) {
+    bool are = true;
+    for (int k = 0; k < found->count; k++) are = are && (found->endings[k].outcome == RIGHT || has_ending(other, &found->endings[k]));
+    return are;
+}
+
+/* Whether two places come out alike. */
+static bool are_alike(const struct found *one, const struct found *other) {
+    return !*one->other && !*other->other && are_endings_of(one, other) && are_endings_of(other, one);
+}
+
+static char *text_of_spot(const struct spot *spot, char *text, size_t room) {
+    *text = 0;
+    if (is_place(spot)) snprintf(text, room, spot->inside ? "%d@%d.%d" : "%d@%d", spot->rank, spot->call, spot->inside);
+    return text;
 }
 
 static void tell_found_ending(const struct spot *spot, const struct found *found, const struct found_ending *ending, bool is_first) {
     char stop[32] = "", schedules[48], path[512];
-    if (is_place(spot)) snprintf(stop, sizeof stop, spot->inside ? "%d@%d.%d" : "%d@%d", spot->rank, spot->call, spot->inside);
+    text_of_spot(spot, stop, sizeof stop);
     snprintf(schedules, sizeof schedules, found->is_whole ? "all %ld" : "first %ld", found->searched);
     printf("%-10s %-22s %-12s %ld: %s%s\n", is_first ? stop : "", is_first ? spot->name : "", is_first ? schedules : "", ending->count,
            words_of_outcome(ending->outcome), ending->why);
@@ -77,6 +105,31 @@ static void tell_place(const struct spot *spot, const struct found *found) {
         }
 }
 
+/* Whether the lines of a place are to be told. */
+static bool is_told(const struct found *found) {
+    bool is_told = options.all || *found->other;
+    for (int k = 0; k < found->count; k++) is_told = is_told || (found->endings[k].outcome != RIGHT && found->endings[k].outcome != NOT_REACHED);
+    return is_told;
+}
+
+/* The lines of each place, those that come out alike together below the first one of them. */
+static void tell_places_found(const struct spot *spots, const struct found *found, int count) {
+    for (int k = 0; k < count; k++) {
+        char text[32];
+        bool is_first = is_told(&found[k]);
+        for (int other = 0; other < k && is_first && !options.all; other++) is_first = !are_alike(&found[other], &found[k]);
+        if (!is_first) continue;
+        tell_place(&spots[k], &found[k]);
+        bool is_begun = false;
+        for (int other = k + 1; other < count && !options.all; other++)
+            if (is_told(&found[other]) && are_alike(&found[k], &found[other])) {
+                printf("%s %s", is_begun ? "," : "           so too at", text_of_spot(&spots[other], text, sizeof text));
+                is_begun = true;
+            }
+        if (is_begun) printf("\n");
+    }
+}
+
 /* Each note once. */
 static void tell_found_notes(const struct found *found, int count) {
     for (int k = 0; k < count; k++) {
@@ -91,12 +144,11 @@ int tell_all_found(const struct spot *spots, const struct found *found, int coun
     int tried = 0, right = 0, whole = 0;
     long schedules = 0, unseen = 0;
     printf("%-10s %-22s %-12s %s\n", "stop", "call", "schedules", "what came out");
+    tell_places_found(spots, found, count);
     for (int k = 0; k < count; k++) {
-        bool is_well = is_right(&found[k]);
         if (!found[k].is_there && !*found[k].other) continue;
-        if (!is_well || options.all) tell_place(&spots[k], &found[k]);
         tried++;
-        right += is_well;
+        right += is_right(&found[k]);
         whole += found[k].is_whole;
         schedules += found[k].played;
         unseen += found[k].unseen;

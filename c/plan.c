@@ -44,13 +44,14 @@ static bool is_at(struct stop *stop) {
 static void look_at_plan(void) {
     for (int k = 0; k < options.stops; k++)
         if (is_at(&options.stop[k])) stop_by_plan();
+    if (options.branches >= 0 && is_branch()) stop_by_plan();
 }
 
 /* A call that counts is reached. */
 void plan_call(void) {
     me->calls++;
     me->insides = 0;
-    if (options.report >= 0 && !options.limit) report("call %d %d %s\n", me->number, me->calls, me->place.call);
+    if (options.calls) report("call %d %d %s\n", me->number, me->calls, me->place.call);
     vary();
     look_at_plan();
 }
@@ -58,6 +59,6 @@ void plan_call(void) {
 /* A place inside the call is reached. */
 void plan_inside(void) {
     me->insides++;
-    if (options.report >= 0 && !options.limit) report("inside %d %d %d\n", me->number, me->calls, me->insides);
+    if (options.calls) report("inside %d %d %d\n", me->number, me->calls, me->insides);
     look_at_plan();
 }

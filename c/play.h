@@ -8,7 +8,8 @@
 /* What happens at a rank: a call of the engine that others may see or whose answer depends on what came, or an item is taken. */
 enum kind_of_event {
     SENDS, POSTS, TESTS, CANCELS, PROBES, REVOKES, ASKS_REVOKED, ASKS_FAILED, ACKNOWLEDGES, DUPLICATES, ENTERS_SHRINK, POLLS_SHRINK, ENTERS_AGREE,
-    POLLS_AGREE, STOPS, TAKES
+    POLLS_AGREE, STOPS, TAKES,
+    LOSES   /* the last items of a rank that stopped never come */
 };
 enum { NOBODY = 255 };
 
@@ -67,6 +68,7 @@ bool has_heard_all(int rank, uint32_t comm, bool agrees);
 extern ulfm_next_item heads[MAX_RANKS][MAX_RANKS];   /* what is first, from each rank to each */
 int list_choices(struct event *choices);
 void settle(void);
+void look_ahead(int from);
 void perform(const struct event *event);
 enum { MOST_CHOICES = MAX_RANKS * (MAX_RANKS + 1) };
 
@@ -76,6 +78,17 @@ int choose_by_chance(int count);
 bool begin_ranks(void);
 int play_once(void);
 
+/* losses.c */
+void clear_losses(void);
+void plan_loss(int from, int to, int kept);
+bool can_lose(int from);
+bool may_lose(int from);
+bool is_blocked(int from, int to);
+void block_rings(int from);
+void unblock(int from, int to);
+bool choose_losses(int kept[MAX_RANKS][MAX_RANKS]);
+void plan_losses(int kept[MAX_RANKS][MAX_RANKS]);
+
 /* snapshot.c */
 void *shared_memory(size_t bytes);
 bool take_snapshot(void);
@@ -83,6 +96,10 @@ void put_back(void);
 
 /* outside.c */
 bool begin_outside(void);
+void note_opened(int file, const void *from);
+void note_closed(int file, const void *from);
+void note_mapped(void *at, size_t bytes, const void *from);
+bool note_unmapped(void *at, size_t bytes, const void *from);
 void note_outside(void);
 void put_back_outside(void);
 
@@ -102,9 +119,19 @@ bool begin_record(void);
 void record(const struct event *event);
 bool keep_schedule(const char *path);
 
+/* draw.c */
+bool begin_drawing(void);
+void note_drawn(const struct event *event);
+bool draw_schedule(const char *path);
+
 /* unfollowed.c */
+struct call_of {
+    const void *from;   /* an address in the program; null: not known */
+    int rank;
+};
 bool begin_notes(void);
 void tell_unfollowed(const char *what, const void *from);
+void tell_left(const char *what, struct call_of call);
 void tell_notes(FILE *to);
 
 #endif

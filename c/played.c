@@ -45,13 +45,13 @@ static void count_alarm(int number) {
 }
 
 /* From the end of the time on, a signal each second. */
-static void set_alarm(void) {
+void set_alarm(void) {
     timer_t timer;
     int number = SIGRTMAX - 1;
     struct sigevent event = {.sigev_notify = SIGEV_SIGNAL, .sigev_signo = number};
     time_t whole = (time_t)options.timeout;
     struct itimerspec at = {.it_value = {whole, (long)(1e9 * (options.timeout - (double)whole))}, .it_interval = {1, 0}};
-    if (options.timeout <= 0) return;
+    if (options.timeout <= 0 || options.branches >= 0) return;   /* those that go on from it have their time */
     signal(number, count_alarm);
     if (timer_create(CLOCK_MONOTONIC, &event, &timer) == 0) timer_settime(timer, 0, &at, 0);
 }
@@ -84,20 +84,24 @@ static int choose(const struct event *choices, int count) {
     return options.schedule ? choose_by_schedule(choices, count) : choose_by_chance(count);
 }
 
-/* Plays events until nothing can happen. A search wants what comes when all ranks have ended too: it might have come before. */
+/* Plays events until nothing can happen. A search wants what comes when all ranks have ended too: it might have come before. It keeps so many events. */
 static void play_schedule(void) {
     struct event choices[MOST_CHOICES];
-    for (int count; (footprints || !have_all_ended()) && (count = list_choices(choices)) > 0;) {
+    bool has_room = true;
+    for (int k = 0; k < options.ranks; k++) block_rings(k), look_ahead(k);
+    for (int count; has_room && (footprints || !have_all_ended()) && (count = list_choices(choices)) > 0;) {
         int choice = choose(choices, count);
         if (choice < 0) break;
         record(&choices[choice]);
+        note_drawn(&choices[choice]);
         perform(&choices[choice]);
         if (is_searching() && !note_step()) break;
-        if (footprints && step == MOST_STEPS - 1) break;
+        has_room = !footprints || step < MOST_STEPS - 1;
         if (alarms) tell_late();
     }
     if (is_searching() && cut_of_search() != NOT_CUT) return;
-    if (!have_all_ended()) tell_end();
+    if (!has_room) report("long\n");
+    else if (!have_all_ended()) tell_end();
 }
 
 /* A rank, or the controller, ends a run that is played. */
@@ -121,14 +125,16 @@ int play(void) {
     if (!begin_notes() || (options.keep && !begin_record())) return STATUS_USAGE;
     if (options.limit) return explore();
     if (options.seeds) return play_seeds();
-    if (options.schedule && !open_schedule()) return STATUS_USAGE;
+    if ((options.schedule && !open_schedule()) || (options.draw && !begin_drawing())) return STATUS_USAGE;
     begin_chance(options.seed);
-    if (!begin_ranks()) {
+    if ((options.branches >= 0 && !begin_branches()) || !begin_ranks()) {
         fprintf(stderr, "ulfm-mpirun: no memory for the ranks\n");
         return STATUS_USAGE;
     }
     int status = play_once();
+    end_branches();
     if (options.keep && !keep_schedule(options.keep)) fprintf(stderr, "ulfm-mpirun: %s can't be written\n", options.keep);
+    if (options.draw && !draw_schedule(options.draw)) fprintf(stderr, "ulfm-mpirun: %s can't be written\n", options.draw);
     if (status >= 0) end_run(status);
     return close_run();
 }

@@ -30,6 +30,7 @@ struct chain {
     int made;        /* how many contexts it has: made ahead, since one that is revoked can't be duplicated */
     int planes;      /* how many of them a program has had */
     int users;       /* the communicators here that point to it */
+    unsigned copies, copied;   /* the duplicates that don't block: how many began, and how many are over */
     struct {
         uint32_t context;
         bool is_free;    /* the program freed its communicator */
@@ -153,9 +154,11 @@ struct rank {
     struct op *ops;
     struct keyval *keyvals;
     struct info **infos;
+    struct window **windows;
     struct added *added;      /* classes and codes of errors */
     void *attached;           /* by MPI_Buffer_attach */
-    int attached_size, keyval_count, info_count, added_count, last_code;
+    MPI_Count attached_size;
+    int keyval_count, info_count, window_count, added_count, last_code;
     int comm_count, old_comm_count, group_count, request_count, message_count, handler_count, type_count, op_count, first_free;
     struct request *open;     /* receives that wait */
     struct request *spare;    /* can be used again */
@@ -169,6 +172,9 @@ struct rank {
     bool loops;               /* over looks that find nothing (a run that is played) */
     int provided;             /* the level of threads that it was given */
     struct place place;
+    _Atomic uint32_t known;   /* the world ranks whose failures it knows, as bits, at its last call */
+    int known_count;          /* how many */
+    bool is_told;             /* a call answered a failure */
     int recoveries;           /* requests of shrinks and agreements */
     int vain;                 /* looks of calls that don't wait, since anything moved */
     int impatience;           /* by how much it looks less before it yields, where looks were in vain */

@@ -4,18 +4,18 @@
 
 #include "type.h"
 
-/* The arguments of a collective, those that it has. */
+/* The arguments of a collective, those that it has, by the names of its parameters. */
 struct repeated {
     int (*begin)(const struct repeated *of, MPI_Comm comm, MPI_Request *request);
     unsigned number;
-    const void *send;
-    void *recv;
-    int sendcount, count, root;
-    const int *sendcounts, *senddispls, *counts, *displs;
-    MPI_Datatype sendtype, type, kept[2];
-    const MPI_Datatype *sendtypes, *types;
-    const MPI_Aint *sendat, *at;
+    const void *sendbuf;
+    void *buf, *recvbuf;
+    MPI_Count count, sendcount, recvcount;
+    const void *counts, *sendcounts, *recvcounts, *displs, *sdispls, *rdispls;   /* lists as the call has them */
+    MPI_Datatype type, sendtype, recvtype, kept[3];
+    const MPI_Datatype *sendtypes, *recvtypes;
     MPI_Op op;
+    int root;
 };
 
 void free_repeated(struct repeated *of);

@@ -63,6 +63,7 @@ void free_request(struct request *request) {
     free_repeated(request->repeated);
     free_reduction(request->reduction);
     if (request->kind == RECOVERY) me->recoveries--;
+    free_copy(request);
     free(request->more);
     me->requests[request->handle - 1] = 0;
     if (request->handle - 1 < me->first_free) me->first_free = request->handle - 1;
@@ -214,6 +215,7 @@ void clear_requests(void) {
         if (request) free_start(request->start);
         if (request) free_repeated(request->repeated);
         if (request) free_reduction(request->reduction);
+        if (request) free_copy(request);
         if (request) free(request->more);
         free(request);
     }

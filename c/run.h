@@ -23,6 +23,7 @@ char *quoted(const char *word);
 bool copy_programs(void);
 bool mend_program(char *bytes, size_t size);
 void remove_copies(void);
+void leave_copies(void);
 /* Whether a rank crashed, so that the process ends: a program that can't be loaded then is no fault. */
 extern volatile sig_atomic_t is_crashed;
 int run_program(struct rank *rank);
@@ -40,6 +41,7 @@ int close_run(void);
 /* played.c, controller.c */
 int play(void);
 void fix_addresses(char **words);
+void set_alarm(void);
 void end_schedule(int status);
 void wait_as_played(bool (*is_done)(void *, bool is_settled), void *of);
 void look_as_played(void);
@@ -57,6 +59,7 @@ void close_output(struct rank *rank);
 void write_rests(bool all);
 
 /* stop.c */
+extern _Atomic int stopped_ranks;
 void stop_here(int status) __attribute__((noreturn));
 void be_launcher(void);
 void leave_process(int status) __attribute__((noreturn));
@@ -79,8 +82,15 @@ bool all_are_gone(void *unused, bool is_settled);
 char *line_before(const void *at, char *text, size_t room);
 char *line_of(const struct rank *rank, char *text, size_t room);
 void begin_report(void);
-void tell_places(void);
+void note_failures(void);
+void tell_places(bool is_late);
 void tell_stuck(void);
+
+/* branches.c */
+bool begin_branches(void);
+bool is_branch(void);
+bool note_past(const char *line, size_t length);
+void end_branches(void);
 
 /* plan.c */
 void plan_call(void);
@@ -158,6 +168,7 @@ void land(struct landing *landing, size_t bytes);
 void free_landing(struct landing *landing);
 int fold(const void *in, void *into, int count, MPI_Datatype type, MPI_Op op);
 bool is_op(MPI_Op op);
+bool is_basic_op(MPI_Op op);
 int check_op(MPI_Op op, MPI_Datatype type);
 MPI_Op keep_op(MPI_Op op);
 void drop_op(MPI_Op op);
@@ -165,6 +176,7 @@ void clear_types(void);
 void clear_ops(void);
 
 /* error.c */
+bool is_handler(MPI_Errhandler handler);
 int fail(struct comm *comm, int code);
 void clear_handlers(void);
 
@@ -208,6 +220,10 @@ int new_recovery(struct comm *comm, void (*look)(struct request *), size_t bytes
 int give_recovery(struct comm *comm, int code, struct request *request, MPI_Request *handle);
 void look_at_recoveries(void);
 uint32_t missing_from_agreement(const struct request *request);
+
+/* idup.c */
+uint32_t missing_from_copy(const struct request *request);
+void free_copy(struct request *request);
 
 /* info.c */
 bool is_info(MPI_Info handle);

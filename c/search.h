@@ -4,9 +4,9 @@
 
 #include "play.h"
 
-/* Who may go on next: a rank, by its number, or the ring from one rank to another one, by 8 + 8 times the one + the other. */
+/* Who may go on next: a rank, by its number, the ring from one rank to another one, by 8 + 8 times the one + the other, or the loss of what is in it. */
 typedef unsigned __int128 processes;
-enum { PROCESSES = MAX_RANKS + MAX_RANKS * MAX_RANKS, MOST_STEPS = 12000, ANYBODY = -1, NO_STEP = -1, SILENT = 4, TOO_MANY = 255 };
+enum { LOSSES = MAX_RANKS + MAX_RANKS * MAX_RANKS, PROCESSES = LOSSES + MAX_RANKS * (MAX_RANKS - 1), MOST_STEPS = 12000, ANYBODY = -1, NO_STEP = -1, SILENT = 4, TOO_MANY = 255 };
 static inline processes bit_of(int process) { return (processes)1 << process; }
 static inline bool is_in(processes set, int process) { return set >> process & 1; }
 
@@ -20,6 +20,12 @@ enum {
     FOUND = 32
 };
 
+/* A look in vain. */
+struct silence {
+    int8_t comm, source;
+    bool is_message;
+};
+
 /* What an event reads and changes. */
 struct footprint {
     uint8_t process, rank, kind, item, flags;
@@ -31,10 +37,7 @@ struct footprint {
     bool waits;              /* a look in a wait */
     int16_t pushed, by, found;   /* the events that pushed its item, that ended its request, by which the message came that its probe found */
     int32_t tag;
-    struct {
-        int8_t comm, source;
-        bool is_message;
-    } silent[SILENT];        /* looks in vain of the wait that it ends */
+    struct silence silent[SILENT];   /* looks in vain of the wait that it ends */
     uint32_t topic, answer;  /* topic: of shrinks and agreements */
     uint64_t proposal;       /* of a poll: what tells its own proposal from others */
 };
@@ -48,7 +51,7 @@ struct proposal {
 };
 
 /* Why a schedule isn't played to its end. */
-enum cut { NOT_CUT, ASLEEP, NOT_THE_SAME, TOO_LONG };
+enum cut { NOT_CUT, ASLEEP, MEETS_LOSS, NOT_THE_SAME };
 enum search_step { SEARCH_GOES_ON, SEARCH_IS_OVER, SEARCH_BEGINS_ANEW, SEARCH_FAILED };
 
 /* search.c */
@@ -63,11 +66,23 @@ enum search_step end_searched(void);
 /* heard.c */
 struct proposal proposal_of(int rank, uint32_t comm, bool agrees);
 
+/* rings.c */
+void note_push(int from, int to);
+void push_to_all(int from, uint32_t members);
+int16_t pull(int from, int to);
+int16_t lose(int from, int to);
+int first_lost(int from, int to);
+int count_of_pushed(int from, int to);
+int count_at_stop(int from, int to, int *taken);
+
 /* footprint.c: each `end_` after the call of its kind; `footprints` is null where none are kept. */
 extern struct footprint *footprints;   /* of the present schedule's events */
 extern int step;                       /* the number of the present event */
+static inline int ring_of(int from, int to) { return MAX_RANKS + MAX_RANKS * from + to; }
+static inline int loss_of(int from, int to) { return LOSSES + (MAX_RANKS - 1) * from + to - (to > from); }
 static inline int process_of(const struct event *event) {
-    return event->kind == TAKES ? MAX_RANKS + MAX_RANKS * event->peer + event->rank : event->rank;
+    if (event->kind == LOSES) return loss_of(event->peer, event->rank);
+    return event->kind == TAKES ? ring_of(event->peer, event->rank) : event->rank;
 }
 uint32_t topic_of(uint32_t comm, bool agrees, int round);
 void begin_footprint(const struct event *event);

@@ -10,7 +10,7 @@ static bool add_spot(struct spot **spots, int *count, struct spot spot) {
     return true;
 }
 
-static int compare_spots(const void *a, const void *b) {
+int compare_spots(const void *a, const void *b) {
     const struct spot *one = a, *other = b;
     if (one->rank != other->rank) return one->rank < other->rank ? -1 : 1;
     if (one->call != other->call) return one->call < other->call ? -1 : 1;
@@ -34,4 +34,14 @@ struct spot *read_spots(const struct job *job, int *count) {
     free(text);
     qsort(spots, (size_t)*count, sizeof *spots, compare_spots);
     return spots;
+}
+
+/* Keeps those that are asked for, as far apart as can be where that is a number. How many. */
+int choose_spots(struct spot *spots, int count) {
+    int kept = 0, sample = options.sample;
+    for (int k = 0; k < count; k++)
+        if (spots[k].call >= options.first_call && (!options.last_call || spots[k].call <= options.last_call)) spots[kept++] = spots[k];
+    if (!sample || sample >= kept) return kept;
+    for (int k = 0; k < sample; k++) spots[k] = spots[(long)k * kept / sample];
+    return sample;
 }

@@ -20,6 +20,7 @@ void enter_call(const char *call, const void *from, struct comm *comm, int peer,
     if (!me->has_begun) refuse(call, "was called before MPI_Init");
     if (me->has_finalized) refuse(call, "was called after MPI_Finalize");
     if (me->is_starting) return;
+    if (me->known_count < atomic_load_explicit(&stopped_ranks, memory_order_relaxed)) note_failures();
     me->place = (struct place){.call = call, .from = from, .comm = comm, .peer = peer, .tag = tag};
     me->looks = 0;
     if (counts) plan_call();

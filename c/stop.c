@@ -13,6 +13,7 @@
 #include <unistd.h>
 
 static pid_t launcher;
+_Atomic int stopped_ranks;   /* how many there are */
 
 void be_launcher(void) {
     if (!launcher) atexit(remove_copies);
@@ -31,6 +32,7 @@ void stop_here(int status) {
     rank->status = status;
     if (!rank->has_finalized && !rank->has_stopped) {
         rank->has_stopped = true;
+        atomic_fetch_add(&stopped_ranks, 1);
         if (!rank->is_planned) report("failed %d %d\n", rank->number, status);
         ulfm_stop(rank->slot);
         drain();

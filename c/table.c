@@ -5,6 +5,7 @@
 
 static const char *const outcomes[OUTCOMES] = {
     "right", "not reached", "another status", "another output", "a rank failed that wasn't stopped", "nobody can move", "looks that nobody ends", "the time was over",
+    "not played to its end: it has 12,000 events and more",
     "an error was fatal", "the run was aborted", "a crash"};
 
 const char *words_of_outcome(enum outcome outcome) { return outcomes[outcome]; }
@@ -79,10 +80,10 @@ enum outcome judge(const struct result *base, const struct result *result, const
     return OTHER_OUTPUT;
 }
 
-/* A line for a run, where it didn't come out right or all are wanted, and the command below. */
+/* A line for a run, where it came out wrong or all are wanted, and the command below. */
 void tell_outcome(const struct spot *spot, bool sends_wait, enum outcome outcome, const char *why) {
     char stop[32];
-    if (outcome == RIGHT && !options.all) return;
+    if ((outcome == RIGHT || outcome == NOT_REACHED) && !options.all) return;
     snprintf(stop, sizeof stop, spot->inside ? "%d@%d.%d" : "%d@%d", spot->rank, spot->call, spot->inside);
     printf("%-10s %-22s %-7s %s%s\n", stop, spot->name, sends_wait ? "wait" : "buffer", outcomes[outcome], why);
     tell_command(stdout, spot, sends_wait);

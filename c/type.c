@@ -41,7 +41,8 @@ static void make_basics(void) {
         block[0] = block_at(0, first, part, external);
         block[1] = block_at(first < sizeof(int) ? sizeof(int) : first, sizeof(int), sizeof(int), SAME);
         basics[k] = (struct type){.users = 1, .is_committed = true, .is_basic = true, .size = is_pair ? first + sizeof(int) : first,
-                                  .upper = (ptrdiff_t)whole, .blocks = is_pair ? 2 : 1, .block = block};
+                                  .upper = (ptrdiff_t)whole, .blocks = is_pair ? 2 : 1, .block = block,
+                                  .base = (MPI_Datatype)(uintptr_t)k};
         basics[k].is_plain = basics[k].size == whole;
         basics[k].elements = basics[k].blocks;
         basics[k].most = is_pair ? block[1].at + (ptrdiff_t)block[1].length : (ptrdiff_t)first;

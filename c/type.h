@@ -45,6 +45,7 @@ struct type {
     struct recipe *recipe;  /* how the program made it; null of a basic one */
     struct attribute *attributes;  /* but of a basic one */
     MPI_Datatype handle;    /* which it was made with */
+    MPI_Datatype base;      /* the basic type of all its data, or null */
     char name[MPI_MAX_OBJECT_NAME];
 };
 enum { BASIC_TYPES = 41 };

@@ -23,7 +23,7 @@ int MPI_TYPE_NULL_DELETE_FN(MPI_Datatype type, int keyval, void *value, void *mo
 
 int MPI_Type_create_keyval(MPI_Type_copy_attr_function *copies, MPI_Type_delete_attr_function *deletes, int *keyval, void *more) {
     ENTER_LOOK(0, MPI_UNDEFINED, MPI_UNDEFINED);
-    struct keyval made = {.is_of_types = true, .more = more};
+    struct keyval made = {.kind = OF_TYPES, .more = more};
     made.type.copies = copies ? copies : MPI_TYPE_NULL_COPY_FN;
     made.type.deletes = deletes ? deletes : MPI_TYPE_NULL_DELETE_FN;
     return create_keyval(&made, keyval);
@@ -31,7 +31,7 @@ int MPI_Type_create_keyval(MPI_Type_copy_attr_function *copies, MPI_Type_delete_
 
 int MPI_Type_free_keyval(int *keyval) {
     ENTER_LOOK(0, MPI_UNDEFINED, MPI_UNDEFINED);
-    return free_keyval(keyval, true);
+    return free_keyval(keyval, OF_TYPES);
 }
 
 /* What bears the attributes of a type. All ranks share the basic types, whose attributes are the rank's own. False where there is no memory. */
@@ -39,7 +39,7 @@ static bool find_bearer(MPI_Datatype handle, struct bearer *bearer) {
     struct type *type = type_at(handle);
     if (type->is_basic && !me->basic_attributes) me->basic_attributes = calloc(BASIC_TYPES, sizeof(struct attribute *));
     if (type->is_basic && !me->basic_attributes) return false;
-    *bearer = (struct bearer){MPI_COMM_NULL, handle, type->is_basic ? &me->basic_attributes[(uintptr_t)handle] : &type->attributes};
+    *bearer = (struct bearer){.kind = OF_TYPES, .type = handle, .first = type->is_basic ? &me->basic_attributes[(uintptr_t)handle] : &type->attributes};
     return true;
 }
 
@@ -74,7 +74,7 @@ int copy_type_attributes(MPI_Datatype from, MPI_Datatype to) {
 
 /* The type is freed by the handle that it was made with. */
 int delete_type_attributes(MPI_Datatype handle) {
-    struct bearer bearer = {MPI_COMM_NULL, handle, &type_at(handle)->attributes};
+    struct bearer bearer = {.kind = OF_TYPES, .type = handle, .first = &type_at(handle)->attributes};
     return delete_all_attributes(&bearer);
 }
 

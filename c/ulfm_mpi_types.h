@@ -52,6 +52,7 @@ typedef struct {
 typedef void MPI_Comm_errhandler_function(MPI_Comm *, int *, ...);
 typedef MPI_Comm_errhandler_function MPI_Comm_errhandler_fn;
 typedef void MPI_User_function(void *, void *, int *, MPI_Datatype *);
+typedef void MPI_User_function_c(void *, void *, MPI_Count *, MPI_Datatype *);
 
 #define MPI_STATUS_IGNORE ((MPI_Status *)0)
 #define MPI_STATUSES_IGNORE ((MPI_Status *)0)
@@ -108,7 +109,7 @@ typedef void MPI_User_function(void *, void *, int *, MPI_Datatype *);
 #define MPI_MAX_INFO_VAL 1024
 #define MPI_MAX_LIBRARY_VERSION_STRING 256
 
-/* ---- Error classes (9.4), and those of ULFM; the numbers are those of MPICH. Of what isn't here (files, windows, spawning) a program may have them
+/* ---- Error classes (9.4), and those of ULFM; the numbers are those of MPICH. Of what isn't here (files, spawning) a program may have them
    in its own switches. ---- */
 
 #define MPI_SUCCESS 0

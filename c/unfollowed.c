@@ -28,22 +28,31 @@ void tell_notes(FILE *to) {
     for (int k = 0; k < notes->count; k++) fputs(notes->text[k], to);
 }
 
-/* Told where it is met, or where many schedules are played below their table. */
-void tell_unfollowed(const char *what, const void *from) {
-    char line[120];
+/* Room for a note on something; null where there is one, or where it is of a sanitizer. */
+static char *new_note(const char *what, const void *from) {
     Dl_info info;
-    bool is_of_sanitizer = is_played && from && dladdr(from, &info) && strstr(info.dli_fname, "san.so");
-    if (!is_played || (!me && from) || is_of_sanitizer) return;
+    if (!is_played || (from && dladdr(from, &info) && strstr(info.dli_fname, "san.so"))) return 0;
     for (int k = 0; k < notes->count; k++)
-        if (notes->what[k] == what) return;
-    if (notes->count == MOST_NOTES) return;
-    char *text = notes->text[notes->count];
-    notes->what[notes->count++] = what;
-    size_t room = sizeof notes->text[0];
-    if (!from) snprintf(text, room, "ulfm-mpirun: a schedule %s: that isn't followed, so the next ones may differ\n", what);
-    else snprintf(text, room, "ulfm-mpirun: rank %d %s%s: that isn't followed, so another run of this schedule may differ\n", me->number, what,
-                  line_before(from, line, sizeof line));
+        if (!strcmp(notes->what[k], what)) return 0;
+    if (notes->count == MOST_NOTES) return 0;
+    notes->what[notes->count] = what;
+    return notes->text[notes->count++];
+}
+
+/* A rank does it: told where it is met, or where many schedules are played below their table. */
+void tell_unfollowed(const char *what, const void *from) {
+    char line[120], *text = me ? new_note(what, from) : 0;
+    if (!text) return;
+    snprintf(text, sizeof *notes->text, "ulfm-mpirun: rank %d %s%s: that isn't followed, so another run of this schedule may differ\n", me->number, what,
+             line_before(from, line, sizeof line));
     if (!(options.seeds || options.limit)) fputs(text, stderr);
+}
+
+/* It is what is left when a schedule of many is over. */
+void tell_left(const char *what, struct call_of call) {
+    char line[120], by[160] = "", *text = new_note(what, call.from);
+    if (call.from) snprintf(by, sizeof by, ", by rank %d%s", call.rank, line_before(call.from, line, sizeof line));
+    if (text) snprintf(text, sizeof *notes->text, "ulfm-mpirun: a schedule %s%s: that isn't followed, so the next ones may differ\n", what, by);
 }
 
 int clock_gettime(clockid_t clock, struct timespec *time) {

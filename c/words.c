@@ -5,7 +5,7 @@
 #include <string.h>
 #include <unistd.h>
 
-struct options options = {.ranks = 1, .search_stops = true, .report = -1, .capacity = 64, .rounds = ROUNDS};
+struct options options = {.ranks = 1, .search_stops = true, .branches = -1, .report = -1, .capacity = 64, .rounds = ROUNDS};
 
 static const char usage[] =
     "ulfm-mpirun -n N [options] PROGRAM [ARGUMENT..]\n"
@@ -21,6 +21,7 @@ static const char usage[] =
     "  --seeds N          plays N schedules by chance, by the numbers from 1 or from that of --seed on, and counts what comes out\n"
     "  --keep FILE        with --seed: writes the schedule there, an event a line; with --seeds the first one that isn't right\n"
     "  --schedule FILE    plays that schedule again\n"
+    "  --draw FILE        with --seed or --schedule: draws what happened, as a picture in SVG\n"
     "  --sends wait       MPI_Send and MPI_Isend end as MPI_Ssend and MPI_Issend do\n"
     "  --timeout S        ends the run after S seconds\n"
     "  --tag              each line of output begins with its rank\n"
@@ -28,8 +29,11 @@ static const char usage[] =
     "  --same-output      with --every-stop: what the run writes has to be the same lines too, in any order, each at least once\n"
     "  --jobs N           with --every-stop: N runs at the same time; if left out, as many as there are processors\n"
     "  --all              with --every-stop: a line for each place, not only for those where something is wrong\n"
+    "  --sample N         with --every-stop: N of the places, as far apart as can be\n"
+    "  --from K, --to K   with --every-stop: the places of the calls from the K-th on, or up to it\n"
     "  --every-schedule   plays every schedule of the program, and with a stop at each place in turn, up to the order of events that commute\n"
     "  --stops 0          with --every-schedule: without further stops\n"
+    "  --no-loss          with --every-schedule: what a rank sent before it stops comes; else the last of it may be lost, for each receiver apart\n"
     "  --limit N          with --every-schedule: at most N schedules at each place (10000)\n"
     "  --rounds N         agreements that can be made on each communicator (1024)\n"
     "  --version          tells the version\n"
@@ -100,8 +104,10 @@ static bool read_flag(const char *word) {
     if (!strcmp(word, "--tag")) options.tag = true;
     else if (!strcmp(word, "--every-stop")) options.every_stop = true;
     else if (!strcmp(word, "--every-schedule")) options.every_schedule = true;
+    else if (!strcmp(word, "--no-loss")) options.no_loss = true;
     else if (!strcmp(word, "--same-output")) options.same_output = true;
     else if (!strcmp(word, "--all")) options.all = true;
+    else if (!strcmp(word, "--calls")) options.calls = true;
     else return false;
     return true;
 }
@@ -123,6 +129,11 @@ static bool read_value(const char *word, const char *value) {
     if (!strcmp(word, "--yields")) return read_number(value, 1, 2000000000, &number) && (options.yields = (uint64_t)number);
     if (!strcmp(word, "--schedule")) return (options.schedule = value) && (is_played = true);
     if (!strcmp(word, "--keep")) return (options.keep = value) != 0;
+    if (!strcmp(word, "--from")) return read_number(value, 1, 1000000000, &number) && (options.first_call = (int)number);
+    if (!strcmp(word, "--to")) return read_number(value, 1, 1000000000, &number) && (options.last_call = (int)number);
+    if (!strcmp(word, "--sample")) return read_number(value, 1, 1000000000, &number) && (options.sample = (int)number);
+    if (!strcmp(word, "--branches")) return read_number(value, 0, 65535, &number) && (options.branches = (int)number) >= 0;
+    if (!strcmp(word, "--draw")) return (options.draw = value) != 0;
     if (!strcmp(word, "--jobs")) return read_number(value, 1, 1024, &number) && (options.jobs = (int)number);
     if (!strcmp(word, "--rounds")) return read_number(value, 1, 65535, &number) && (options.rounds = (int)number);
     if (!strcmp(word, "--report")) return read_number(value, 0, 65535, &number) && (options.report = (int)number) >= 0;
@@ -147,6 +158,8 @@ static int refuse_clash(void) {
     if (options.every_schedule && by_chance) return refuse("--every-schedule doesn't go with", "--seed or --seeds");
     if (options.every_schedule && options.every_stop) return refuse("--every-schedule doesn't go with", "--every-stop");
     if (options.every_stop && options.seeds) return refuse("--every-stop plays each place once, which doesn't go with", "--seeds");
+    if (!options.every_stop && (options.first_call || options.last_call || options.sample)) return refuse("--sample, --from and --to go with", "--every-stop");
+    if (options.draw && (!is_played || options.seeds || options.every_stop || options.every_schedule)) return refuse("one schedule is drawn, by --seed or --schedule, and not by", "--draw");
     if (options.keep && (!is_played || options.every_stop)) return refuse("one schedule by chance is kept, by --seed alone, and not by", "--keep");
     return 0;
 }

@@ -1,4 +1,4 @@
-/* What loops of calls that look take of a processor: seconds of its own, so that other work doesn't matter. For 4 ranks. */
+/* What loops of calls that look take of a processor: seconds of its own, so that other work doesn't matter. For 4 ranks. With a word it looks at no clock. */
 #define _GNU_SOURCE
 #include "check.h"
 #include <sched.h>
@@ -6,12 +6,12 @@
 #include <unistd.h>
 
 enum { MANY = 4000 };
-static int rank, size;
+static int rank, size, is_timed;
 static MPI_Comm world = MPI_COMM_WORLD;
 
 static double spent(clockid_t clock) {
-    struct timespec time;
-    clock_gettime(clock, &time);
+    struct timespec time = {0};
+    if (is_timed) clock_gettime(clock, &time);
     return (double)time.tv_sec + 1e-9 * (double)time.tv_nsec;
 }
 
@@ -38,7 +38,7 @@ static void many(void) {
     double begin = spent(CLOCK_THREAD_CPUTIME_ID);
     for (int k = 0; rank == 0 && k < MANY; k++) MPI_Testany(MANY, none, &index, &flag, MPI_STATUS_IGNORE);
     took[2] = spent(CLOCK_THREAD_CPUTIME_ID) - begin;
-    CHECK(rank || (took[0] < 6 * took[2] && took[1] < 8 * took[2]));
+    CHECK(rank || !is_timed || (took[0] < 6 * took[2] && took[1] < 8 * took[2]));
 }
 
 /* A number goes round from rank to rank, each of which looks for it in a loop. All of them share one processor, which each that finds nothing gives away. */
@@ -75,6 +75,7 @@ static void share_processor(void) {
 
 int main(int argc, char **argv) {
     int all = 0;
+    is_timed = argc == 1;
     MPI_Init(&argc, &argv);
     MPI_Comm_rank(world, &rank);
     MPI_Comm_size(world, &size);

@@ -45,7 +45,7 @@ static int told(struct step *step, const ulfm_status *status, const uint8_t *bod
 static uint32_t positions(uint32_t me, uint32_t comm, const ulfm_group *some, bool rising, uint32_t *found) {
     ulfm_group all;
     uint32_t count = 0;
-    if (ulfm_group_of(&slots[me], comm, &all)) give_up("no group", me, "");
+    if (ulfm_group_of(slot_of(me), comm, &all)) give_up("no group", me, "");
     for (uint32_t k = 0; k < (rising ? all.size : some->size); k++)
         for (uint32_t i = 0; i < (rising ? some->size : all.size); i++)
             if (rising ? all.members[k] == some->members[i] : some->members[k] == all.members[i]) found[count++] = rising ? k : i;
@@ -55,115 +55,115 @@ static uint32_t positions(uint32_t me, uint32_t comm, const ulfm_group *some, bo
 /* ---- Steps: each answers, or says that it is OPEN ---- */
 
 /* The number of the request or message of a step that is named, where that step has the op. */
-static uint64_t named(const struct rank *rank, const struct step *step, const char *op) {
-    return step->who < rank->count && !strcmp(rank->steps[step->who].op, op) ? rank->steps[step->who].number : NONE;
+static uint64_t named(const struct actor *actor, const struct step *step, const char *op) {
+    return step->who < actor->count && !strcmp(actor->steps[step->who].op, op) ? actor->steps[step->who].number : NONE;
 }
 
-static int receive(struct rank *rank, struct step *step) {
-    uint32_t code = ulfm_irecv(&slots[rank->me], step->comm, step->who, step->tag, step->more, &step->number);
+static int receive(struct actor *actor, struct step *step) {
+    uint32_t code = ulfm_irecv(slot_of(actor->me), step->comm, step->who, step->tag, step->more, &step->number);
     return plainly(step, code, "posted");
 }
 
-static int look(struct rank *rank, struct step *step) {
+static int look(struct actor *actor, struct step *step) {
     ulfm_status status;
-    uint32_t code = ulfm_improbe(&slots[rank->me], step->comm, step->who, step->tag, &step->number, &status);
+    uint32_t code = ulfm_improbe(slot_of(actor->me), step->comm, step->who, step->tag, &step->number, &status);
     if (code == ULFM_NOT_YET) return OPEN;
     if (code) return refused(step, code);
     snprintf(step->answer, sizeof step->answer, "found from %u tag %u length %u", status.source, status.tag, (unsigned)status.length);
     return 0;
 }
 
-static int end_receive(struct rank *rank, struct step *step) {
+static int end_receive(struct actor *actor, struct step *step) {
     ulfm_status status;
     uint8_t body[MOST_BYTES];
     bool is_wait = *step->op == 'w';
-    uint64_t number = named(rank, step, "recv");
-    uint32_t code = is_wait ? ulfm_test(&slots[rank->me], number, &status, body, sizeof body)
-                            : ulfm_cancel(&slots[rank->me], number, &status, body, sizeof body);
+    uint64_t number = named(actor, step, "recv");
+    uint32_t code = is_wait ? ulfm_test(slot_of(actor->me), number, &status, body, sizeof body)
+                            : ulfm_cancel(slot_of(actor->me), number, &status, body, sizeof body);
     if (is_wait && code == ULFM_NOT_YET) return OPEN;
     if (is_wait && code == ULFM_PENDING) return answered(step, "pending");
     if (code) return refused(step, code);
     return status.cancelled ? answered(step, "cancelled") : told(step, &status, body);
 }
 
-static int get_message(struct rank *rank, struct step *step) {
+static int get_message(struct actor *actor, struct step *step) {
     ulfm_status status;
     uint8_t body[MOST_BYTES];
-    uint32_t code = ulfm_mrecv(&slots[rank->me], named(rank, step, "probe"), &status, body, step->more);
+    uint32_t code = ulfm_mrecv(slot_of(actor->me), named(actor, step, "probe"), &status, body, step->more);
     return code ? refused(step, code) : told(step, &status, body);
 }
 
-static int tell_failed(struct rank *rank, struct step *step) {
+static int tell_failed(struct actor *actor, struct step *step) {
     ulfm_group failed;
-    uint32_t found[MOST_RANKS], code = ulfm_get_failed(&slots[rank->me], step->comm, &failed);
-    return code ? refused(step, code) : listed(step, "ranks", found, positions(rank->me, step->comm, &failed, false, found), "");
+    uint32_t found[MOST_ACTORS], code = ulfm_get_failed(slot_of(actor->me), step->comm, &failed);
+    return code ? refused(step, code) : listed(step, "ranks", found, positions(actor->me, step->comm, &failed, false, found), "");
 }
 
-static int acknowledge(struct rank *rank, struct step *step) {
-    uint32_t total, code = ulfm_ack_failed(&slots[rank->me], step->comm, step->more, &total);
+static int acknowledge(struct actor *actor, struct step *step) {
+    uint32_t total, code = ulfm_ack_failed(slot_of(actor->me), step->comm, step->more, &total);
     if (code) return refused(step, code);
     snprintf(step->answer, sizeof step->answer, "acked %u", total);
     return 0;
 }
 
-static int duplicate(struct rank *rank, struct step *step) {
-    uint32_t made, code = ulfm_dup(&slots[rank->me], step->comm, &made);
+static int duplicate(struct actor *actor, struct step *step) {
+    uint32_t made, code = ulfm_dup(slot_of(actor->me), step->comm, &made);
     if (code) return refused(step, code);
     snprintf(step->answer, sizeof step->answer, "comm %u", made);
     return 0;
 }
 
-static int shrink(struct rank *rank, struct step *step) {
+static int shrink(struct actor *actor, struct step *step) {
     ulfm_group group;
-    uint32_t made, position, members[MOST_RANKS], code;
+    uint32_t made, position, members[MOST_ACTORS], code;
     char first[64], rest[64];
     if (!step->is_entered) {
-        code = ulfm_enter_shrink(&slots[rank->me], step->comm);
+        code = ulfm_enter_shrink(slot_of(actor->me), step->comm);
         step->is_entered = true;
         return code ? refused(step, code) : OPEN;
     }
-    code = ulfm_poll_shrink(&slots[rank->me], step->comm, &made);
+    code = ulfm_poll_shrink(slot_of(actor->me), step->comm, &made);
     if (code == ULFM_NOT_YET) return OPEN;
     if (code) return refused(step, code);
-    if (ulfm_group_of(&slots[rank->me], made, &group) || ulfm_position(&slots[rank->me], made, &position)) give_up("no group", rank->me, "shrink");
+    if (ulfm_group_of(slot_of(actor->me), made, &group) || ulfm_position(slot_of(actor->me), made, &position)) give_up("no group", actor->me, "shrink");
     for (uint32_t k = 0; k < group.size; k++) members[k] = group.members[k];
     snprintf(first, sizeof first, "comm %u ranks", made);
     snprintf(rest, sizeof rest, " me %u", position);
     return listed(step, first, members, group.size, rest);
 }
 
-static int agree(struct rank *rank, struct step *step) {
+static int agree(struct actor *actor, struct step *step) {
     ulfm_group missing;
-    uint32_t value, found[MOST_RANKS], code;
+    uint32_t value, found[MOST_ACTORS], code;
     char first[64];
     if (!step->is_entered) {
-        code = ulfm_enter_agree(&slots[rank->me], step->comm, step->more);
+        code = ulfm_enter_agree(slot_of(actor->me), step->comm, step->more);
         step->is_entered = true;
         return code ? refused(step, code) : OPEN;
     }
-    code = ulfm_poll_agree(&slots[rank->me], step->comm, &value, &missing);
+    code = ulfm_poll_agree(slot_of(actor->me), step->comm, &value, &missing);
     if (code == ULFM_NOT_YET) return OPEN;
     if (code) return refused(step, code);
     snprintf(first, sizeof first, "agreed %u without", value);
-    return listed(step, first, found, positions(rank->me, step->comm, &missing, true, found), "");
+    return listed(step, first, found, positions(actor->me, step->comm, &missing, true, found), "");
 }
 
-int poll_step(struct rank *rank, struct step *step) {
-    ulfm_slot *slot = &slots[rank->me];
+int poll_step(struct actor *actor, struct step *step) {
+    ulfm_slot *slot = slot_of(actor->me);
     const char *op = step->op;
     if (!strcmp(op, "send")) return plainly(step, ulfm_isend(slot, step->comm, step->who, step->tag, step->body, step->length), "sent");
     if (!strcmp(op, "revoke")) return plainly(step, ulfm_revoke(slot, step->comm), "revoked");
     if (!strcmp(op, "note")) return answered(step, "noted");
     if (!strcmp(op, "stop")) return plainly(step, ulfm_stop(slot), "stopped");
-    if (!strcmp(op, "recv")) return receive(rank, step);
-    if (!strcmp(op, "wait") || !strcmp(op, "cancel")) return end_receive(rank, step);
-    if (!strcmp(op, "probe")) return look(rank, step);
-    if (!strcmp(op, "mrecv")) return get_message(rank, step);
-    if (!strcmp(op, "failed")) return tell_failed(rank, step);
-    if (!strcmp(op, "ack")) return acknowledge(rank, step);
-    if (!strcmp(op, "dup")) return duplicate(rank, step);
-    if (!strcmp(op, "shrink")) return shrink(rank, step);
-    if (!strcmp(op, "agree")) return agree(rank, step);
-    give_up("no such op", rank->me, op);
+    if (!strcmp(op, "recv")) return receive(actor, step);
+    if (!strcmp(op, "wait") || !strcmp(op, "cancel")) return end_receive(actor, step);
+    if (!strcmp(op, "probe")) return look(actor, step);
+    if (!strcmp(op, "mrecv")) return get_message(actor, step);
+    if (!strcmp(op, "failed")) return tell_failed(actor, step);
+    if (!strcmp(op, "ack")) return acknowledge(actor, step);
+    if (!strcmp(op, "dup")) return duplicate(actor, step);
+    if (!strcmp(op, "shrink")) return shrink(actor, step);
+    if (!strcmp(op, "agree")) return agree(actor, step);
+    give_up("no such op", actor->me, op);
     return 0;
 }

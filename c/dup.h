@@ -1,0 +1,30 @@
+/* What the members of a new communicator tell each other (dup.c, idup.c). */
+#ifndef ULFM_MPI_DUP_H
+#define ULFM_MPI_DUP_H
+
+#include "run.h"
+
+struct wish {
+    unsigned free, old;      /* the planes that can be used, and those that were made here before, as bits */
+    unsigned begun[PLANES];  /* the collectives that began on each */
+    int color, key;          /* of MPI_Comm_split */
+    _Atomic int *marks;      /* of MPI_Comm_idup, from position 0 */
+};
+
+/* What comes of their wishes. */
+struct decided {
+    int plane;
+    bool is_old;             /* a member had it before */
+    struct plans plans;
+};
+
+_Atomic int *new_marks(void);
+void wish_for(const struct chain *chain, struct wish *own);
+void decide(const struct comm *team, const struct wish *all, struct decided *decided);
+void drop_letters(const struct chain *chain, int plane);
+int release_comm(struct comm *of, MPI_Comm *handle);
+
+/* idup.c */
+void wait_for_copies(struct chain *chain);
+
+#endif
