@@ -17,7 +17,7 @@ DONE, USAGE, INPUT_FAILED = 0, 2, 5
 # From here on two names are alike.
 ALIKE = 0.7
 # The values that a page gives no range for.
-FREE = {"GOALS": r"[^-].*", "PLACE": r"-|[0-7]\.\d{1,3}\*?"}
+FREE = {"GOALS": r"[^-].*", "PAGE": r"[^-].*", "PLACE": r"-|[0-7]\.\d{1,3}\*?"}
 
 
 class Page:
@@ -91,8 +91,8 @@ def alike(word, names):
 def refused(message, usage, tip=""):
     """What is said of a command line that can't be followed."""
     told = " ".join(line.strip() for line in message.splitlines())
-    tip = f"\n\n  tip: {tip}" if tip else ""
-    return Answer(USAGE, f"error: {message}{tip}\n\nUsage: {usage}\n\nFor more information, try '--help'.\n", f"ulfm: {told}\n")
+    below, beside = (f"\n\n  tip: {tip}", f"; {tip}") if tip else ("", "")
+    return Answer(USAGE, f"error: {message}{below}\n\nUsage: {usage}\n\nFor more information, try '--help'.\n", f"ulfm: {told}{beside}\n")
 
 
 def no_command():
@@ -115,7 +115,7 @@ def unknown_option(of, word, used=(), has_file=False):
     if near:
         tip = f"a similar argument exists: '--{near[0]}'"
     else:
-        tip = f"to pass '{shown}' as a value, use '-- {shown}'" if of is not page() else ""
+        tip = f"to pass '{shown}' as a value, use '-- {shown}'" if of is not page() and shown.endswith(".toml") else ""
     return refused(f"unexpected argument '{shown}' found", usage, tip)
 
 

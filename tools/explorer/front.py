@@ -203,6 +203,44 @@ def expected(text):
     return {(step["rank"], number): step["expect"] for step, number, _ in numbered(tomllib.loads(text)) if "expect" in step}
 
 
+def over_ranks(row, ranks, named):
+    """The rows for which one stands: `all` is one rank, and `any` another, that have steps of the names that it says."""
+    parts = [text.split(".", 1) for text in row]
+    words = {word for word, _ in parts} & {"all", "any"}
+    found = []
+    for first in range(ranks if words else 0):
+        for second in range(ranks):
+            given = {"all": first, "any": second}
+            is_there = all((given[word], rest.split(" ", 1)[0]) in named for word, rest in parts if word in given)
+            if is_there and (first != second) == (len(words) == 2):
+                found.append([f"{given.get(word, word)}.{rest}" for word, rest in parts])
+    return found or [row]
+
+
+def stands_for(row, text):
+    """Whether a row over ranks stands for some of a job's text."""
+    import tomllib
+
+    job = tomllib.loads(text)
+    return over_ranks(row, job["ranks"], {(step["rank"], step["name"]) for step, _, _ in numbered(job) if "name" in step}) != [row]
+
+
+def rows(text):
+    """The rows of `never` of a job's text, written out for ranks, by the numbers of steps."""
+    import tomllib
+
+    job = tomllib.loads(text)
+    named = {(step["rank"], step["name"]): number for step, number, _ in numbered(job) if "name" in step}
+    return [[by_number(answer, named) for answer in one] for row in job.get("never", []) for one in over_ranks(row, job["ranks"], named)]
+
+
+def by_number(answer, named):
+    """An answer of a row, by the number of its step."""
+    place, words = answer.split(" ", 1)
+    rank, step = place.split(".")
+    return f"{rank}.{step if step.isdigit() else named[int(rank), step]} {words}"
+
+
 def is_met(expectations, head, answer):
     """Whether an answer is one that its step expects, by the words before the colon. A skipped step is asked nothing."""
     rank, number = map(int, head.split()[:2])

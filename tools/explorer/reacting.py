@@ -1,6 +1,8 @@
 """Names, conditions and expectations for the steps of made-up jobs."""
 import collections
 
+import front
+
 # Words with which the answers of an op may begin.
 WORDS = {
     "send": ["sent", "refused", "refused 5", "refused 6 Revoked"],
@@ -84,4 +86,27 @@ def rows(chance, steps):
         first, second = chance.choices(steps, weights)[0], chance.choice(steps)
         if first != second:
             found.append([f"{rank}.{number} {chance.choice([*WORDS[op], 'skipped'])}" for rank, number, op in (first, second)])
+    return found
+
+
+def steps_named(text):
+    """The steps of a job's text that have a name: their ops, by the name."""
+    import tomllib
+
+    found = collections.defaultdict(list)
+    for step in tomllib.loads(text).get("step", []):
+        if "name" in step:
+            found[step["name"]].append(step["op"])
+    return found
+
+
+def rows_over(chance, text):
+    """Up to two rows over ranks for a job's text, of steps that have the same op wherever they have the same name."""
+    named = {name: ops[0] for name, ops in steps_named(text).items() if len(set(ops)) == 1}
+    found = []
+    for words in chance.sample([["all", "any"], ["all", "all"], ["any", "all"]], 2 if named else 0):
+        names = chance.choices(sorted(named), k=2)
+        row = [f"{word}.{name} {chance.choice([*WORDS[named[name]], 'skipped'])}" for word, name in zip(words, names)]
+        if front.stands_for(row, text):
+            found.append(row)
     return found

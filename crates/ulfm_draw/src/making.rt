@@ -45,6 +45,9 @@ pub(crate) fn picture_of<'a>(
 fn add_move(picture: &mut Picture<'_>, moved: &Move) -> Result<(), AllocError> {
     let alloc = *picture.rows.allocator();
     let rank = moved.rank as usize;
+    if is_skipped_behind(picture, moved) {
+        return Ok(());
+    }
     let mut row = match &moved.deed {
         Deed::Left(_, _) => return Ok(()),
         Deed::Took(from, cargo) => taken(alloc, rank, *from, *cargo)?,
@@ -59,6 +62,23 @@ fn add_move(picture: &mut Picture<'_>, moved: &Move) -> Result<(), AllocError> {
     send(picture, moved)
 }
 
+/// Whether a step is skipped right behind another one, whose row then stands for both.
+fn is_skipped_behind(picture: &mut Picture<'_>, moved: &Move) -> bool {
+    let Deed::Answered(step, report) = &moved.deed else {
+        return false;
+    };
+    if mark_by(&report.answer) != Mark::Skip {
+        return false;
+    }
+    match picture.last_row_of(moved.rank as usize) {
+        Some(row) if row.mark == Some(Mark::Skip) && row.through.saturating_add(1) == *step => {
+            row.through = *step;
+            true
+        }
+        _ => false,
+    }
+}
+
 /// The row of an item that a rank took.
 fn taken(alloc: Global, rank: usize, from: u8, cargo: Cargo) -> Result<Row, AllocError> {
     let mut words = String::new(alloc);
@@ -66,6 +86,7 @@ fn taken(alloc: Global, rank: usize, from: u8, cargo: Cargo) -> Result<Row, Allo
     Ok(Row {
         rank,
         step: 0,
+        through: 0,
         mark: None,
         taken: Some(kind_of(cargo)),
         words,
@@ -79,6 +100,7 @@ fn opened(alloc: Global, rank: usize, step: usize, call: &NotedStep) -> Result<R
     Ok(Row {
         rank,
         step,
+        through: step,
         mark: Some(Mark::Open),
         taken: None,
         words: format!(in alloc; "{call}")?,
@@ -99,6 +121,7 @@ fn answered(
     Ok(Row {
         rank,
         step,
+        through: step,
         mark: Some(mark_by(&report.answer)),
         taken: None,
         words: format!(in alloc; "{}", report.step)?,

@@ -50,6 +50,17 @@ impl<'a> Picture<'a> {
         self.rows.len().saturating_sub(1)
     }
 
+    /// The last row of a rank, if it has one.
+    pub(crate) fn last_row_of(&mut self, rank: usize) -> Option<&mut Row> {
+        let mut last = None;
+        for (number, row) in self.rows.iter().enumerate() {
+            if row.rank == rank {
+                last = Some(number);
+            }
+        }
+        self.rows.get_mut(last?)
+    }
+
     /// Whether a rank ended by its stop.
     pub(crate) fn has_stopped(&self, rank: usize) -> bool {
         self.ends.get(rank) == Some(&End::Stopped)

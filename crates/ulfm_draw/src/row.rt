@@ -9,6 +9,8 @@ pub(crate) struct Row {
     pub(crate) rank: usize,
     /// The step of an answer or an opening, from 0.
     pub(crate) step: usize,
+    /// The last step that it stands for: the same, but where more steps were skipped behind it.
+    pub(crate) through: usize,
     /// Its mark. Where an item was taken, the head of its arrow is one.
     pub(crate) mark: Option<Mark>,
     /// The kind of the item that was taken, where one was.

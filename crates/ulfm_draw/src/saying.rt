@@ -17,9 +17,13 @@ pub(crate) fn subject(alloc: Global, row: &Row) -> Result<String, AllocError> {
     }
 }
 
-/// A step by its place and its words. A bare number looks like that of a rank, so what it is stands before it.
+/// A step by its place and its words, or several that were skipped by their places. A bare number looks like that of a rank, so what it is
+/// stands before it.
 fn step(alloc: Global, row: &Row) -> Result<String, AllocError> {
     let (rank, step) = (row.rank, row.step);
+    if row.through > step {
+        return format!(in alloc; "{rank}.{step} to {rank}.{}", row.through);
+    }
     let (op, rest) = row
         .words
         .split_once(" ")

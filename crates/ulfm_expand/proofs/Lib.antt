@@ -6,3 +6,4 @@ pub mod Unguarded
 pub mod Iterations
 pub mod Blocks
 pub mod Beside
+pub mod Over

@@ -8,7 +8,7 @@ use Rattle.std.specs.Ordering.{match_ordering}
 use Rattle.std.specs.String.{string_cmp}
 use Rattle.toml.specs.Data.{Data, Items, string, integer, float, boolean, datetime, array, table, as_array, as_integer, as_str}
 use Rattle.ulfm_expand.proofs.Common.{Value, items_view, members_view, view}
-use Rattle.ulfm_expand.specs.Members.{listed, put}
+use Rattle.ulfm_expand.specs.Members.{list_in, listed, put}
 use Rattle.ulfm_expand.specs.Ranks.{numbers, several}
 
 members_of-cases : (o : Ordering) (a b c : List (String Global × Value)) → members_view (match_ordering o a b c) ≡ match_ordering o (members_view a) (members_view b) (members_view c)
@@ -26,9 +26,9 @@ pub listed-view : (vs : List Value) → listed (items_view vs) ≡ map view vs
 listed-view [] = refl
 listed-view (v ∷ vs) = ap (λ ds. view v ∷ ds) (listed-view vs)
 
-pub all-view : (p : Data → Bool) (vs : List Value) → list_all p (map view vs) ≡ list_all (λ v. p (view v)) vs
-all-view p [] = refl
-all-view p (v ∷ vs) = ap (λ b. p (view v) && b) (all-view p vs)
+pub all_view : (p : Data → Bool) (vs : List Value) → list_all p (map view vs) ≡ list_all (λ v. p (view v)) vs
+all_view p [] = refl
+all_view p (v ∷ vs) = ap (λ b. p (view v) && b) (all_view p vs)
 
 pub found-view : {X : Type 0} (f : Data → Option X) (vs : List Value) → filter_map f (map view vs) ≡ filter_map (λ v. f (view v)) vs
 found-view f [] = refl
@@ -36,7 +36,7 @@ found-view f (v ∷ vs) = rw (found-view f vs) refl
 
 -- the numbers of values, by whether there is nothing else
 pub numbers-if : (vs : List Value) (are : Bool) → are ≡ list_all (λ v. is_some (as_integer (view v))) vs → numbers (map view vs) ≡ cond are (filter_map (λ v. as_integer (view v)) vs) []
-numbers-if vs are is = rw (all-view (λ d. is_some (as_integer d)) vs, ← is, found-view as_integer vs) refl
+numbers-if vs are is = rw (all_view (λ d. is_some (as_integer d)) vs, ← is, found-view as_integer vs) refl
 
 -- an array is no text
 no_text : (d : Data) (ds : Items) → as_array d ≡ Some ds → as_str d ≡ None
@@ -55,3 +55,7 @@ several-array ranks d vs is = rw (is, no_text d (items_view vs) is, listed-view 
 -- the steps of a table
 pub steps-found : (vs : List Value) (d : Data) (found : Option Data) → Some d ≡ found → Some (items_view vs) ≡ as_array d → Some (map view vs) ≡ option_map listed (option_and_then as_array found)
 steps-found vs d found a b = rw (← a, ← b, listed-view vs) refl
+
+-- the list of an array
+pub list-found : (vs : List Value) (d : Data) → Some (items_view vs) ≡ as_array d → Some (map view vs) ≡ list_in d
+list-found vs d is = rw (← is, listed-view vs) refl

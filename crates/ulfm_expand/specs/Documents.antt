@@ -5,6 +5,7 @@ use Rattle.toml.specs.Data.{Data, array, Members, get_member, as_integer}
 use Rattle.toml.specs.View.{items_of}
 use Rattle.ulfm_expand.specs.Lines.{Line, steps_of, written_out}
 use Rattle.ulfm_expand.specs.Members.{list_at, put}
+use Rattle.ulfm_expand.specs.Rows.{rows_out}
 
 -- how many ranks a job has that says so; eight where it doesn't
 abbrev pub ranks_or_eight : Option ℤ → ℕ
@@ -32,6 +33,16 @@ abbrev pub with_lines : Members → Option (List Line) → Members
 with_lines ms None = ms
 with_lines ms (Some lines) = put (codes "step") (array (items_of (steps_of lines))) ms
 
--- a job's table with its steps written out; as it is where it has no array of them, or more than 256
+-- the rows of a job's table of these lines, written out, where it has an array of them, and they aren't more than 1024
+abbrev pub rows_in : Members → Option (List Line) → Option (List Data)
+rows_in ms None = None
+rows_in ms (Some lines) = option_and_then (rows_out lines (ranks_in ms)) (list_at (codes "never") ms)
+
+-- a job's table with these rows
+abbrev pub with_rows : Members → Option (List Data) → Members
+with_rows ms None = ms
+with_rows ms (Some rows) = put (codes "never") (array (items_of rows)) ms
+
+-- a job's table with its steps and its rows written out; as it is where it has no array of steps, or more than 256
 abbrev pub written_job : Members → Members
-written_job ms = with_lines ms (lines_in ms)
+written_job ms = with_rows (with_lines ms (lines_in ms)) (rows_in ms (lines_in ms))

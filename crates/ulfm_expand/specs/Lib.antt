@@ -7,4 +7,5 @@ pub mod Blocks
 pub mod Together
 pub mod Guards
 pub mod Lines
+pub mod Rows
 pub mod Documents

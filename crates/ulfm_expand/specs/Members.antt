@@ -27,6 +27,10 @@ abbrev pub listed : Items → List Data
 listed no_items = []
 listed (item d ds) = d ∷ listed ds
 
+-- the list that an array is
+abbrev pub list_in : Data → Option (List Data)
+list_in d = option_map listed (as_array d)
+
 -- the list at a key, where there is an array
 abbrev pub list_at : List ℕ → Members → Option (List Data)
 list_at key ms = option_map listed (option_and_then as_array (get_member key ms))

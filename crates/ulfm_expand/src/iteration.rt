@@ -64,7 +64,7 @@ pub fn is_rank(rank: i64, own: Option<i64>) -> bool
 }
 
 /// Whether a step of this rank has this name.
-fn is_named(rank: i64, name: &str, step: &Value) -> bool
+pub fn is_named(rank: i64, name: &str, step: &Value) -> bool
     ensures { result ≡ is_named rank name.now (as_table (view step.now)) }
 {
     match step.as_table() {

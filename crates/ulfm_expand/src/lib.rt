@@ -17,6 +17,8 @@ mod iteration;
 mod line;
 mod members;
 mod ranks;
+mod row_words;
+mod rows;
 mod shared;
 mod tags;
 mod together;
@@ -25,5 +27,7 @@ mod written;
 
 pub use documents::{ranks_in, written_job};
 pub use line::Line;
+pub use members::text_in;
+pub use rows::{MOST_ROWS, rows_out};
 pub use unwritten::Unwritten;
 pub use written::written_out;

@@ -3,7 +3,7 @@ ghost use Rattle.std.specs.Prelude.{◌≡◌, map, option_map, OnOk};
 ghost use Rattle.std.specs.Option.{option_copied};
 ghost use Rattle.toml.specs.Data.{get_member};
 ghost use Rattle.toml.specs.View.{view, table_view};
-ghost use Rattle.ulfm_expand.specs.Members.{list_at, put, put_if_some, text_at, text_in};
+ghost use Rattle.ulfm_expand.specs.Members.{list_at, list_in, put, put_if_some, text_at, text_in};
 
 use std::alloc::{AllocError, Global};
 use toml::{Table, Value};
@@ -37,6 +37,16 @@ pub fn value_at<'a>(table: &'a Table, key: &str) -> Option<&'a Value>
     ensures { option_map (λ v. view v.now) result ≡ get_member key.now (table_view table.now) }
 {
     table.get(key)
+}
+
+/// The list that an array is.
+pub fn list_in(value: &Value) -> Option<&[Value]>
+    ensures { option_map (λ items. map view items.now) result ≡ list_in (view value.now) }
+{
+    match value.as_array() {
+        Some(items) => Some(items.as_slice()),
+        None => None,
+    }
 }
 
 /// The list at a key, where there is an array.

@@ -34,6 +34,16 @@ pub fn beginnings(op: &str, key: Key) -> [&'static [&'static str]; 3] {
     [own_answers(op), unplayed_answers(op, key), refusals]
 }
 
+/// Whether an answer of an op ever begins with these words, with which a job may let it begin: only what takes a message is over.
+pub fn comes(op: &str, words: &str) -> bool {
+    matches!(op, "wait" | "mrecv" | "cancel") || !words.starts_with("over")
+}
+
+/// Whether no answer of an op may begin so, but one of the wait for it.
+pub fn is_of_wait(op: &str, words: &str) -> bool {
+    op == "recv" && is_alike(own_answers("wait"), words)
+}
+
 /// Whether an answer of an op for which words at a key may ask may begin with these.
 pub fn may_begin(op: &str, key: Key, words: &str) -> bool {
     beginnings(op, key)

@@ -1,6 +1,6 @@
 //! What is wrong with the name of a step, with its conditions, and with what it expects.
 
-use crate::answers::may_begin;
+use crate::answers::{is_of_wait, may_begin};
 use crate::cause::Cause;
 use crate::explanation::StepPlace;
 use crate::findings::Findings;
@@ -250,7 +250,12 @@ impl Asker<'_> {
                 Some(words) => {
                     if !may_begin(op, key, words) {
                         let shown = Shown::new(findings.alloc, words)?;
-                        self.tell(findings, at, Cause::NoAnswer(key, shown, op))?;
+                        let cause = if is_of_wait(op, words) {
+                            Cause::OfWait(key, shown)
+                        } else {
+                            Cause::NoAnswer(key, shown, op)
+                        };
+                        self.tell(findings, at, cause)?;
                     }
                 }
             }

@@ -1,5 +1,6 @@
 //! What is wrong with a job.
 
+use crate::block::BlockFault;
 use crate::doom::Doom;
 use crate::kind::Kind;
 use crate::line::{Line, Part};
@@ -7,9 +8,10 @@ use crate::rules::{Key, Rules};
 use crate::shown::Shown;
 use std::fmt;
 use toml::de::Error;
+use ulfm_expand::MOST_ROWS;
 use ulfm_job::limits::{
-    FEWEST_OF_ROW, MOST_BYTES, MOST_ITEMS, MOST_LABEL, MOST_NAME, MOST_OF_ROW, MOST_ROWS,
-    MOST_STEPS, MOST_WORDS,
+    FEWEST_OF_ROW, MOST_BYTES, MOST_ITEMS, MOST_LABEL, MOST_NAME, MOST_OF_ROW, MOST_STEPS,
+    MOST_WORDS,
 };
 
 /// What is wrong.
@@ -19,6 +21,10 @@ pub enum Cause {
     NotUtf8,
     /// No TOML, and what stands there.
     NotToml(Error, Shown),
+    /// The text of a program.
+    Program,
+    /// No step at all.
+    NoSteps,
     /// More bytes than a job may have.
     TooManyBytes,
     /// More steps than a job may have.
@@ -26,7 +32,7 @@ pub enum Cause {
     /// More steps than a job may have, once they are written out.
     TooManyWritten,
     /// A block of steps that isn't one.
-    NoBlock,
+    NoBlock(BlockFault),
     /// A required key is missing, which has to be of this kind.
     Missing(Key, Kind),
     /// A required key of the job is missing, and stands in a step.
@@ -43,6 +49,8 @@ pub enum Cause {
     OutOfRange(Key, i64, Kind),
     /// An op that there isn't, and the nearest one.
     UnknownOp(Shown, Option<&'static str>),
+    /// A call of MPI that no op does, and what a job has in its place.
+    NoOp(Shown, &'static str),
     /// A text that can't be a name.
     NoName(Shown),
     /// A text that can't be that of a note.
@@ -59,14 +67,20 @@ pub enum Cause {
     Together(usize),
     /// Words with which no answer of this op begins.
     NoAnswer(Key, Shown, &'static str),
-    /// So many rows of `never`, where 1 to 32 may be.
+    /// Words with which no answer of a receive begins, but one of its wait.
+    OfWait(Key, Shown),
+    /// So many rows of `never`, where 1 to 1024 may be.
     Rows(usize),
+    /// More rows of `never` than that, written out.
+    ManyRows,
     /// A row of this number has so many texts, where 2 to 8 may be.
     RowLength(usize, usize),
     /// A text of a row that isn't written as one.
     NoPlace(Shown),
     /// A text of a row whose step there isn't.
     NoStep(Shown),
+    /// A text of a row over ranks, where no ranks have steps of the names that the row says.
+    NoRanks(Shown),
     /// Words of so many bytes, where 1024 are the most.
     LongWords(Key, usize),
     /// The step can be read, and will be refused when it runs; the name of the other step of which that tells.
@@ -79,6 +93,12 @@ impl Cause {
         match self {
             Cause::NotUtf8 => Line::Plain("this byte is no UTF-8; save the file as UTF-8"),
             Cause::NotToml(error, rest) => Line::One("{}", Part::Broken(error, rest)),
+            Cause::Program => Line::Plain(
+                "this is a program in C, and no job; docs/C.md says how a program runs with a stop at every call, and docs/JOBS.md what a job is",
+            ),
+            Cause::NoSteps => Line::Plain(
+                "the job has no steps, so nothing is asked; write each below a [[step]] of its own",
+            ),
             Cause::TooManyBytes => Line::One(
                 "the text has more than {} bytes, which are the most",
                 Part::Count(MOST_BYTES),
@@ -93,10 +113,7 @@ impl Cause {
                 Part::Count(MOST_STEPS),
                 Part::Count(MOST_STEPS),
             ),
-            Cause::NoBlock => Line::One(
-                "this is no block: it has to have 'steps', a list of one or more, and 'repeat', an integer from 1 to {}, or 'on_error', the name of a later step of the file, before which no other block has one, or both, and nothing else",
-                Part::Count(MOST_STEPS),
-            ),
+            Cause::NoBlock(fault) => fault.line(),
             Cause::Missing(Key::Op, _) => Line::One(
                 "key 'op' is missing; the ops are {}",
                 Part::Ops,
@@ -144,6 +161,12 @@ impl Cause {
                 Part::Meant(*nearest),
                 Part::Ops,
             ),
+            Cause::NoOp(word, instead) => Line::Three(
+                "op '{}' is unknown{} the ops are {}",
+                Part::Text(word.as_str()),
+                Part::Text(*instead),
+                Part::Ops,
+            ),
             Cause::NoName(text) => Line::Two(
                 "name '{}' has to be 1 to {} letters, digits, '_' and '-'",
                 Part::Text(text.as_str()),
@@ -187,9 +210,20 @@ impl Cause {
                 Part::Text(*op),
                 Part::Beginnings(*op, *key),
             ),
+            Cause::OfWait(key, words) => Line::Three(
+                "key '{}' has '{}', and no answer of 'recv' begins so, but one of its 'wait': ask that step; the answers of 'recv' begin with {}",
+                Part::Key(*key),
+                Part::Text(words.as_str()),
+                Part::Beginnings("recv", *key),
+            ),
             Cause::Rows(count) => Line::Two(
                 "key 'never' has {} rows, and has to have 1 to {}",
                 Part::Count(*count),
+                Part::Count(MOST_ROWS),
+            ),
+            Cause::ManyRows => Line::Two(
+                "key 'never' has more than {} rows, one for each of the ranks for which 'all' and 'any' stand, and {} are the most",
+                Part::Count(MOST_ROWS),
                 Part::Count(MOST_ROWS),
             ),
             Cause::RowLength(row, count) => Line::Four(
@@ -205,6 +239,10 @@ impl Cause {
             ),
             Cause::NoStep(text) => Line::One(
                 "key 'never' has '{}', and there is no such step",
+                Part::Text(text.as_str()),
+            ),
+            Cause::NoRanks(text) => Line::One(
+                "key 'never' has '{}', and no ranks have steps of the names that its row says of 'all' and 'any'",
                 Part::Text(text.as_str()),
             ),
             Cause::LongWords(key, count) => Line::Three(

@@ -34,6 +34,7 @@ pub fn explain(alloc: Global, bytes: &[u8]) -> Result<Vec<Explanation>, AllocErr
     match toml::table_from_str(alloc, text) {
         Ok(table) => explain_table(alloc, text, &table),
         Err(error) => match error.span() {
+            Some(_) if is_program(text) => one(alloc, None, Cause::Program),
             Some(span) => {
                 let rest = text.get(span.start..).unwrap_or("");
                 let there = Shown::new(alloc, rest.lines().next().unwrap_or(""))?;
@@ -43,6 +44,11 @@ pub fn explain(alloc: Global, bytes: &[u8]) -> Result<Vec<Explanation>, AllocErr
             None => Err(AllocError),
         },
     }
+}
+
+/// Whether a text that is no TOML begins a line as programs in C do.
+fn is_program(text: &str) -> bool {
+    text.lines().any(|line| line.starts_with("#include") || line.starts_with("int main"))
 }
 
 /// One explanation alone.

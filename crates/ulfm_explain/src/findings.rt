@@ -14,7 +14,7 @@ use ulfm_findings::FirstTen;
 pub struct Findings<'a> {
     pub alloc: Global,
     pub text: &'a str,
-    pub lines: &'a Lines,
+    pub lines: &'a Lines<'a>,
     pub marks: Vec<Mark>,
     pub found: FirstTen<Explanation>,
     /// The places in the file of the steps that something was told of.
@@ -23,7 +23,11 @@ pub struct Findings<'a> {
 
 impl<'a> Findings<'a> {
     /// Nothing found yet, in a text with these steps.
-    pub fn new(alloc: Global, text: &'a str, lines: &'a Lines) -> Result<Findings<'a>, AllocError> {
+    pub fn new(
+        alloc: Global,
+        text: &'a str,
+        lines: &'a Lines<'a>,
+    ) -> Result<Findings<'a>, AllocError> {
         let marks = marks_of(alloc, text)?;
         Ok(Findings {
             alloc,
@@ -77,7 +81,7 @@ impl<'a> Findings<'a> {
     }
 
     /// The place in the file of a step, by its number among all that are written out.
-    fn filed_number(&self, number: usize) -> usize {
+    pub fn filed_number(&self, number: usize) -> usize {
         match self.lines.places.get(number) {
             Some(place) => *place,
             None => number,

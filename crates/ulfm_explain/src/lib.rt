@@ -7,6 +7,7 @@
 
 mod answers;
 mod asking;
+mod block;
 mod cause;
 mod check;
 mod claim;

@@ -1,6 +1,6 @@
 //! A line of text, and what stands in it.
 
-use crate::answers::beginnings;
+use crate::answers::{beginnings, comes};
 use crate::kind::Kind;
 use crate::ops::OPS;
 use crate::rules::{Key, Rules};
@@ -111,16 +111,19 @@ fn write_ops<W: fmt::Write>(f: &mut fmt::Formatter<W>) -> fmt::Result {
     Ok(())
 }
 
-/// Writes words, parted by commas, the first behind this.
+/// Writes those of these words with which answers of an op come, parted by commas, the first behind this.
 fn write_listed<W: fmt::Write>(
     f: &mut fmt::Formatter<W>,
+    op: &str,
     first: &str,
     words: &[&'static str],
 ) -> fmt::Result {
     let mut mark = first;
     for word in words {
-        write!(f, "{mark}{word}")?;
-        mark = ", ";
+        if comes(op, *word) {
+            write!(f, "{mark}{word}")?;
+            mark = ", ";
+        }
     }
     Ok(())
 }
@@ -133,7 +136,7 @@ fn write_beginnings<W: fmt::Write>(
 ) -> fmt::Result {
     let mut mark = "";
     for words in beginnings(op, key) {
-        write_listed(f, mark, words)?;
+        write_listed(f, op, mark, words)?;
         if !words.is_empty() {
             mark = ", ";
         }

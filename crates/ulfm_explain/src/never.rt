@@ -10,7 +10,8 @@ use crate::script::{Script, op_of};
 use crate::shown::Shown;
 use std::alloc::AllocError;
 use toml::{Table, Value};
-use ulfm_job::limits::{FEWEST_OF_ROW, MOST_OF_ROW, MOST_ROWS, MOST_WORDS};
+use ulfm_expand::MOST_ROWS;
+use ulfm_job::limits::{FEWEST_OF_ROW, MOST_OF_ROW, MOST_WORDS};
 
 /// Tells how many rows there are, where there may not be so many, and then what is wrong with each, after all steps.
 pub fn explain_never(
@@ -18,12 +19,15 @@ pub fn explain_never(
     steps: &[Value],
     table: &Table,
 ) -> Result<(), AllocError> {
-    let Some(rows) = list_at(table, "never") else {
+    let Some(filed) = list_at(table, "never") else {
         return Ok(());
     };
-    if rows.is_empty() || rows.len() > MOST_ROWS {
-        return tell(findings, Cause::Rows(rows.len()));
+    if filed.is_empty() || filed.len() > MOST_ROWS {
+        return tell(findings, Cause::Rows(filed.len()));
     }
+    let Some(rows) = &findings.lines.rows else {
+        return tell(findings, Cause::ManyRows);
+    };
     for (number, row) in rows.iter().enumerate() {
         if let Some(texts) = row.as_array() {
             explain_row(findings, steps, number, texts.as_slice())?;
@@ -63,6 +67,9 @@ fn explain_text(
     text: &str,
 ) -> Result<(), AllocError> {
     let shown = Shown::new(findings.alloc, text)?;
+    if text.starts_with("all.") || text.starts_with("any.") {
+        return tell(findings, Cause::NoRanks(shown));
+    }
     let Some(claim) = claim_of(text) else {
         return tell(findings, Cause::NoPlace(shown));
     };

@@ -1,10 +1,12 @@
 //! What is wrong with a job and with its steps.
 
 use crate::asking::explain_asking;
+use crate::block::{explain_block, is_block};
 use crate::cause::Cause;
 use crate::explanation::StepPlace;
 use crate::findings::Findings;
 use crate::keys::{Sheet, integer_at, list_at, text_at};
+use crate::mpi::instead_of;
 use crate::nearest::nearest_op;
 use crate::never::explain_never;
 use crate::ops::op_named;
@@ -84,14 +86,6 @@ fn steps_before(steps: &[Value], in_file: usize, rank: i64) -> usize {
     earlier.filter(|step| rank_of(*step) == Some(rank)).count()
 }
 
-/// Whether a table that isn't written out is meant to be a block of steps.
-fn is_block(table: &Table) -> bool {
-    table.get("op").is_none()
-        && (table.get("steps").is_some()
-            || table.get("repeat").is_some()
-            || table.get("on_error").is_some())
-}
-
 /// Tells what is wrong with a step.
 fn explain_step(
     findings: &mut Findings<'_>,
@@ -101,8 +95,7 @@ fn explain_step(
     table: &Table,
 ) -> Result<(), AllocError> {
     if is_block(table) {
-        let at = findings.place_of_step(Some(place.in_file));
-        return findings.tell(at, Some(place), Cause::NoBlock);
+        return explain_block(findings, place);
     }
     let mut sheet = Sheet {
         table,
@@ -129,8 +122,11 @@ fn explain_step(
 
 /// Tells that there is no such op.
 fn explain_op(findings: &mut Findings<'_>, place: StepPlace, op: &str) -> Result<(), AllocError> {
-    let nearest = nearest_op(findings.alloc, op)?;
-    let cause = Cause::UnknownOp(Shown::new(findings.alloc, op)?, nearest);
+    let shown = Shown::new(findings.alloc, op)?;
+    let cause = match instead_of(op) {
+        Some(instead) => Cause::NoOp(shown, instead),
+        None => Cause::UnknownOp(shown, nearest_op(findings.alloc, op)?),
+    };
     let at = findings.place_of(Some(place.in_file), "op");
     findings.tell(at, Some(place), cause)
 }

@@ -43,6 +43,9 @@ fn table_warnings(alloc: Global, text: &str, table: &Table) -> Result<Vec<Explan
 {
     let lines = lines_of(alloc, table)?;
     let mut findings = Findings::new(alloc, text, &lines)?;
+    if lines.steps.is_empty() {
+        findings.tell(None, None, Cause::NoSteps)?;
+    }
     warn_of_steps(&mut findings, ranks_in(table), lines.steps.as_slice())?;
     Ok(findings.found.into_vec())
 }

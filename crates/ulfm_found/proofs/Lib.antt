@@ -1,3 +1,4 @@
+pub mod Lines
 pub mod Rising
 pub mod Endings
 pub mod Any

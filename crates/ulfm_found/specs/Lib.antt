@@ -1,4 +1,6 @@
 pub mod Text
+pub mod Listed
+pub mod Words
 pub mod Objects
 pub mod Goals
 pub mod Unmet

@@ -30,6 +30,14 @@ text_json text = codes "\"" ++ text ++ codes "\""
 abbrev pub texts_json : List (List ℕ) → List ℕ
 texts_json texts = array_json text_json texts
 
+-- an object that is written already
+abbrev pub object_json : List ℕ → List ℕ
+object_json object = object
+
+-- an array of objects
+abbrev pub objects_json : List (List ℕ) → List ℕ
+objects_json objects = array_json object_json objects
+
 -- the space in the words of a refusal
 abbrev pub is_space : ℕ → Bool
 is_space byte = byte == 32

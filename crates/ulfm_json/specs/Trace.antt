@@ -27,18 +27,26 @@ asked_json (Some step) = call_json step
 abbrev pub head_json : List Name → ℕ → ℕ → Option Step → List ℕ
 head_json names r k step = codes "{\"rank\":" ++ decimal r ++ codes ",\"step\":" ++ decimal k ++ name_json (name_at names r k) ++ codes "," ++ asked_json step
 
+-- the object of a step with its answer, but for its end
+abbrev pub answered_json : List Name → ℕ → ℕ → Option Step → StepAnswer → List ℕ
+answered_json names r k step answer = head_json names r k step ++ codes ",\"answer\":" ++ answer_json answer
+
 -- the line of a step with its answer
 abbrev pub step_json : List Name → ℕ → ℕ → Option Step → StepAnswer → List ℕ
-step_json names r k step answer = head_json names r k step ++ codes ",\"answer\":" ++ answer_json answer ++ codes "}\n"
+step_json names r k step answer = answered_json names r k step answer ++ codes "}\n"
 
 -- the lines of a rank's answered steps, the first of them numbered k
 abbrev pub steps_json : List Name → JobView → ℕ → ℕ → List StepReport → List ℕ
 steps_json names job r k [] = []
 steps_json names job r k (report ∷ reports) = step_json names r k (slice_get (script_at job r) k) report.answer ++ steps_json names job r (k + 1) reports
 
--- the line of how a rank ended, and of how many of its turns took nothing since memory ran out
+-- the object of how a rank ended, and of how many of its turns took nothing since memory ran out
+abbrev pub ended_json : ℕ → Bool → ℕ → List ℕ
+ended_json r has_stopped starved = codes "{\"rank\":" ++ decimal r ++ codes ",\"end\":\"" ++ (if has_stopped then codes "stopped" else codes "done") ++ codes "\",\"starved\":" ++ decimal starved ++ codes "}"
+
+-- its line
 abbrev pub end_json : ℕ → Bool → ℕ → List ℕ
-end_json r has_stopped starved = codes "{\"rank\":" ++ decimal r ++ codes ",\"end\":\"" ++ (if has_stopped then codes "stopped" else codes "done") ++ codes "\",\"starved\":" ++ decimal starved ++ codes "}\n"
+end_json r has_stopped starved = ended_json r has_stopped starved ++ codes "\n"
 
 -- a rank's lines: its answered steps in order, then one that says how it ended
 abbrev pub rank_json : List Name → JobView → Report → List ℕ

@@ -39,7 +39,7 @@ fn push_from(text: &mut String, from: Option<u8>) -> Result<(), AllocError>
 }
 
 /// The key of a tag, where any is `null`.
-fn push_tag(text: &mut String, tag: Option<Tag>) -> Result<(), AllocError>
+pub fn push_tag(text: &mut String, tag: Option<Tag>) -> Result<(), AllocError>
     ensures { OnOk result (string_bytes text.new ≡ string_bytes text.old ++ tag_json tag) }
 {
     match tag {
@@ -49,7 +49,7 @@ fn push_tag(text: &mut String, tag: Option<Tag>) -> Result<(), AllocError>
 }
 
 /// The key of a communicator.
-pub(crate) fn push_comm(text: &mut String, comm: Context) -> Result<(), AllocError>
+pub fn push_comm(text: &mut String, comm: Context) -> Result<(), AllocError>
     ensures { OnOk result (string_bytes text.new ≡ string_bytes text.old ++ comm_json comm) }
 {
     write!(text, ",\"comm\":{}", comm.number)

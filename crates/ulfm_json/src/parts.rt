@@ -1,6 +1,6 @@
 //! Parts of the objects.
 ghost use Rattle.std.specs.Prelude.{◌≡◌, ◌++◌, map, OnOk, string_bytes};
-ghost use Rattle.ulfm_json.specs.Parts.{behind_commas, error_json, numbers_json, number_json, text_json, texts_json};
+ghost use Rattle.ulfm_json.specs.Parts.{behind_commas, error_json, numbers_json, number_json, object_json, objects_json, text_json, texts_json};
 
 use std::alloc::AllocError;
 use std::fmt;
@@ -68,6 +68,30 @@ pub fn push_texts(text: &mut String, texts: &[String]) -> Result<(), AllocError>
         Some((first, rest)) => {
             write!(text, "[\"{first}\"")?;
             push_more_texts(text, rest)?;
+            text.push_str("]")
+        }
+        None => text.push_str("[]"),
+    }
+}
+
+/// Objects, each behind a comma.
+fn push_more_objects(text: &mut String, objects: &[String]) -> Result<(), AllocError>
+    ensures { OnOk result (string_bytes text.new ≡ string_bytes text.old ++ behind_commas object_json (map string_bytes objects.now)) }
+{
+    for object in objects {
+        write!(text, ",{object}")?;
+    }
+    Ok(())
+}
+
+/// An array of objects that are written already.
+pub fn push_objects(text: &mut String, objects: &[String]) -> Result<(), AllocError>
+    ensures { OnOk result (string_bytes text.new ≡ string_bytes text.old ++ objects_json (map string_bytes objects.now)) }
+{
+    match objects.split_first() {
+        Some((first, rest)) => {
+            write!(text, "[{first}")?;
+            push_more_objects(text, rest)?;
             text.push_str("]")
         }
         None => text.push_str("[]"),

@@ -1,7 +1,7 @@
 //! The lines of a trace as JSON.
 ghost use Rattle.std.specs.Prelude.{◌≡◌, ◌++◌, option_map, OnOk, string_bytes};
 ghost use Rattle.std.specs.Option.{option_copied};
-ghost use Rattle.ulfm_json.specs.Trace.{end_json, head_json, name_json, step_json, steps_json};
+ghost use Rattle.ulfm_json.specs.Trace.{answered_json, end_json, ended_json, head_json, name_json, step_json, steps_json};
 
 use crate::answer::push_answer;
 use crate::call::push_call;
@@ -39,6 +39,22 @@ pub fn push_head(
     }
 }
 
+/// The object of a step with its answer, but for its end.
+pub fn push_answered(
+    text: &mut String,
+    names: &[Name],
+    rank: u8,
+    k: usize,
+    step: Option<&Step>,
+    answer: &StepAnswer,
+) -> Result<(), AllocError>
+    ensures { OnOk result (string_bytes text.new ≡ string_bytes text.old ++ answered_json names.now rank k (option_map (λ s. s.now) step.entry) answer.now) }
+{
+    push_head(text, names, rank, k, step)?;
+    text.push_str(",\"answer\":")?;
+    push_answer(text, answer)
+}
+
 /// The line of a step with its answer.
 fn push_step(
     text: &mut String,
@@ -50,9 +66,7 @@ fn push_step(
 ) -> Result<(), AllocError>
     ensures { OnOk result (string_bytes text.new ≡ string_bytes text.old ++ step_json names.now rank k (option_map (λ s. s.now) step.entry) answer.now) }
 {
-    push_head(text, names, rank, k, step)?;
-    text.push_str(",\"answer\":")?;
-    push_answer(text, answer)?;
+    push_answered(text, names, rank, k, step, answer)?;
     text.push_str("}\n")
 }
 
@@ -72,13 +86,26 @@ pub fn push_steps(
     Ok(())
 }
 
-/// The line of how a rank ended.
-pub fn push_end(text: &mut String, rank: u8, stopped: bool, starved: u32) -> Result<(), AllocError>
-    ensures { OnOk result (string_bytes text.new ≡ string_bytes text.old ++ end_json rank stopped starved) }
+/// The object of how a rank ended.
+pub fn push_ended(
+    text: &mut String,
+    rank: u8,
+    stopped: bool,
+    starved: u32,
+) -> Result<(), AllocError>
+    ensures { OnOk result (string_bytes text.new ≡ string_bytes text.old ++ ended_json rank stopped starved) }
 {
     let end = if stopped { "stopped" } else { "done" };
     write!(
         text,
-        "{{\"rank\":{rank},\"end\":\"{end}\",\"starved\":{starved}}}\n"
+        "{{\"rank\":{rank},\"end\":\"{end}\",\"starved\":{starved}}}"
     )
+}
+
+/// The line of how a rank ended.
+pub fn push_end(text: &mut String, rank: u8, stopped: bool, starved: u32) -> Result<(), AllocError>
+    ensures { OnOk result (string_bytes text.new ≡ string_bytes text.old ++ end_json rank stopped starved) }
+{
+    push_ended(text, rank, stopped, starved)?;
+    text.push_str("\n")
 }

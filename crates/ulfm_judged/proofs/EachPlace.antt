@@ -1,6 +1,7 @@
 -- What is found of a job at places.
-use Rattle.std.proofs.Common.{◌≡◌, ℕ, List, [], ◌∷◌, ◌++◌, Option, None, Some, Ok, refl, sym, subst, ◌∙◌}
-use Rattle.std.proofs.lemmas.List.Elements.{All-cons, All-head, All-nil, All-tail}
+use Rattle.std.proofs.Common.{◌≡◌, ℕ, Bool, tt, ap, List, [], ◌∷◌, ◌++◌, Option, None, Some, Ok, refl, sym, subst, ◌∙◌}
+use Rattle.std.proofs.lemmas.List.Elements.{All-cons, All-get_or, All-head, All-nil, All-tail}
+use Rattle.std.proofs.lemmas.Option.{get_or_from_slice_get, slice_get_within}
 use Rattle.std.specs.Prelude.{All}
 use Rattle.ulfm_reach.specs.declared.reach.Reach.TheVariants as reach
 use Rattle.ulfm_finder.proofs.Writable.{list-writable}
@@ -19,20 +20,19 @@ use Rattle.ulfm_stops.specs.Places.{places_of}
 use Rattle.ulfm_json.specs.declared.form.Form.{Form}
 use Rattle.ulfm_replies.specs.Stopped.{Asked, IsAskedAt, asked_at}
 use Rattle.ulfm_replies.specs.declared.command.ListOptions.{ListOptions}
-use Rattle.ulfm_judged.specs.EachPlace.{IsEachPlaceReply, IsJudgedEach, IsToldAt, listed_all, past_limit_at, places_in, together, unsearched}
-use Rattle.ulfm_lists.specs.ToldAt.{row_at}
-use Rattle.ulfm_judged.specs.Outcomes.{HasList, goals_asked}
-use Rattle.ulfm_lists.specs.Told.{many}
-use Rattle.ulfm_judged.specs.ShowEach.{IsFirstPlace, IsShowEachReply, nowhere_at_all, shown_at, too_many_at}
-use Rattle.ulfm_lists.specs.ToldAt.{told_at}
-use Rattle.ulfm_judged.specs.declared.listed.FirstRow.{FirstRow}
+use Rattle.ulfm_replies.specs.declared.reply.Reply.{Reply}
+use Rattle.ulfm_judged.specs.EachPlace.{IsEachPlaceReply, IsJudgedEach, listed_all, past_limit_at, places_in}
+use Rattle.ulfm_lists.specs.Told.{row_in}
+use Rattle.ulfm_judged.specs.Outcomes.{goals_asked}
+use Rattle.ulfm_judged.specs.ShowEach.{IsFirstPlace, IsShowEachReply, nowhere_at_all, shown_at, told_at_place, too_many_at}
+use Rattle.ulfm_judged.specs.Wanted.{HasList, IsToldOf, together, unsearched}
+use Rattle.ulfm_judged.specs.declared.looking.FirstRow.{FirstRow}
 use Rattle.ulfm_judged.specs.declared.show_each.LookAt.{LookAt}
-use Rattle.ulfm_lists.specs.declared.told.Told.{Told as Kept}
-use Rattle.ulfm_lists.specs.declared.told.Told.TheVariants as kept
-use Rattle.ulfm_judged.specs.inside.Judging.{AreListedOf, IsFirstLook, IsListedOf, IsLookAtText, IsToldAtText, look_at_status, status_past, text_past}
+use Rattle.ulfm_lists.specs.declared.told.Told.{Told}
+use Rattle.ulfm_lists.specs.declared.told.Told.TheVariants as told
+use Rattle.ulfm_judged.specs.inside.Judging.{AreListedOf, IsFirstLook, IsInside, IsListedOf, IsLookAtText, IsUnwanted, IsUnwantedAt, look_at_status, status_past, text_past}
 use Rattle.ulfm_finder.specs.Told.{IsLook}
-use Rattle.ulfm_judged.specs.inside.Looking.{IsFirstRow, look_status, row_status}
-use Rattle.ulfm_lists.specs.Told.{told_view}
+use Rattle.ulfm_judged.specs.inside.Looking.{IsFirstRow, IsLookText, look_status, row_status}
 
 -- what is asked for at a place has the job of the place
 pub asked_at-job : (place : Place) (asked : Asked) → (asked_at place asked).job ≡ job_at place asked.job
@@ -54,19 +54,38 @@ lists_of asked limit (place ∷ places) (one ∷ listed) past lists inside =
     All-cons (IsListedOf asked limit) one listed (listed_of asked limit place one (All-head (IsPlaceOf asked.job) place places inside) lists.0)
     (lists_of asked limit places listed past lists.1 (All-tail (IsPlaceOf asked.job) place places inside))
 
--- what is told of a row at a place
-pub row_told_as : (form : Form) (options : ListOptions) (place : Place) (asked : Asked) (first : FirstRow) → MeetsExpected asked.job → IsFirstRow asked.job asked.rows options.is_brief options.limit (Some first)
-    → IsToldAt form options place asked (row_status (told_view first.told)) (row_at form place first.number (told_view first.told))
-row_told_as form options place asked first meets is = by first.told is.3.2
+-- the list of a place is one of what is asked for there
+pub list_there : (asked made : Asked) (limit : ℕ) (one : Listed) → IsListedOf asked limit one → made ≡ asked_at one.place asked → HasList made.job limit one.found
+list_there asked made limit one of is =
+    let job : made.job ≡ job_at one.place asked.job = ap (λ (a : Asked). a.job) is ∙ asked_at-job one.place asked in
+    subst (λ (j : JobView). HasList j limit one.found) (sym job) of.1
+
+-- what is told of what is asked for there
+pub unwanted_there : (form : Form) (options : ListOptions) (one : Listed) (asked made : Asked) (told : Option Reply) → IsListedOf asked options.limit one → made ≡ asked_at one.place asked
+    → IsUnwanted form options (Some one.place) made one.found told → IsUnwantedAt form options one.place made told
+unwanted_there form options one asked made None of is wanted = wanted
+unwanted_there form options one asked made (Some reply) of is told = (one.found, list_there asked made options.limit one of is, told)
+
+-- what is told of a row
+pub row_told_as : (form : Form) (options : ListOptions) (at : Option Place) (asked : Asked) (found : List (List ℕ)) (first : FirstRow) → MeetsExpected asked.job → IsFirstRow asked.job asked.rows options.is_brief options.limit (Some first)
+    → IsToldOf form options at asked found (row_status first.told) (row_in form at asked.names asked.job first.number first.told)
+row_told_as form options at asked found first meets is = by first.told is.3.2
   where
-    by : (told : Kept) → IsLook asked.job is.3.0 options.is_brief options.limit (Some told) → IsToldAt form options place asked (row_status (told_view told)) (row_at form place first.number (told_view told))
-    by (kept.Schedule text) shows = together first.number is.0 is.3.0 _ meets is.1 is.2 is.3.1 shows
-    by (kept.Many limit) shows =
-        subst (λ (n : ℕ). IsToldAt form options place asked 7 (row_at form place first.number (many n))) (sym shows.0) (unsearched first.number is.0 is.3.0 meets is.1 is.2 is.3.1 (sym shows.0 ∙ shows.0, shows.1))
+    by : (what : Told) → IsLook asked.job is.3.0 options.is_brief options.limit (Some what) → IsToldOf form options at asked found (row_status what) (row_in form at asked.names asked.job first.number what)
+    by (told.Schedule schedule) shows = together first.number is.0 is.3.0 schedule meets is.1 is.2 is.3.1 shows
+    by (told.Many limit) shows =
+        subst (λ (n : ℕ). IsToldOf form options at asked found 7 (row_in form at asked.names asked.job first.number (told.Many n))) (sym shows.0) (unsearched first.number is.0 is.3.0 meets is.1 is.2 is.3.1 (sym shows.0 ∙ shows.0, shows.1))
+
+-- what came of a search at each of the job's places came at one of them
+pub look_inside : (j : JobView) (clauses : List Clause) (is_brief : Bool) (limit : ℕ) (places : List Place) (look : Option LookAt) → All (IsPlaceOf j) places → IsFirstLook j clauses is_brief limit places look → IsInside j look
+look_inside j clauses is_brief limit places None inside first = tt
+look_inside j clauses is_brief limit places (Some look) inside first =
+    subst (IsPlaceOf j) (get_or_from_slice_get places first.0 look.place look.place first.1)
+    (All-get_or (IsPlaceOf j) places first.0 look.place (slice_get_within places first.0 look.place first.1) inside)
 
 -- the reply to what came of a search at each place
 pub show_each_as : (form : Form) (options : ListOptions) (stops : ℕ) (show bytes : List ℕ) (asked : Asked) (answers : List Clause) (look : Option LookAt) (text : List ℕ) → IsAskedAt Nowhere bytes asked → goals_asked asked show ≡ Ok answers
-    → IsFirstLook asked.job answers options.is_brief options.limit (places_of stops asked.job) look → IsLookAtText form options.drawn look text → IsShowEachReply form options stops show bytes (look_at_status look) text
+    → IsFirstLook asked.job answers options.is_brief options.limit (places_of stops asked.job) look → IsLookAtText form options.drawn asked look text → IsShowEachReply form options stops show bytes (look_at_status look) text
 show_each_as form options stops show bytes asked answers None text read named never is =
     subst (λ (t : List ℕ). IsShowEachReply form options stops show bytes 8 t) (sym is) (nowhere_at_all asked answers read named never)
 show_each_as form options stops show bytes asked answers (Some look) text read named first is = by look.told first.3.2 is
@@ -74,13 +93,13 @@ show_each_as form options stops show bytes asked answers (Some look) text read n
     place : IsFirstPlace asked.job answers stops look.place
     place = record { number = first.0; there = first.1; before = first.2 }
 
-    by : (told : Kept) → IsLook (job_at look.place asked.job) first.3.0 options.is_brief options.limit (Some told) → IsToldAtText form options.drawn look.place (told_view told) text
-        → IsShowEachReply form options stops show bytes (look_status (Some (told_view told))) text
-    by (kept.Schedule words) told is = shown_at asked answers look.place read named place first.3.0 first.3.1 _ text told is
-    by (kept.Many limit) told is =
+    by : (what : Told) → IsLook (job_at look.place asked.job) first.3.0 options.is_brief options.limit (Some what) → IsLookText form options.drawn (Some look.place) (asked_at look.place asked) (Some what) text
+        → IsShowEachReply form options stops show bytes (look_status (Some what)) text
+    by (told.Schedule schedule) what is = shown_at asked answers look.place read named place first.3.0 first.3.1 schedule text what is
+    by (told.Many limit) what is =
         subst (λ (t : List ℕ). IsShowEachReply form options stops show bytes 7 t) (sym is)
-        (subst (λ (n : ℕ). IsShowEachReply form options stops show bytes 7 (told_at form look.place (many n))) (sym told.0)
-        (too_many_at asked answers look.place read named place first.3.0 first.3.1 (sym told.0 ∙ told.0, told.1)))
+        (subst (λ (n : ℕ). IsShowEachReply form options stops show bytes 7 (told_at_place form look.place asked (told.Many n))) (sym what.0)
+        (too_many_at asked answers look.place read named place first.3.0 first.3.1 (sym what.0 ∙ what.0, what.1)))
 
 -- what is found at a place can be written
 one-writable : (j : JobView) (limit : ℕ) (place : Place) (one : Listed) → IsListedAt j limit place one → AreAscii one.found

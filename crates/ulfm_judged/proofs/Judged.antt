@@ -12,25 +12,23 @@ use Rattle.ulfm_replies.specs.Stopped.{Asked, IsAskedAt}
 use Rattle.ulfm_replies.specs.declared.command.ListOptions.{ListOptions}
 use Rattle.ulfm_found.specs.Goals.{AreOfClauses}
 use Rattle.ulfm_finder.specs.Told.{IsLook}
-use Rattle.ulfm_finder.specs.Unmet.{MeetsExpected}
 use Rattle.ulfm_found.specs.declared.goals.Goals.{Goals}
-use Rattle.ulfm_judged.specs.Outcomes.{IsJudged, IsShowReply, NeverComes, NoneComes, goals_asked, nowhere, shown, together, too_many, unsearched}
-use Rattle.ulfm_lists.specs.Told.{many, row_in, told_in}
-use Rattle.ulfm_judged.specs.declared.listed.FirstRow.{FirstRow}
-use Rattle.ulfm_lists.specs.declared.told.Told.{Told as Kept}
-use Rattle.ulfm_lists.specs.declared.told.Told.TheVariants as kept
-use Rattle.ulfm_judged.specs.inside.Looking.{IsFirstRow, IsLookText, look_status, row_status}
-use Rattle.ulfm_lists.specs.Told.{told_view}
+use Rattle.ulfm_judged.specs.Outcomes.{IsShowReply, goals_asked, nowhere, shown, too_many}
+use Rattle.ulfm_judged.specs.Wanted.{NeverComes, NoneComes}
+use Rattle.ulfm_lists.specs.Told.{told_in}
+use Rattle.ulfm_lists.specs.declared.told.Told.{Told}
+use Rattle.ulfm_lists.specs.declared.told.Told.TheVariants as told
+use Rattle.ulfm_judged.specs.inside.Looking.{IsLookText, look_status}
 
 -- the reply to what came of a search
-pub show_as : (form : Form) (options : ListOptions) (show bytes : List ℕ) (asked : Asked) (answers : List Clause) (goals : Goals) (look : Option Kept) (text : List ℕ) → IsAskedAt options.place bytes asked → goals_asked asked show ≡ Ok answers → AreOfClauses asked.job answers goals
-    → IsLook asked.job goals options.is_brief options.limit look → IsLookText form options.drawn (option_map told_view look) text → IsShowReply form options show bytes (look_status (option_map told_view look)) text
+pub show_as : (form : Form) (options : ListOptions) (show bytes : List ℕ) (asked : Asked) (answers : List Clause) (goals : Goals) (look : Option Told) (text : List ℕ) → IsAskedAt options.place bytes asked → goals_asked asked show ≡ Ok answers → AreOfClauses asked.job answers goals
+    → IsLook asked.job goals options.is_brief options.limit look → IsLookText form options.drawn None asked look text → IsShowReply form options show bytes (look_status look) text
 show_as form options show bytes asked answers goals None text read named are never is =
     subst (λ (t : List ℕ). IsShowReply form options show bytes 8 t) (sym is) (nowhere asked answers read named goals are never)
-show_as form options show bytes asked answers goals (Some (kept.Schedule words)) text read named are told is = shown asked answers read named goals are _ text told is
-show_as form options show bytes asked answers goals (Some (kept.Many limit)) text read named are told is =
+show_as form options show bytes asked answers goals (Some (told.Schedule schedule)) text read named are what is = shown asked answers read named goals are schedule text what is
+show_as form options show bytes asked answers goals (Some (told.Many limit)) text read named are what is =
     subst (λ (t : List ℕ). IsShowReply form options show bytes 7 t) (sym is)
-    (subst (λ (n : ℕ). IsShowReply form options show bytes 7 (told_in form (many n))) (sym told.0) (too_many asked answers read named goals are (sym told.0 ∙ told.0, told.1)))
+    (subst (λ (n : ℕ). IsShowReply form options show bytes 7 (told_in form None asked.names asked.job (told.Many n))) (sym what.0) (too_many asked answers read named goals are (sym what.0 ∙ what.0, what.1)))
 
 -- the row of a place among the rows
 pub row_here : (rows : List (Vec Clause Global)) (n : ℕ) (kept : Vec Clause Global) (row : List Clause) → n < length rows → kept ≡ get_or rows n kept → row ≡ kept.items → slice_get (rows_of rows) n ≡ Some row
@@ -42,13 +40,3 @@ pub none_more : (job : JobView) (rows : List (List Clause)) (n : ℕ) (row : Lis
 none_more job rows n row inside here before one =
     let last : get_or rows n row ≡ row = get_or_from_slice_get rows n row row here in
     subst (λ (all : List (List Clause)). NoneComes job all) (sym (take_more rows n row inside ∙ ap (λ (x : List Clause). take n rows ++ x ∷ []) last)) (All-push (NeverComes job) (take n rows) row before one)
-
--- a list with what came of the search for a row
-pub row_as : (form : Form) (options : ListOptions) (job : JobView) (rows : List (List Clause)) (found : List (List ℕ)) (list : List ℕ) (first : FirstRow) → MeetsExpected job → IsFirstRow job rows options.is_brief options.limit (Some first)
-    → IsJudged form options job rows found list (row_status (told_view first.told)) (list ++ row_in form first.number (told_view first.told))
-row_as form options job rows found list first meets is = by first.told is.3.2
-  where
-    by : (told : Kept) → IsLook job is.3.0 options.is_brief options.limit (Some told) → IsJudged form options job rows found list (row_status (told_view told)) (list ++ row_in form first.number (told_view told))
-    by (kept.Schedule text) shows = together first.number is.0 is.3.0 _ meets is.1 is.2 is.3.1 shows
-    by (kept.Many limit) shows =
-        subst (λ (n : ℕ). IsJudged form options job rows found list 7 (list ++ row_in form first.number (many n))) (sym shows.0) (unsearched first.number is.0 is.3.0 meets is.1 is.2 is.3.1 (sym shows.0 ∙ shows.0, shows.1))

@@ -5,12 +5,12 @@ use Rattle.ulfm_job.specs.declared.clause.Clause.{Clause}
 use Rattle.ulfm_found.specs.Goals.{AreOfClauses}
 use Rattle.ulfm_found.specs.declared.goals.Goals.{Goals}
 use Rattle.ulfm_replies.specs.Asking.{is_looked_at}
-use Rattle.ulfm_lists.specs.declared.told.Told.{Told as Kept}
+use Rattle.ulfm_lists.specs.declared.told.Told.{Told}
 use Rattle.ulfm_finder.specs.Told.{IsLook}
 use Rattle.ulfm_judged.specs.inside.Looking.{IsLookForRow}
 
 -- what came of a search for the answers of a row that is looked at
-pub row_look : (job : JobView) (row : List Clause) (goals : Goals) (is_brief : Bool) (limit : ℕ) (look : Option Kept) → is_looked_at job row ≡ true → AreOfClauses job row goals → IsLook job goals is_brief limit look
+pub row_look : (job : JobView) (row : List Clause) (goals : Goals) (is_brief : Bool) (limit : ℕ) (look : Option Told) → is_looked_at job row ≡ true → AreOfClauses job row goals → IsLook job goals is_brief limit look
     → IsLookForRow job row is_brief limit look
 row_look job row goals is_brief limit None at are never = λ _. (goals, are, never)
 row_look job row goals is_brief limit (Some told) at are shows = (goals, (at, are), shows)

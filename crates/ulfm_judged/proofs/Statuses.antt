@@ -1,7 +1,5 @@
 -- The statuses that replies to `outcomes` have, and that memory may run out for each.
 use Rattle.std.proofs.Common.{ℕ, Bool, true, false, List, Option, Some, None}
-use Rattle.ulfm_job.specs.Job.{JobView}
-use Rattle.ulfm_job.specs.declared.clause.Clause.{Clause}
 use Rattle.ulfm_stops.specs.declared.place.Place.{Place}
 use Rattle.ulfm_stops.specs.declared.place.Place.TheVariants.{Nowhere}
 use Rattle.ulfm_found.specs.Text.{some_never_ends}
@@ -14,8 +12,9 @@ use Rattle.ulfm_replies.specs.Stopped.{Asked}
 use Rattle.ulfm_replies.specs.declared.command.ListOptions.{ListOptions}
 use Rattle.ulfm_judged.specs.EachPlace as each
 use Rattle.ulfm_judged.specs.EachPlace.{IsEachPlaceReply, IsJudgedEach}
-use Rattle.ulfm_judged.specs.ListReply.{IsReplyBy}
-use Rattle.ulfm_judged.specs.Outcomes.{IsJudged, IsOutcomesReply, IsShowReply, list_status, good, unmet, together, unsearched, listed, past_limit, not_listed, unlisted, shown, nowhere, too_many, unnamed, not_shown, unshown}
+use Rattle.ulfm_judged.specs.ListReply.{IsListReply, IsReplyBy, as_asked, open_drawn, open_goal}
+use Rattle.ulfm_judged.specs.Outcomes.{IsJudged, IsOutcomesReply, IsShowReply, list_status, good, unwanted, listed, past_limit, not_listed, unlisted, shown, nowhere, too_many, unnamed, not_shown, unshown}
+use Rattle.ulfm_judged.specs.Wanted.{IsToldOf, together, unmet, unsearched}
 use Rattle.ulfm_judged.specs.ShowEach as each_shown
 use Rattle.ulfm_judged.specs.ShowEach.{IsShowEachReply}
 
@@ -24,20 +23,23 @@ list_alone true true = statuses.left_open
 list_alone true false = statuses.done
 list_alone false is_open = statuses.done
 
-judged_known : (form : Form) (options : ListOptions) (job : JobView) (rows : List (List Clause)) (found : List (List ℕ)) (list : List ℕ) (status : ℕ) (text : List ℕ) → IsJudged form options job rows found list status text → IsKnown status
-judged_known form options job rows found list status text (good meets none) = list_alone options.is_strict (some_never_ends found)
-judged_known form options job rows found list status text (unmet u goals told first is shows) = statuses.not_wanted
-judged_known form options job rows found list status text (together number row goals words meets here none are shows) = statuses.not_wanted
-judged_known form options job rows found list status text (unsearched number row goals meets here none are shows) = statuses.past
+told_known : (form : Form) (options : ListOptions) (at : Option Place) (asked : Asked) (found : List (List ℕ)) (status : ℕ) (text : List ℕ) → IsToldOf form options at asked found status text → IsKnown status
+told_known form options at asked found status text (unmet one goals what first is shows) = statuses.not_wanted
+told_known form options at asked found status text (together number row goals schedule meets here none are shows) = statuses.not_wanted
+told_known form options at asked found status text (unsearched number row goals meets here none are shows) = statuses.past
+
+judged_known : (form : Form) (options : ListOptions) (asked : Asked) (found : List (List ℕ)) (list : List ℕ) (status : ℕ) (text : List ℕ) → IsJudged form options asked found list status text → IsKnown status
+judged_known form options asked found list status text (good wanted) = list_alone options.is_strict (some_never_ends found)
+judged_known form options asked found list status text (unwanted k words is) = told_known form options None asked found status words is
 
 list_known : (form : Form) (options : ListOptions) (bytes : List ℕ) (status : ℕ) (text : List ℕ) → IsOutcomesReply form options bytes status text → IsKnown status
-list_known form options bytes status text (listed asked reached k words is all judged) = judged_known form options asked.job _ _ _ status text judged
+list_known form options bytes status text (listed asked reached k words is all judged) = judged_known form options asked _ _ status text judged
 list_known form options bytes status text (past_limit asked is many) = statuses.past
 list_known form options bytes status text (not_listed k words is) = no_play form options.place bytes status text is
 list_known form options bytes status text unlisted = statuses.run_fails
 
 show_known : (form : Form) (options : ListOptions) (show bytes : List ℕ) (status : ℕ) (text : List ℕ) → IsShowReply form options show bytes status text → IsKnown status
-show_known form options show bytes status text (shown asked answers is named goals are words picture told same) = statuses.done
+show_known form options show bytes status text (shown asked answers is named goals are schedule words what same) = statuses.done
 show_known form options show bytes status text (nowhere job answers is named goals are not) = statuses.nowhere
 show_known form options show bytes status text (too_many job answers is named goals are told) = statuses.past
 show_known form options show bytes status text (unnamed job part is named) = statuses.no_job
@@ -57,7 +59,7 @@ each_known form options stops bytes status text (each.not_listed_at_all k words 
 each_known form options stops bytes status text each.no_memory_for_lists = statuses.run_fails
 
 show_each_known : (form : Form) (options : ListOptions) (stops : ℕ) (show bytes : List ℕ) (status : ℕ) (text : List ℕ) → IsShowEachReply form options stops show bytes status text → IsKnown status
-show_each_known form options stops show bytes status text (each_shown.shown_at asked answers place is named first goals are words told shows same) = statuses.done
+show_each_known form options stops show bytes status text (each_shown.shown_at asked answers place is named first goals are schedule words shows same) = statuses.done
 show_each_known form options stops show bytes status text (each_shown.nowhere_at_all asked answers is named none) = statuses.nowhere
 show_each_known form options stops show bytes status text (each_shown.too_many_at asked answers place is named first goals are told) = statuses.past
 show_each_known form options stops show bytes status text (each_shown.unnamed_at_all asked part is named) = statuses.no_job
@@ -65,15 +67,22 @@ show_each_known form options stops show bytes status text (each_shown.no_room_to
 show_each_known form options stops show bytes status text (each_shown.not_shown_at_all k words is) = no_play form Nowhere bytes status text is
 show_each_known form options stops show bytes status text each_shown.no_memory_to_show_each = statuses.run_fails
 
-pub by_known : (form : Form) (show : Option (List ℕ)) (stops : Option ℕ) (options : ListOptions) (bytes : List ℕ) (status : ℕ) (text : List ℕ) → IsReplyBy form show stops options bytes status text → IsKnown status
+by_known : (form : Form) (show : Option (List ℕ)) (stops : Option ℕ) (options : ListOptions) (bytes : List ℕ) (status : ℕ) (text : List ℕ) → IsReplyBy form show stops options bytes status text → IsKnown status
 by_known form None None options bytes status text h = list_known form options bytes status text h
 by_known form None (Some stops) options bytes status text h = each_known form options stops bytes status text h
 by_known form (Some goals) None options bytes status text h = show_known form options goals bytes status text h
 by_known form (Some goals) (Some stops) options bytes status text h = show_each_known form options stops goals bytes status text h
 
+pub reply_known : (form : Form) (show : Option (List ℕ)) (options : ListOptions) (bytes : List ℕ) (status : ℕ) (text : List ℕ) → IsListReply form show options bytes status text → IsKnown status
+reply_known form show options bytes status text (as_asked k words h) = by_known form show options.stops options bytes status text h
+reply_known form show options bytes status text (open_drawn rank step k words none drawn h) = by_known form (Some (open_goal rank step)) options.stops options bytes status text h
+
 -- out of memory is what each may come to
-pub starved_list : (form : Form) (show : Option (List ℕ)) (stops : Option ℕ) (options : ListOptions) (bytes : List ℕ) → IsReplyBy form show stops options bytes 3 (out_of_memory_in form)
-starved_list form None None options bytes = unlisted
-starved_list form None (Some stops) options bytes = each.no_memory_for_lists
-starved_list form (Some goals) None options bytes = unshown
-starved_list form (Some goals) (Some stops) options bytes = each_shown.no_memory_to_show_each
+starved_by : (form : Form) (show : Option (List ℕ)) (stops : Option ℕ) (options : ListOptions) (bytes : List ℕ) → IsReplyBy form show stops options bytes 3 (out_of_memory_in form)
+starved_by form None None options bytes = unlisted
+starved_by form None (Some stops) options bytes = each.no_memory_for_lists
+starved_by form (Some goals) None options bytes = unshown
+starved_by form (Some goals) (Some stops) options bytes = each_shown.no_memory_to_show_each
+
+pub starved_list : (form : Form) (show : Option (List ℕ)) (options : ListOptions) (bytes : List ℕ) → IsListReply form show options bytes 3 (out_of_memory_in form)
+starved_list form show options bytes = as_asked 3 (out_of_memory_in form) (starved_by form show options.stops options bytes)

@@ -12,8 +12,9 @@ use Rattle.ulfm_json.specs.declared.form.Form.{Form}
 use Rattle.ulfm_replies.specs.Stopped.{Asked, asked_at}
 use Rattle.ulfm_replies.specs.declared.command.ListOptions.{ListOptions}
 use Rattle.ulfm_replies.specs.declared.reply.Reply.{Reply}
-use Rattle.ulfm_judged.specs.EachPlace.{IsJudgedEach, IsToldAt, IsUnfound, IsWanted, found, places_in, together, unfound, unmet, unsearched}
-use Rattle.ulfm_judged.specs.inside.Judging.{IsFirstUnwanted, IsUnfoundUpTo, IsUnwanted, is_found}
+use Rattle.ulfm_judged.specs.EachPlace.{IsJudgedEach, IsToldAt, IsUnfound, found, places_in, unfound}
+use Rattle.ulfm_judged.specs.Wanted.{IsToldOf, IsWanted, together, unmet, unsearched}
+use Rattle.ulfm_judged.specs.inside.Judging.{IsFirstUnwanted, IsUnfoundUpTo, IsUnwantedAt, is_found}
 
 module _ (form : Form) (options : ListOptions) (asked : Asked) where
   -- it is wanted at a place
@@ -26,15 +27,21 @@ module _ (form : Form) (options : ListOptions) (asked : Asked) where
 
   -- what is told of a schedule that is found comes with 9
   told-found : (place : Place) (status : ℕ) (text : List ℕ) → is_told place status text → (status == 9) ≡ true → status ≡ 9
-  told-found place status text (unmet one goals told first is shows) nine = refl
-  told-found place status text (together number row goals words meets here none are shows) nine = refl
-  told-found place status text (unsearched number row goals meets here none are shows) nine = absurd (false≢true nine)
+  told-found place status text told = by status text told.2
+    where
+      by : (k : ℕ) (words : List ℕ) → IsToldOf form options (Some place) (asked_at place asked) told.0 k words → (k == 9) ≡ true → k ≡ 9
+      by k words (unmet one goals what first is shows) nine = refl
+      by k words (together number row goals schedule meets here none are shows) nine = refl
+      by k words (unsearched number row goals meets here none are shows) nine = absurd (false≢true nine)
 
   -- and all else with 7
   told-unfound : (place : Place) (status : ℕ) (text : List ℕ) → is_told place status text → (status == 9) ≡ false → status ≡ 7
-  told-unfound place status text (unmet one goals told first is shows) other = absurd (false≢true (sym other))
-  told-unfound place status text (together number row goals words meets here none are shows) other = absurd (false≢true (sym other))
-  told-unfound place status text (unsearched number row goals meets here none are shows) other = refl
+  told-unfound place status text told = by status text told.2
+    where
+      by : (k : ℕ) (words : List ℕ) → IsToldOf form options (Some place) (asked_at place asked) told.0 k words → (k == 9) ≡ false → k ≡ 7
+      by k words (unmet one goals what first is shows) other = absurd (false≢true (sym other))
+      by k words (together number row goals schedule meets here none are shows) other = absurd (false≢true (sym other))
+      by k words (unsearched number row goals meets here none are shows) other = refl
 
   module _ (listed : List Listed) where
     -- at none of so many places a schedule was found
@@ -65,7 +72,7 @@ module _ (form : Form) (options : ListOptions) (asked : Asked) where
       places-more P all here = All-more (λ (o : Listed). P o.place) listed i one inside all (subst (λ (o : Listed). P o.place) is here)
 
       -- a schedule is found there
-      pub found-next : (first told : Option Reply) → IsUnfoundUpTo form options asked listed i first → IsUnwanted form options one.place (asked_at one.place asked) told → is_found told ≡ true → IsFirstUnwanted form options asked (places_in listed) told
+      pub found-next : (first told : Option Reply) → IsUnfoundUpTo form options asked listed i first → IsUnwantedAt form options one.place (asked_at one.place asked) told → is_found told ≡ true → IsFirstUnwanted form options asked (places_in listed) told
       found-next first None so_far here some = absurd (false≢true some)
       found-next first (Some reply) so_far here nine = λ status.
           let words = string_bytes reply.text in
@@ -74,7 +81,7 @@ module _ (form : Form) (options : ListOptions) (asked : Asked) where
           (found i one.place words place-next (places-before (IsUnfound form options asked) (unfound-all i first so_far)) (subst (λ (k : ℕ). is_told one.place k words) same here))
 
       -- none is found there
-      pub unfound-next : (first told : Option Reply) → IsUnfoundUpTo form options asked listed i first → IsUnwanted form options one.place (asked_at one.place asked) told → is_found told ≡ false
+      pub unfound-next : (first told : Option Reply) → IsUnfoundUpTo form options asked listed i first → IsUnwantedAt form options one.place (asked_at one.place asked) told → is_found told ≡ false
           → IsUnfoundUpTo form options asked listed (i + 1) (option_or first told)
       unfound-next None None all here none = places-more wanted_at all here
       unfound-next None (Some reply) all here other =

@@ -1,19 +1,13 @@
 -- What `outcomes --stops` writes for a job.
 use Rattle.std.specs.Prelude.{◌≡◌, ◌<◌, ◌⊎◌, ℕ, ◌+◌, List, [], ◌++◌, Some, None, All, map, slice_get, take}
-use Rattle.ulfm_job.specs.declared.clause.Clause.{Clause}
 use Rattle.ulfm_job.specs.declared.fault.JobFault.TheVariants.{TooLarge}
 use Rattle.ulfm_job.specs.Job.{step_count}
 use Rattle.ulfm_stops.specs.Places.{places_of}
 use Rattle.ulfm_stops.specs.declared.place.Place.{Place}
 use Rattle.ulfm_stops.specs.declared.place.Place.TheVariants.{Nowhere}
-use Rattle.ulfm_finder.specs.Told.{IsTold}
-use Rattle.ulfm_finder.specs.Unmet.{MeetsExpected}
-use Rattle.ulfm_found.specs.Unmet.{IsUnmet}
-use Rattle.ulfm_found.specs.declared.goals.Goals.{Goals}
-use Rattle.ulfm_found.specs.declared.unmet.Unmet.{Unmet}
 use Rattle.ulfm_judged.specs.Lists.{AreLists}
-use Rattle.ulfm_lists.specs.Numbers.{filed_number}
-use Rattle.ulfm_lists.specs.Objects.{lists_in}
+use Rattle.ulfm_lists.specs.List.{lists_in}
+use Rattle.ulfm_lists.specs.Told.{more_at}
 use Rattle.ulfm_lists.specs.Union.{some_never_ends}
 use Rattle.ulfm_lists.specs.declared.listed.Listed.{Listed}
 use Rattle.ulfm_json.specs.declared.form.Form.{Form}
@@ -21,30 +15,12 @@ use Rattle.ulfm_replies.specs.Failure.{out_of_memory_in}
 use Rattle.ulfm_replies.specs.Replies.{refused_in}
 use Rattle.ulfm_replies.specs.Stopped.{Asked, IsAskedAt, IsRefusal, asked_at}
 use Rattle.ulfm_replies.specs.declared.command.ListOptions.{ListOptions}
-use Rattle.ulfm_judged.specs.Outcomes.{AreOfRow, IsFirstUnmet, NoneComes, list_status}
-use Rattle.ulfm_lists.specs.Told.{Told, many, schedule}
-use Rattle.ulfm_lists.specs.ToldAt.{unmet_at, row_at, more_at}
+use Rattle.ulfm_judged.specs.Outcomes.{list_status}
+use Rattle.ulfm_judged.specs.Wanted.{HasList, IsToldOf, IsWanted}
 
--- the step as the file numbers it
-abbrev pub filed : Place → Unmet → Unmet
-filed place unmet = record unmet { step = filed_number place unmet.rank unmet.step }
-
--- no schedule has an answer that its step doesn't expect, nor all answers of a row of `never`
-pub record IsWanted (asked : Asked) : Type 0 where
-  pub meets : MeetsExpected asked.job
-  pub none : NoneComes asked.job asked.rows
-
--- The status, and what is told of a place where some schedule has one. With 9, by a list of all outcomes there, the first step that has an
--- answer which it doesn't expect, and a schedule that shows it, or that more states than the limit would be looked at for it. Where there
--- is no such step, with 9 the first row of `never` that comes together, with a schedule, or with 7 the first that can't be looked for
--- within the limit. Steps are numbered as in the file, and in the schedule as in the job with these stops.
-pub data IsToldAt (form : Form) (options : ListOptions) (place : Place) (asked : Asked) : ℕ → List ℕ → Type 0 where
-  unmet : (one : Unmet) (goals : Goals) (told : Told) → IsFirstUnmet asked.job options.limit one → IsUnmet asked.job one goals → IsTold asked.job goals options.is_brief options.limit told
-      → IsToldAt form options place asked 9 (unmet_at form place (filed place one) told)
-  together : (number : ℕ) (row : List Clause) (goals : Goals) (text : List ℕ) → MeetsExpected asked.job → slice_get asked.rows number ≡ Some row → NoneComes asked.job (take number asked.rows) → AreOfRow asked.job row goals
-      → IsTold asked.job goals options.is_brief options.limit (schedule text) → IsToldAt form options place asked 9 (row_at form place number (schedule text))
-  unsearched : (number : ℕ) (row : List Clause) (goals : Goals) → MeetsExpected asked.job → slice_get asked.rows number ≡ Some row → NoneComes asked.job (take number asked.rows) → AreOfRow asked.job row goals
-      → IsTold asked.job goals options.is_brief options.limit (many options.limit) → IsToldAt form options place asked 7 (row_at form place number (many options.limit))
+-- what is told of a place where some schedule has one, by a list of all outcomes there
+abbrev pub IsToldAt : Form → ListOptions → Place → Asked → ℕ → List ℕ → Type 0
+IsToldAt form options place asked status text = (found : List (List ℕ)) × HasList asked.job options.limit found × IsToldOf form options (Some place) asked found status text
 
 -- at a place no schedule is found that has one: none does, or for some row that isn't known
 abbrev pub IsUnfound : Form → ListOptions → Asked → Place → Type 0

@@ -1,3 +1,4 @@
+pub mod Wanted
 pub mod Outcomes
 pub mod Lists
 pub mod EachPlace

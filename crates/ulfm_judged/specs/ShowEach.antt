@@ -15,11 +15,13 @@ use Rattle.ulfm_found.specs.declared.goals.Goals.{Goals}
 use Rattle.ulfm_json.specs.declared.form.Form.{Form}
 use Rattle.ulfm_replies.specs.Failure.{out_of_memory_in}
 use Rattle.ulfm_replies.specs.Replies.{refused_in}
-use Rattle.ulfm_replies.specs.Stopped.{Asked, IsAskedAt, IsRefusal, clauses_beside}
+use Rattle.ulfm_replies.specs.Stopped.{Asked, IsAskedAt, IsRefusal, asked_at, clauses_beside}
 use Rattle.ulfm_replies.specs.declared.command.ListOptions.{ListOptions}
 use Rattle.ulfm_judged.specs.Outcomes.{goals_asked, no_goal, nowhere_in}
-use Rattle.ulfm_lists.specs.Told.{many, schedule}
-use Rattle.ulfm_lists.specs.ToldAt.{told_at}
+use Rattle.ulfm_lists.specs.Told.{told_in}
+use Rattle.ulfm_lists.specs.declared.told.Told.{Told}
+use Rattle.ulfm_lists.specs.declared.told.Told.TheVariants as told
+use Rattle.ulfm_moves.specs.declared.schedule.Schedule.{Schedule}
 
 -- clauses of the file's steps, by the numbers that these have beside a stop
 abbrev pub beside : JobView → Stop → List Clause → List Clause
@@ -45,19 +47,23 @@ pub record IsFirstPlace (j : JobView) (clauses : List Clause) (stops : ℕ) (pla
   pub there : slice_get (places_of stops j) number ≡ Some place
   pub before : All (IsNowhereAt j clauses) (take number (places_of stops j))
 
+-- what is told of a search at a place, by what is asked for there
+abbrev pub told_at_place : Form → Place → Asked → Told → List ℕ
+told_at_place form place asked what = told_in form (Some place) (asked_at place asked).names (asked_at place asked).job what
+
 -- The status and the text, in this form, that `outcomes --stops --show` gives for these bytes: with 0 the first place at which a schedule
 -- has all answers that the text names, by the numbers that steps have in the file, and that schedule, or a picture of it with `--draw`;
 -- with 8 that there is none; with 7 the first place at which it can't be looked for within the limit; with 1 the first part of the text
 -- that names no answer of the job, or the line of the job's refusal, also of one that has no room for so many stops.
 pub data IsShowEachReply (form : Form) (options : ListOptions) (stops : ℕ) (show bytes : List ℕ) : ℕ → List ℕ → Type 0 where
   shown_at : (asked : Asked) (answers : List Clause) (place : Place) → IsAskedAt Nowhere bytes asked → goals_asked asked show ≡ Ok answers → IsFirstPlace asked.job answers stops place
-      → (goals : Goals) → AreGoalsAt place asked.job answers goals → (text told : List ℕ) → IsTold (job_at place asked.job) goals options.is_brief options.limit (schedule text)
-      → (options.drawn ≡ None → told ≡ told_at form place (schedule text)) → IsShowEachReply form options stops show bytes 0 told
+      → (goals : Goals) → AreGoalsAt place asked.job answers goals → (schedule : Schedule) (text : List ℕ) → IsTold (job_at place asked.job) goals options.is_brief options.limit (told.Schedule schedule)
+      → (options.drawn ≡ None → text ≡ told_at_place form place asked (told.Schedule schedule)) → IsShowEachReply form options stops show bytes 0 text
   nowhere_at_all : (asked : Asked) (answers : List Clause) → IsAskedAt Nowhere bytes asked → goals_asked asked show ≡ Ok answers → All (IsNowhereAt asked.job answers) (places_of stops asked.job)
       → IsShowEachReply form options stops show bytes 8 (nowhere_in form)
   too_many_at : (asked : Asked) (answers : List Clause) (place : Place) → IsAskedAt Nowhere bytes asked → goals_asked asked show ≡ Ok answers → IsFirstPlace asked.job answers stops place
-      → (goals : Goals) → AreGoalsAt place asked.job answers goals → IsTold (job_at place asked.job) goals options.is_brief options.limit (many options.limit)
-      → IsShowEachReply form options stops show bytes 7 (told_at form place (many options.limit))
+      → (goals : Goals) → AreGoalsAt place asked.job answers goals → IsTold (job_at place asked.job) goals options.is_brief options.limit (told.Many options.limit)
+      → IsShowEachReply form options stops show bytes 7 (told_at_place form place asked (told.Many options.limit))
   unnamed_at_all : (asked : Asked) (text : List ℕ) → IsAskedAt Nowhere bytes asked → goals_asked asked show ≡ Err text → IsShowEachReply form options stops show bytes 1 (no_goal text)
   no_room_to_show : (asked : Asked) → IsAskedAt Nowhere bytes asked → 256 < step_count asked.job.scripts + stops → IsShowEachReply form options stops show bytes 1 (refused_in form TooLarge)
   not_shown_at_all : (status : ℕ) (text : List ℕ) → IsRefusal form Nowhere bytes status text → IsShowEachReply form options stops show bytes status text

@@ -6,29 +6,27 @@ ghost use Rattle.ulfm_replies.specs.Stopped.{asked_view};
 ghost use Rattle.ulfm_judged.specs.EachPlace.{IsEachPlaceReply, IsJudgedEach, places_in};
 ghost use Rattle.ulfm_judged.specs.inside.Judging.{AreListedOf, AreSharing, lists_status, lists_text, text_past};
 
-use crate::listed::list_status;
+use crate::listed::{below, list_status};
 use crate::lists::Lists;
 use crate::onlooker::Onlooker;
+use crate::search::Search;
 use crate::threads::list_places;
 use crate::unwanted::first_unwanted;
-use std::alloc::{AllocError, Global};
+use crate::verdicts::lists_remarks;
+use std::alloc::AllocError;
 use std::thread;
 use std::thread::Threads;
 use ulfm_finder::Finder;
 use ulfm_job::{JobFault, MOST_STEPS};
-use ulfm_json::Form;
 use ulfm_lists::{Listed, lists_in, push_more_at, some_never_ends};
 use ulfm_reader::Reading;
 use ulfm_replies::{ListOptions, MOST_THREADS, PAST_LIMIT, Place, Reply, asked_at, refusal};
 use ulfm_stops::places;
 
-/// The reply of `outcomes --stops` with these options. The onlooker is told how far the lists and the searches are.
+/// The reply of `outcomes --stops` by this search. The onlooker is told how far the lists and the searches are.
 pub fn each_place_reply<R, F, L>(
     rt: &R,
-    finder: &F,
-    alloc: Global,
-    form: Form,
-    options: ListOptions,
+    search: &Search<'_, F>,
     stops: u8,
     bytes: &[u8],
     onlooker: &L,
@@ -37,31 +35,21 @@ where
     R: Threads + Sync,
     F: Finder + Sync,
     L: Onlooker + Sync,
-    ensures { IfOk result (λ r. IsEachPlaceReply form options stops bytes.now r.status (string_bytes r.text)) }
+    ensures { IfOk result (λ r. IsEachPlaceReply search.now.form search.now.options stops bytes.now r.status (string_bytes r.text)) }
 {
-    let read = asked_at(alloc, form, Place::Nowhere, bytes)?;
+    let read = asked_at(search.alloc, search.form, Place::Nowhere, bytes)?;
     let asked = match read {
         Ok(asked) => asked,
         Err(reply) => return Ok(reply),
     };
     if asked.job.len() + stops as usize > MOST_STEPS {
-        return refusal(alloc, form, JobFault::TooLarge);
+        return refusal(search.alloc, search.form, JobFault::TooLarge);
     }
-    let places = places(alloc, &asked.job, stops)?;
-    let threads = threads_of(rt, options);
-    let limit = options.limit as usize;
-    let lists = list_places(
-        rt,
-        finder,
-        alloc,
-        &asked.job,
-        places.as_slice(),
-        threads,
-        limit,
-        onlooker,
-    )?;
+    let places = places(search.alloc, &asked.job, stops)?;
+    let threads = threads_of(rt, search.options);
+    let lists = list_places(rt, search, &asked.job, places.as_slice(), threads, onlooker)?;
     onlooker.see_listed(lists.listed.len(), places.len());
-    judged(finder, alloc, form, options, &asked, &lists, onlooker)
+    judged(search, &asked, &lists, onlooker)
 }
 
 /// How many threads share the places: as many as are asked for, else as there are processors, 64 at most.
@@ -89,63 +77,45 @@ fn processors<R: Threads>(rt: &R) -> u8
 
 /// The lists, and below them what isn't wanted.
 fn judged<F: Finder, L: Onlooker>(
-    finder: &F,
-    alloc: Global,
-    form: Form,
-    options: ListOptions,
+    search: &Search<'_, F>,
     asked: &Reading,
     lists: &Lists,
     onlooker: &L,
 ) -> Result<Reply, AllocError>
-    requires listed { AreListedOf (asked_view asked.now) options.limit lists.now.listed.items }
+    requires listed { AreListedOf (asked_view asked.now) search.now.options.limit lists.now.listed.items }
     requires ascii { AreAllAscii lists.now.listed.items }
-    ensures { IfOk result (λ r. (text : List ℕ) × IsJudgedEach form options (asked_view asked.now) (places_in lists.now.listed.items) (lists_status options lists.now) r.status text × (string_bytes r.text ≡ lists_text form asked.now.names.items asked.now.job options lists.now ++ text)) }
+    ensures { IfOk result (λ r. (text : List ℕ) × IsJudgedEach search.now.form search.now.options (asked_view asked.now) (places_in lists.now.listed.items) (lists_status search.now.options lists.now) r.status text × (string_bytes r.text ≡ lists_text search.now.form asked.now.names.items asked.now.job search.now.options lists.now ++ text)) }
 {
     let listed = lists.listed.as_slice();
-    let past = lists.past_limit;
-    let text = text_of(alloc, form, options, asked, listed, past)?;
-    match first_unwanted(finder, alloc, form, options, asked, listed, onlooker)? {
-        Some(told) => with_told(text, told),
+    let text = text_of(search, asked, listed, lists.past_limit)?;
+    match first_unwanted(search, asked, listed, onlooker)? {
+        Some(told) => below(text, told),
         None => Ok(Reply {
-            status: status_of(options, lists),
+            status: status_of(search.options, lists),
             text,
-            remarks: None,
+            remarks: lists_remarks(search, asked, lists, onlooker),
         }),
     }
 }
 
-/// What is told, below this text.
-fn with_told(text: String, told: Reply) -> Result<Reply, AllocError>
-    ensures { IfOk result (λ r. (r.status ≡ told.status) × (string_bytes r.text ≡ string_bytes text ++ string_bytes told.text)) }
-{
-    let mut text = text;
-    text.push_str(told.text.as_str())?;
-    Ok(Reply {
-        status: told.status,
-        text,
-        remarks: told.remarks,
-    })
-}
-
 /// The text of the lists, or that they come past the limit.
-fn text_of(
-    alloc: Global,
-    form: Form,
-    options: ListOptions,
+fn text_of<F: Finder>(
+    search: &Search<'_, F>,
     asked: &Reading,
     listed: &[Listed],
     past: Option<Place>,
 ) -> Result<String, AllocError>
     requires ascii { AreAllAscii listed.now }
-    ensures { IfOk result (λ text. string_bytes text ≡ text_past form asked.now.names.items asked.now.job options listed.now past) }
+    ensures { IfOk result (λ text. string_bytes text ≡ text_past search.now.form asked.now.names.items asked.now.job search.now.options listed.now past) }
 {
     match past {
         Some(place) => {
-            let mut text = String::new(alloc);
-            push_more_at(&mut text, form, options.limit as usize, place)?;
+            let limit = search.options.limit as usize;
+            let mut text = String::new(search.alloc);
+            push_more_at(&mut text, search.form, limit, place)?;
             Ok(text)
         }
-        None => Ok(lists_in(alloc, form, &asked.names, &asked.job, listed)?),
+        None => Ok(lists_in(search.alloc, search.form, &asked.names, &asked.job, listed)?),
     }
 }
 

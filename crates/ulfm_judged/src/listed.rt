@@ -1,44 +1,34 @@
 //! The reply of `outcomes`: a line for each step, with all that it may be answered, and below it a schedule that shows what the job doesn't
 //! want.
 ghost use Rattle.std.specs.Prelude.{◌≡◌, ◌++◌, ℕ, List, Some, IfOk, option_map, string_bytes};
-ghost use Rattle.ulfm_job.specs.declared.clause.Clause.{Clause as SeenClause};
-ghost use Rattle.ulfm_reader.specs.JobText.{rows_of};
 ghost use Rattle.ulfm_replies.specs.Stopped.{IsAskedAt, asked_view};
 ghost use Rattle.ulfm_reach.specs.declared.reach.Reach.TheVariants.{All};
 ghost use Rattle.ulfm_finder.specs.Outcomes.{IsList};
-ghost use Rattle.ulfm_finder.specs.Unmet.{Judges};
-ghost use Rattle.ulfm_found.specs.Unmet.{first_unmet};
-ghost use Rattle.ulfm_judged.specs.ListReply.{IsListReply};
-ghost use Rattle.ulfm_judged.specs.Outcomes.{HasList, IsJudged, IsOutcomesReply, list_status};
-ghost use Rattle.ulfm_lists.specs.Told.{row_in};
-ghost use Rattle.ulfm_judged.specs.inside.Looking.{IsFirstRow, row_status};
-ghost use Rattle.ulfm_lists.specs.Told.{told_view};
+ghost use Rattle.ulfm_judged.specs.ListReply.{IsListReply, IsReplyBy, open_goal};
+ghost use Rattle.ulfm_judged.specs.Outcomes.{IsJudged, IsOutcomesReply, list_status};
 
+use crate::drawing::{drawn_step, open_goal};
 use crate::each_place::each_place_reply;
-use crate::looking::look_for_row;
 use crate::onlooker::Onlooker;
-use crate::remarks::{remarks_on, skipped_in};
+use crate::search::Search;
 use crate::show_each::show_each_reply;
 use crate::shown::show_reply;
-use std::alloc::{AllocError, Global};
+use crate::unwanted::unwanted;
+use crate::verdicts::list_remarks;
+use std::alloc::AllocError;
 use std::thread::Threads;
-use ulfm_finder::{Finder, first_unmet};
-use ulfm_found::{Unmet, list_in, some_never_end};
-use ulfm_job::{Clause, Job};
-use ulfm_json::Form;
-use ulfm_lists::{Told, push_row, push_unmet};
-use ulfm_reach::{Reach, Reached, Rows, Watch};
+use ulfm_finder::Finder;
+use ulfm_found::{OpenStep, list_in, some_never_end};
+use ulfm_reach::{Reach, Reached, Watch};
 use ulfm_reader::Reading;
-use ulfm_replies::{DONE, ListOptions, NOT_EXPECTED, PAST_LIMIT, Reply, UNFINISHED, asked_at};
+use ulfm_replies::{DONE, PAST_LIMIT, Reply, UNFINISHED, asked_at};
 
-/// The reply of `outcomes` with these options, and perhaps with answers that a schedule is to show. `watch` is told how far it is.
+/// The reply of `outcomes` by this search, perhaps with answers that a schedule is to show. Where a picture is asked for without any, it shows a
+/// step that never ends. `watch` is told how far it is.
 pub fn list_reply<R, F, W>(
     rt: &R,
-    finder: &F,
-    alloc: Global,
-    form: Form,
+    search: &Search<'_, F>,
     show: Option<&str>,
-    options: ListOptions,
     bytes: &[u8],
     watch: &mut W,
 ) -> Result<Reply, AllocError>
@@ -46,72 +36,96 @@ where
     R: Threads + Sync,
     F: Finder + Sync,
     W: Watch + Onlooker + Sync,
-    ensures { IfOk result (λ r. IsListReply form (option_map (λ s. s.now) show.entry) options bytes.now r.status (string_bytes r.text)) }
+    ensures { IfOk result (λ r. IsListReply search.now.form (option_map (λ s. s.now) show.entry) search.now.options bytes.now r.status (string_bytes r.text)) }
 {
-    match (show, options.stops) {
-        (Some(show), Some(stops)) => {
-            show_each_reply(finder, alloc, form, options, stops, show, bytes, &*watch)
-        }
-        (Some(show), None) => show_reply(finder, alloc, form, options, show, bytes, watch),
-        (None, Some(stops)) => each_place_reply(
-            rt, finder, alloc, form, options, stops, bytes, &*watch,
-        ),
-        (None, None) => outcomes_reply(finder, alloc, form, options, bytes, watch),
+    match drawn_step(search, show, bytes, &*watch)? {
+        Some(left) => open_reply(rt, search, left, bytes, watch),
+        None => reply_by(rt, search, show, bytes, watch),
+    }
+}
+
+/// The reply that shows this step, which never ends.
+fn open_reply<R, F, W>(
+    rt: &R,
+    search: &Search<'_, F>,
+    left: OpenStep,
+    bytes: &[u8],
+    watch: &mut W,
+) -> Result<Reply, AllocError>
+where
+    R: Threads + Sync,
+    F: Finder + Sync,
+    W: Watch + Onlooker + Sync,
+    ensures { IfOk result (λ r. IsReplyBy search.now.form (Some (open_goal left.rank left.step)) search.now.options.stops search.now.options bytes.now r.status (string_bytes r.text)) }
+{
+    let goal = open_goal(search.alloc, left)?;
+    reply_by(rt, search, Some(goal.as_str()), bytes, watch)
+}
+
+/// The reply with these answers that a schedule is to show, if there are some.
+fn reply_by<R, F, W>(
+    rt: &R,
+    search: &Search<'_, F>,
+    show: Option<&str>,
+    bytes: &[u8],
+    watch: &mut W,
+) -> Result<Reply, AllocError>
+where
+    R: Threads + Sync,
+    F: Finder + Sync,
+    W: Watch + Onlooker + Sync,
+    ensures { IfOk result (λ r. IsReplyBy search.now.form (option_map (λ s. s.now) show.entry) search.now.options.stops search.now.options bytes.now r.status (string_bytes r.text)) }
+{
+    match (show, search.options.stops) {
+        (Some(show), Some(stops)) => show_each_reply(search, stops, show, bytes, &*watch),
+        (Some(show), None) => show_reply(search, show, bytes, watch),
+        (None, Some(stops)) => each_place_reply(rt, search, stops, bytes, &*watch),
+        (None, None) => outcomes_reply(search, bytes, watch),
     }
 }
 
 /// The reply without answers that a schedule is to show.
 fn outcomes_reply<F: Finder, W: Watch>(
-    finder: &F,
-    alloc: Global,
-    form: Form,
-    options: ListOptions,
+    search: &Search<'_, F>,
     bytes: &[u8],
     watch: &mut W,
 ) -> Result<Reply, AllocError>
-    ensures { IfOk result (λ r. IsOutcomesReply form options bytes.now r.status (string_bytes r.text)) }
+    ensures { IfOk result (λ r. IsOutcomesReply search.now.form search.now.options bytes.now r.status (string_bytes r.text)) }
 {
-    let read = asked_at(alloc, form, options.place, bytes)?;
+    let read = asked_at(search.alloc, search.form, search.options.place, bytes)?;
     match read {
-        Ok(asked) => explored_reply(finder, alloc, form, options, &asked, watch),
+        Ok(asked) => explored_reply(search, &asked, watch),
         Err(reply) => Ok(reply),
     }
 }
 
 /// The reply to what was asked for, with its place of stops.
 fn explored_reply<F: Finder, W: Watch>(
-    finder: &F,
-    alloc: Global,
-    form: Form,
-    options: ListOptions,
+    search: &Search<'_, F>,
     asked: &Reading,
     watch: &mut W,
 ) -> Result<Reply, AllocError>
-    ensures { (bytes : List ℕ) → IsAskedAt options.place bytes (asked_view asked.now) → IfOk result (λ r. IsOutcomesReply form options bytes r.status (string_bytes r.text)) }
+    ensures { (bytes : List ℕ) → IsAskedAt search.now.options.place bytes (asked_view asked.now) → IfOk result (λ r. IsOutcomesReply search.now.form search.now.options bytes r.status (string_bytes r.text)) }
 {
-    let limit = options.limit as usize;
-    let reach = finder.outcomes(alloc, &asked.job, limit, watch)?;
-    reached_reply(finder, alloc, form, options, asked, &reach, watch)
+    let reach = search.outcomes(&asked.job, watch)?;
+    reached_reply(search, asked, &reach, watch)
 }
 
 /// The reply where this was reached.
 fn reached_reply<F: Finder, W: Watch>(
-    finder: &F,
-    alloc: Global,
-    form: Form,
-    options: ListOptions,
+    search: &Search<'_, F>,
     asked: &Reading,
     reach: &Reach,
     watch: &mut W,
 ) -> Result<Reply, AllocError>
-    requires { IsList asked.now.job options.limit reach.now }
-    ensures { (bytes : List ℕ) → IsAskedAt options.place bytes (asked_view asked.now) → IfOk result (λ r. IsOutcomesReply form options bytes r.status (string_bytes r.text)) }
+    requires { IsList asked.now.job search.now.options.limit reach.now }
+    ensures { (bytes : List ℕ) → IsAskedAt search.now.options.place bytes (asked_view asked.now) → IfOk result (λ r. IsOutcomesReply search.now.form search.now.options bytes r.status (string_bytes r.text)) }
 {
-    let limit = options.limit as usize;
+    let limit = search.options.limit as usize;
     let names = asked.names.as_slice();
-    let text = list_in(alloc, form, names, &asked.job, reach, limit)?;
+    let text = list_in(search.alloc, search.form, names, &asked.job, reach, limit)?;
     match reach {
-        Reach::All(reached) => judged(finder, alloc, form, options, asked, reached, text, watch),
+        Reach::All(reached) => judged(search, asked, reached, text, watch),
         Reach::More => Ok(Reply {
             status: PAST_LIMIT,
             text,
@@ -122,36 +136,21 @@ fn reached_reply<F: Finder, W: Watch>(
 
 /// A whole list, and below it what its job doesn't want.
 fn judged<F: Finder, W: Watch>(
-    finder: &F,
-    alloc: Global,
-    form: Form,
-    options: ListOptions,
+    search: &Search<'_, F>,
     asked: &Reading,
     reached: &Reached,
     list: String,
     watch: &mut W,
 ) -> Result<Reply, AllocError>
-    requires { IsList asked.now.job options.limit (All reached.now) }
-    ensures { IfOk result (λ r. IsJudged form options asked.now.job (rows_of asked.now.never.items) reached.now.found (string_bytes list) r.status (string_bytes r.text)) }
+    requires { IsList asked.now.job search.now.options.limit (All reached.now) }
+    ensures { IfOk result (λ r. IsJudged search.now.form search.now.options (asked_view asked.now) reached.now.found (string_bytes list) r.status (string_bytes r.text)) }
 {
-    if let Some(unmet) = first_unmet(&asked.job, &reached.found) {
-        return unmet_reply(finder, alloc, form, options, asked, unmet, list, watch);
-    }
-    let rows = asked.never.as_slice();
-    match first_row(
-        finder,
-        alloc,
-        options,
-        &asked.job,
-        &reached.found,
-        rows,
-        watch,
-    )? {
-        Some(first) => row_reply(alloc, form, asked, &first, list),
+    match unwanted(search, None, asked, &reached.found, watch)? {
+        Some(told) => below(list, told),
         None => Ok(Reply {
-            status: list_status(options.is_strict, some_never_end(&reached.found)),
+            status: list_status(search.options.is_strict, some_never_end(&reached.found)),
             text: list,
-            remarks: skipped_in(alloc, asked, &reached.found),
+            remarks: list_remarks(search, asked, &reached.found, watch),
         }),
     }
 }
@@ -167,99 +166,15 @@ pub(crate) fn list_status(is_strict: bool, is_open: bool) -> u8
     }
 }
 
-/// A list, and below it a schedule in which a step isn't answered as it expects.
-fn unmet_reply<F: Finder, W: Watch>(
-    finder: &F,
-    alloc: Global,
-    form: Form,
-    options: ListOptions,
-    asked: &Reading,
-    unmet: Unmet,
-    list: String,
-    watch: &mut W,
-) -> Result<Reply, AllocError>
-    requires { Judges asked.now.job (Some unmet) }
-    ensures { IfOk result (λ r. (rows : List (List SeenClause)) (found : List (List ℕ)) → first_unmet asked.now.job found ≡ Some unmet → IsJudged form options asked.now.job rows found (string_bytes list) r.status (string_bytes r.text)) }
+/// What is told, below this text.
+pub(crate) fn below(text: String, told: Reply) -> Result<Reply, AllocError>
+    ensures { IfOk result (λ r. (r.status ≡ told.status) × (string_bytes r.text ≡ string_bytes text ++ string_bytes told.text)) }
 {
-    let limit = options.limit as usize;
-    let goals = unmet.goals(alloc, &asked.job)?;
-    let mut text = list;
-    match finder.show(alloc, &asked.job, &goals, options.is_brief, limit, watch)? {
-        Some(told) => {
-            push_unmet(&mut text, form, unmet, &told)?;
-            Ok(Reply {
-                status: NOT_EXPECTED,
-                text,
-                remarks: remarks_on(alloc, asked, None, &told),
-            })
-        }
-        None => unreachable!(),
-    }
-}
-
-/// A row of `never` by its number, and what came of the search for it.
-#[derive(Drop)]
-pub(crate) struct FirstRow {
-    pub(crate) number: usize,
-    pub(crate) told: Told,
-}
-
-/// The first row whose answers all come together, or that can't be looked for within the limit.
-pub(crate) fn first_row<F: Finder, W: Watch>(
-    finder: &F,
-    alloc: Global,
-    options: ListOptions,
-    job: &Job,
-    found: &Rows,
-    rows: &[Vec<Clause>],
-    watch: &mut W,
-) -> Result<Option<FirstRow>, AllocError>
-    requires { HasList job.now options.limit found.now }
-    ensures { IfOk result (IsFirstRow job.now (rows_of rows.now) options.is_brief options.limit) }
-{
-    let limit = options.limit as usize;
-    for (number, row) in rows.iter().enumerate() {
-        if let Some(told) = look_for_row(
-            finder,
-            alloc,
-            job,
-            found,
-            row.as_slice(),
-            options.is_brief,
-            limit,
-            watch,
-        )? {
-            return Ok(Some(FirstRow { number, told }));
-        }
-    }
-    Ok(None)
-}
-
-/// A list, and below it what came of the search for a row.
-fn row_reply(
-    alloc: Global,
-    form: Form,
-    asked: &Reading,
-    first: &FirstRow,
-    list: String,
-) -> Result<Reply, AllocError>
-    ensures { IfOk result (λ r. (r.status ≡ row_status (told_view first.now.told)) × (string_bytes r.text ≡ string_bytes list ++ row_in form first.now.number (told_view first.now.told))) }
-{
-    let mut text = list;
-    push_row(&mut text, form, first.number, &first.told)?;
+    let mut text = text;
+    text.push_str(told.text.as_str())?;
     Ok(Reply {
-        status: row_status(&first.told),
+        status: told.status,
         text,
-        remarks: remarks_on(alloc, asked, Some(first.number), &first.told),
+        remarks: told.remarks,
     })
-}
-
-/// The status of a list below which this is told of a row.
-pub(crate) fn row_status(told: &Told) -> u8
-    ensures { result ≡ row_status (told_view told.now) }
-{
-    match told {
-        Told::Schedule(_) => NOT_EXPECTED,
-        Told::Many(_) => PAST_LIMIT,
-    }
 }

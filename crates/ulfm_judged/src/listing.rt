@@ -6,7 +6,8 @@ ghost use Rattle.ulfm_judged.specs.inside.Parts.{IsListOf};
 
 use crate::lists::Lists;
 use crate::onlooker::{Onlooker, Seen};
-use std::alloc::{AllocError, Global};
+use crate::search::Search;
+use std::alloc::AllocError;
 use ulfm_base::OutOfMemory;
 use ulfm_finder::Finder;
 use ulfm_job::Job;
@@ -16,21 +17,19 @@ use ulfm_stops::Place;
 
 /// The list of a place, or nothing where the job has more states there than the limit.
 fn list_place<F: Finder, L: Onlooker>(
-    finder: &F,
-    alloc: Global,
+    search: &Search<'_, F>,
     job: &Job,
     place: Place,
-    limit: usize,
     onlooker: &L,
 ) -> Result<Option<Listed>, OutOfMemory>
     requires { IsPlaceOf job.now place }
-    ensures { IfOk result (IsListOf job.now limit place) }
+    ensures { IfOk result (IsListOf job.now search.now.options.limit place) }
 {
-    let Ok(stopped) = place.job(alloc, job) else {
+    let Ok(stopped) = place.job(search.alloc, job) else {
         return Err(AllocError);
     };
     let mut watch = Seen::of(onlooker, place);
-    match finder.outcomes(alloc, &stopped, limit, &mut watch)? {
+    match search.outcomes(&stopped, &mut watch)? {
         Reach::All(reached) => Ok(Some(Listed {
             place,
             states: reached.keys.len(),
@@ -42,19 +41,17 @@ fn list_place<F: Finder, L: Onlooker>(
 
 /// The lists of these places, as far as they go.
 pub(crate) fn list_part<F: Finder, L: Onlooker>(
-    finder: &F,
-    alloc: Global,
+    search: &Search<'_, F>,
     job: &Job,
     places: &[Place],
-    limit: usize,
     onlooker: &L,
 ) -> Result<Lists, OutOfMemory>
     requires { All (IsPlaceOf job.now) places.now }
-    ensures { IfOk result (λ lists. AreLists job.now limit places.now lists.listed.items lists.past_limit) }
+    ensures { IfOk result (λ lists. AreLists job.now search.now.options.limit places.now lists.listed.items lists.past_limit) }
 {
-    let mut listed = Vec::new(alloc);
+    let mut listed = Vec::new(search.alloc);
     for place in places {
-        match list_place(finder, alloc, job, *place, limit, onlooker)? {
+        match list_place(search, job, *place, onlooker)? {
             Some(one) => listed.push(one)?,
             None => {
                 return Ok(Lists {

@@ -2,77 +2,62 @@
 ghost use Rattle.std.specs.Prelude.{◌≡◌, ℕ, All, List, IfOk, Some, string_bytes};
 ghost use Rattle.ulfm_stops.specs.Place.{IsPlaceOf, job_at};
 ghost use Rattle.ulfm_judged.specs.ShowEach.{AreGoalsAt, IsShowEachReply, beside};
-ghost use Rattle.ulfm_judged.specs.inside.Judging.{IsFirstLook, IsLookAt, IsLookAtText, IsToldAtText, look_at_status};
-ghost use Rattle.ulfm_judged.specs.inside.Looking.{look_status};
-ghost use Rattle.ulfm_lists.specs.Told.{told_view};
-ghost use Rattle.ulfm_replies.specs.Stopped.{IsAskedAt, asked_view};
+ghost use Rattle.ulfm_judged.specs.inside.Judging.{IsFirstLook, IsInside, IsLookAt, IsLookAtText, look_at_status};
+ghost use Rattle.ulfm_judged.specs.inside.Looking.{IsLookText, look_status};
+ghost use Rattle.ulfm_replies.specs.Stopped.{IsAskedAt, asked_at, asked_view};
 ghost use Rattle.ulfm_stops.specs.declared.place.Place.TheVariants.{Nowhere};
 
 use crate::onlooker::{Onlooker, Seen};
-use crate::shown::{no_goal, nowhere, status_of};
+use crate::search::Search;
+use crate::shown::{no_goal, nowhere_reply, told_reply};
+use crate::unwanted::stopped;
 use std::alloc::{AllocError, Global};
-use ulfm_draw::drawn;
 use ulfm_finder::Finder;
 use ulfm_found::Goals;
 use ulfm_job::{Clause, Job, JobFault, MOST_STEPS};
-use ulfm_json::{Form, Style};
-use ulfm_lists::{Told, push_told_at};
+use ulfm_lists::Told;
 use ulfm_reader::Reading;
-use ulfm_replies::{DONE, ListOptions, NO_SCHEDULE, Place, Reply, asked_at, refusal};
+use ulfm_replies::{Place, Reply, asked_at, refusal};
 use ulfm_stops::{Stop, places};
 
-/// The reply of `outcomes --stops --show` with these options and answers. The onlooker is told how far the searches are.
+/// The reply of `outcomes --stops --show` by this search, with these answers. The onlooker is told how far the searches are.
 pub fn show_each_reply<F: Finder, L: Onlooker>(
-    finder: &F,
-    alloc: Global,
-    form: Form,
-    options: ListOptions,
+    search: &Search<'_, F>,
     stops: u8,
     show: &str,
     bytes: &[u8],
     onlooker: &L,
 ) -> Result<Reply, AllocError>
-    ensures { IfOk result (λ r. IsShowEachReply form options stops show.now bytes.now r.status (string_bytes r.text)) }
+    ensures { IfOk result (λ r. IsShowEachReply search.now.form search.now.options stops show.now bytes.now r.status (string_bytes r.text)) }
 {
-    let read = asked_at(alloc, form, Place::Nowhere, bytes)?;
+    let read = asked_at(search.alloc, search.form, Place::Nowhere, bytes)?;
     match read {
-        Ok(asked) => sought_reply(finder, alloc, form, options, stops, show, &asked, onlooker),
+        Ok(asked) => sought_reply(search, stops, show, &asked, onlooker),
         Err(reply) => Ok(reply),
     }
 }
 
 /// The reply to what was asked for.
 fn sought_reply<F: Finder, L: Onlooker>(
-    finder: &F,
-    alloc: Global,
-    form: Form,
-    options: ListOptions,
+    search: &Search<'_, F>,
     stops: u8,
     show: &str,
     asked: &Reading,
     onlooker: &L,
 ) -> Result<Reply, AllocError>
-    ensures { (bytes : List ℕ) → IsAskedAt Nowhere bytes (asked_view asked.now) → IfOk result (λ r. IsShowEachReply form options stops show.now bytes r.status (string_bytes r.text)) }
+    ensures { (bytes : List ℕ) → IsAskedAt Nowhere bytes (asked_view asked.now) → IfOk result (λ r. IsShowEachReply search.now.form search.now.options stops show.now bytes r.status (string_bytes r.text)) }
 {
     if asked.job.len() + stops as usize > MOST_STEPS {
-        return refusal(alloc, form, JobFault::TooLarge);
+        return refusal(search.alloc, search.form, JobFault::TooLarge);
     }
-    let answers = match asked.goals(alloc, show)? {
+    let answers = match asked.goals(search.alloc, show)? {
         Ok(answers) => answers,
-        Err(text) => return no_goal(alloc, text),
+        Err(text) => return no_goal(search.alloc, text),
     };
-    let places = places(alloc, &asked.job, stops)?;
+    let places = places(search.alloc, &asked.job, stops)?;
     let answers = answers.as_slice();
-    let look = first_look(
-        finder,
-        alloc,
-        &asked.job,
-        answers,
-        options,
-        places.as_slice(),
-        onlooker,
-    )?;
-    look_reply(alloc, form, options.drawn, &look)
+    let look = first_look(search, &asked.job, answers, places.as_slice(), onlooker)?;
+    look_reply(search, asked, &look)
 }
 
 /// What came of a search at a place.
@@ -84,19 +69,17 @@ pub(crate) struct LookAt {
 
 /// The first of these places at which a schedule has all these answers, or at which it can't be looked for within the limit.
 fn first_look<F: Finder, L: Onlooker>(
-    finder: &F,
-    alloc: Global,
+    search: &Search<'_, F>,
     job: &Job,
     answers: &[Clause],
-    options: ListOptions,
     places: &[Place],
     onlooker: &L,
 ) -> Result<Option<LookAt>, AllocError>
     requires { All (IsPlaceOf job.now) places.now }
-    ensures { IfOk result (IsFirstLook job.now answers.now options.is_brief options.limit places.now) }
+    ensures { IfOk result (IsFirstLook job.now answers.now search.now.options.is_brief search.now.options.limit places.now) }
 {
     for place in places {
-        if let Some(told) = look_at(finder, alloc, job, answers, options, *place, onlooker)? {
+        if let Some(told) = look_at(search, job, answers, *place, onlooker)? {
             return Ok(Some(LookAt {
                 place: *place,
                 told,
@@ -108,25 +91,22 @@ fn first_look<F: Finder, L: Onlooker>(
 
 /// What comes of a search for these answers at a place.
 fn look_at<F: Finder, L: Onlooker>(
-    finder: &F,
-    alloc: Global,
+    search: &Search<'_, F>,
     job: &Job,
     answers: &[Clause],
-    options: ListOptions,
     place: Place,
     onlooker: &L,
 ) -> Result<Option<Told>, AllocError>
     requires { IsPlaceOf job.now place }
-    ensures { IfOk result (IsLookAt job.now answers.now options.is_brief options.limit place) }
+    ensures { IfOk result (IsLookAt job.now answers.now search.now.options.is_brief search.now.options.limit place) }
 {
     // A job without room for so many stops was refused before: what is left is memory.
-    let Ok(stopped) = place.job(alloc, job) else {
+    let Ok(stopped) = place.job(search.alloc, job) else {
         return Err(AllocError);
     };
-    let goals = goals_at(alloc, place, job, &stopped, answers)?;
-    let limit = options.limit as usize;
+    let goals = goals_at(search.alloc, place, job, &stopped, answers)?;
     let watch = &mut Seen::of(onlooker, place);
-    let look = finder.show(alloc, &stopped, &goals, options.is_brief, limit, watch)?;
+    let look = search.show(&stopped, &goals, watch)?;
     Ok(look)
 }
 
@@ -167,58 +147,32 @@ fn beside(
     Ok(stop.clauses(alloc, job.script_len(stop.rank), clauses)?)
 }
 
-/// The reply to what came of a search, whose schedule is drawn where it is to be.
-fn look_reply(
-    alloc: Global,
-    form: Form,
-    style: Option<Style>,
+/// The reply to what came of a search at each place.
+fn look_reply<F>(
+    search: &Search<'_, F>,
+    asked: &Reading,
     look: &Option<LookAt>,
 ) -> Result<Reply, AllocError>
-    ensures { IfOk result (λ r. (r.status ≡ look_at_status look.now) × IsLookAtText form style look.now (string_bytes r.text)) }
+    requires { IsInside asked.now.job look.now }
+    ensures { IfOk result (λ r. (r.status ≡ look_at_status look.now) × IsLookAtText search.now.form search.now.options.drawn (asked_view asked.now) look.now (string_bytes r.text)) }
 {
     match look {
-        Some(look) => told_reply(alloc, form, style, look.place, &look.told),
-        None => Ok(Reply {
-            status: NO_SCHEDULE,
-            text: String::from_str(alloc, nowhere(form))?,
-            remarks: None,
-        }),
+        Some(look) => look_at_reply(search, asked, look),
+        None => nowhere_reply(search.alloc, search.form),
     }
 }
 
-/// The reply of what is told at a place.
-fn told_reply(
-    alloc: Global,
-    form: Form,
-    style: Option<Style>,
-    place: Place,
-    told: &Told,
+/// The reply to what came of a search at a place.
+fn look_at_reply<F>(
+    search: &Search<'_, F>,
+    asked: &Reading,
+    look: &LookAt,
 ) -> Result<Reply, AllocError>
-    ensures { IfOk result (λ r. (r.status ≡ look_status (Some (told_view told.now))) × IsToldAtText form style place (told_view told.now) (string_bytes r.text)) }
+    requires { IsPlaceOf asked.now.job look.now.place }
+    ensures { IfOk result (λ r. (r.status ≡ look_status (Some look.now.told)) × IsLookText search.now.form search.now.options.drawn (Some look.now.place) (asked_at look.now.place (asked_view asked.now)) (Some look.now.told) (string_bytes r.text)) }
 {
-    if let (Told::Schedule(schedule), Some(style)) = (told, style) {
-        let note = note_of(alloc, place)?;
-        let text = drawn(alloc, style, schedule, note.as_str())?;
-        return Ok(Reply {
-            status: DONE,
-            text,
-            remarks: None,
-        });
-    }
-    let mut text = String::new(alloc);
-    push_told_at(&mut text, form, place, told)?;
-    Ok(Reply {
-        status: status_of(told),
-        text,
-        remarks: None,
-    })
-}
-
-/// What a picture says of its place: nothing where no stop was put there.
-fn note_of(alloc: Global, place: Place) -> Result<String, AllocError> {
-    match place {
-        Place::Nowhere => Ok(String::new(alloc)),
-        Place::One(_) => format!(in alloc; "with a stop at {place}"),
-        Place::Two(..) => format!(in alloc; "with stops at {place}"),
+    match stopped(search.alloc, look.place, asked)? {
+        Some(made) => told_reply(search, Some(look.place), &made, &look.told),
+        None => told_reply(search, Some(look.place), asked, &look.told),
     }
 }

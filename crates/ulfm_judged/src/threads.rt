@@ -8,6 +8,7 @@ ghost use Rattle.ulfm_judged.specs.inside.Parts.{AreJoined, AreParts, IsPart};
 use crate::listing::list_part;
 use crate::lists::Lists;
 use crate::onlooker::Onlooker;
+use crate::search::Search;
 use std::alloc::Global;
 use std::thread;
 use std::thread::Threads;
@@ -24,12 +25,10 @@ use ulfm_stops::Place;
 /// `OutOfMemory` where a growth was refused, or the job at a place would have more than 256 steps.
 pub fn list_places<R, F, L>(
     rt: &R,
-    finder: &F,
-    alloc: Global,
+    search: &Search<'_, F>,
     job: &Job,
     places: &[Place],
     threads: u8,
-    limit: usize,
     onlooker: &L,
 ) -> Result<Lists, OutOfMemory>
 where
@@ -38,11 +37,11 @@ where
     L: Onlooker + Sync,
     requires inside { All (IsPlaceOf job.now) places.now }
     requires threads { 0 < threads }
-    ensures { IfOk result (λ lists. AreLists job.now limit places.now lists.listed.items lists.past_limit) }
+    ensures { IfOk result (λ lists. AreLists job.now search.now.options.limit places.now lists.listed.items lists.past_limit) }
 {
     let size = part_size(places.len(), threads);
-    let parts = list_parts(rt, finder, alloc, job, places, size, limit, onlooker)?;
-    joined(alloc, parts)
+    let parts = list_parts(rt, search, job, places, size, onlooker)?;
+    joined(search.alloc, parts)
 }
 
 /// How many places a part has, of so many parts at most.
@@ -57,12 +56,10 @@ fn part_size(places: usize, threads: u8) -> usize
 /// What comes of the lists of each part of so many places.
 fn list_parts<R, F, L>(
     rt: &R,
-    finder: &F,
-    alloc: Global,
+    search: &Search<'_, F>,
     job: &Job,
     places: &[Place],
     size: usize,
-    limit: usize,
     onlooker: &L,
 ) -> Result<Vec<Result<Lists, OutOfMemory>>, OutOfMemory>
 where
@@ -71,13 +68,13 @@ where
     L: Onlooker + Sync,
     requires inside { All (IsPlaceOf job.now) places.now }
     requires some { 0 < size }
-    ensures { IfOk result (λ parts. AreParts job.now limit places.now parts.items) }
+    ensures { IfOk result (λ parts. AreParts job.now search.now.options.limit places.now parts.items) }
 {
     let list = |_start: usize, part: &[Place]| -> Result<Lists, OutOfMemory>
         requires { All (IsPlaceOf job.now) part.now }
-        ensures { IsPart job.entry.now limit part.entry.now result }
-    { list_part(finder, alloc, job, part, limit, onlooker) };
-    let parts = thread::map_chunks(rt, alloc, places, size, &list)?;
+        ensures { IsPart job.entry.now search.entry.now.options.limit part.entry.now result }
+    { list_part(search, job, part, onlooker) };
+    let parts = thread::map_chunks(rt, search.alloc, places, size, &list)?;
     Ok(parts)
 }
 

@@ -17,17 +17,17 @@ drop-item xs i x low is = drop-get_or xs i x low ∙ ap (λ y. y ∷ drop (i + 1
 pub fold-on : {X Y : Type 0} (f : Y → X → Y) (xs : List X) (i : ℕ) (x : X) (old new whole : Y) → i < length xs → x ≡ get_or xs i x → fold f old (drop i xs) ≡ whole → new ≡ f old x → fold f new (drop (i + 1) xs) ≡ whole
 fold-on f xs i x old new whole low is so_far step = ap (λ y. fold f y (drop (i + 1) xs)) step ∙ sym (ap (fold f old) (drop-item xs i x low is)) ∙ so_far
 
-module _ {X : Type 0} (p : X → Bool) (text : X → List ℕ) (xs : List X) (i : ℕ) (x : X) (old : List (List ℕ)) (whole : List (List ℕ)) (low : i < length xs) (is : x ≡ get_or xs i x) (so_far : old ++ map text (filter p (drop i xs)) ≡ whole) where
-  -- the texts of what is left, by whether the next item passes
-  left : (b : Bool) → p x ≡ b → map text (filter p (drop i xs)) ≡ map text (cond b (x ∷ filter p (drop (i + 1) xs)) (filter p (drop (i + 1) xs)))
-  left b passes = ap (λ ys. map text (filter p ys)) (drop-item xs i x low is) ∙ ap (λ c. map text (cond c (x ∷ filter p (drop (i + 1) xs)) (filter p (drop (i + 1) xs)))) passes
+module _ {X Y : Type 0} (p : X → Bool) (view : X → Y) (xs : List X) (i : ℕ) (x : X) (old whole : List Y) (low : i < length xs) (is : x ≡ get_or xs i x) (so_far : old ++ map view (filter p (drop i xs)) ≡ whole) where
+  -- what is left, by whether the next item passes
+  left : (b : Bool) → p x ≡ b → map view (filter p (drop i xs)) ≡ map view (cond b (x ∷ filter p (drop (i + 1) xs)) (filter p (drop (i + 1) xs)))
+  left b passes = ap (λ ys. map view (filter p ys)) (drop-item xs i x low is) ∙ ap (λ c. map view (cond c (x ∷ filter p (drop (i + 1) xs)) (filter p (drop (i + 1) xs)))) passes
 
   -- an item that passes
-  pub texts-with : (new : List (List ℕ)) → p x ≡ true → new ≡ old ++ text x ∷ [] → new ++ map text (filter p (drop (i + 1) xs)) ≡ whole
-  texts-with new passes pushed =
-      ap (λ texts. texts ++ map text (filter p (drop (i + 1) xs))) pushed ∙ append_assoc old (text x ∷ []) (map text (filter p (drop (i + 1) xs)))
-      ∙ sym (ap (λ texts. old ++ texts) (left true passes)) ∙ so_far
+  pub items-with : (new : List Y) → p x ≡ true → new ≡ old ++ view x ∷ [] → new ++ map view (filter p (drop (i + 1) xs)) ≡ whole
+  items-with new passes pushed =
+      ap (λ ys. ys ++ map view (filter p (drop (i + 1) xs))) pushed ∙ append_assoc old (view x ∷ []) (map view (filter p (drop (i + 1) xs)))
+      ∙ sym (ap (λ ys. old ++ ys) (left true passes)) ∙ so_far
 
   -- one that doesn't
-  pub texts-without : p x ≡ false → old ++ map text (filter p (drop (i + 1) xs)) ≡ whole
-  texts-without fails = sym (ap (λ texts. old ++ texts) (left false fails)) ∙ so_far
+  pub items-without : p x ≡ false → old ++ map view (filter p (drop (i + 1) xs)) ≡ whole
+  items-without fails = sym (ap (λ ys. old ++ ys) (left false fails)) ∙ so_far

@@ -1,6 +1,7 @@
 pub mod Numbers
 pub mod Union
-pub mod Text
-pub mod Objects
+pub mod List
+pub mod Events
+pub mod Waits
+pub mod Scheduled
 pub mod Told
-pub mod ToldAt

@@ -5,7 +5,7 @@ use Rattle.std.specs.Str.{bytes_eq}
 use Rattle.ulfm_job.specs.Job.{JobView}
 use Rattle.ulfm_found.specs.Text as one_list
 use Rattle.ulfm_found.specs.Text.{AreAscii, with_answer, words_found}
-use Rattle.ulfm_stops.specs.Text.{place_text}
+use Rattle.ulfm_stops.specs.declared.place.Place.{Place}
 use Rattle.ulfm_lists.specs.Numbers.{number_at}
 use Rattle.ulfm_lists.specs.declared.listed.Listed.{Listed}
 
@@ -30,9 +30,9 @@ with_answers_of j r k answers one = fold with_answer answers (words_found one.fo
 abbrev pub answers_of : JobView → List Listed → ℕ → ℕ → List (List ℕ)
 answers_of j listed r k = fold (with_answers_of j r k) [] listed
 
--- the texts of the places whose lists tell this of the step
-abbrev pub places_with : JobView → List Listed → ℕ → ℕ → List ℕ → List (List ℕ)
-places_with j listed r k words = map (λ (one : Listed). place_text one.place) (filter (is_told_at j r k words) listed)
+-- the places whose lists tell this of the step
+abbrev pub places_with : JobView → List Listed → ℕ → ℕ → List ℕ → List Place
+places_with j listed r k words = map (λ (one : Listed). one.place) (filter (is_told_at j r k words) listed)
 
 -- some step never ends at some place
 abbrev pub some_never_ends : List Listed → Bool

@@ -25,7 +25,7 @@ fn moved_by(len: usize, rank: u8, k: usize, stop: Stop) -> usize
 }
 
 /// The number that a step of a rank has in the job at a place, by the one that it has in the file.
-pub(crate) fn number_at(place: Place, job: &Job, rank: u8, k: usize) -> usize
+pub fn number_at(place: Place, job: &Job, rank: u8, k: usize) -> usize
     ensures { result ≡ number_at place job.now rank k }
 {
     let len = job.script(rank).len();

@@ -1,15 +1,15 @@
 //! What is told of a search for a schedule.
-ghost use Rattle.std.specs.Prelude.{◌≡◌, ◌++◌, codes, map, IfOk, OnOk, string_bytes};
-ghost use Rattle.std.specs.Str.Lines.{lines};
-ghost use Rattle.ulfm_json.specs.Parts.{texts_json};
-ghost use Rattle.ulfm_moves.specs.Words.{schedule_text};
-ghost use Rattle.ulfm_lists.specs.Told.{schedule as by_text, place_json, row_in, row_words, told_in, told_json, told_words, unmet_in, unmet_json, unmet_words};
-ghost use Rattle.ulfm_lists.specs.Told.{told_view};
+ghost use Rattle.std.specs.Prelude.{◌≡◌, ◌++◌, codes, OnOk, string_bytes};
+ghost use Rattle.std.specs.Fmt.{decimal};
+ghost use Rattle.ulfm_lists.specs.Told.{alone_in, at_json, at_words, more_at, place_json, rest_json, row_head, row_in, row_key, row_saying, row_words, schedule_at, schedule_key, told_at, told_in, told_json, told_words, unmet_in, unmet_json, unmet_words};
 
-use std::alloc::{AllocError, Global};
+use crate::scheduled::push_schedule_json;
+use std::alloc::AllocError;
 use ulfm_found::Unmet;
-use ulfm_json::{Form, push_texts};
+use ulfm_json::Form;
 use ulfm_moves::{Schedule, push_schedule};
+use ulfm_reader::Reading;
+use ulfm_stops::Place;
 
 /// What a search came to that may show a schedule.
 #[derive(Drop)]
@@ -20,53 +20,126 @@ pub enum Told {
     Many(usize),
 }
 
-/// What was told, alone, in this form.
-pub fn push_told(text: &mut String, form: Form, told: &Told) -> Result<(), AllocError>
-    ensures { OnOk result (string_bytes text.new ≡ string_bytes text.old ++ told_in form (told_view told.now)) }
+/// What was told of what was asked for, perhaps with the stops of a place, in this form.
+pub fn push_told(
+    text: &mut String,
+    form: Form,
+    at: Option<Place>,
+    asked: &Reading,
+    told: &Told,
+) -> Result<(), AllocError>
+    ensures { OnOk result (string_bytes text.new ≡ string_bytes text.old ++ told_in form at asked.now.names.items asked.now.job told.now) }
+{
+    match at {
+        Some(place) => push_told_at(text, form, place, asked, told),
+        None => push_alone(text, form, asked, told),
+    }
+}
+
+/// What was told, alone.
+fn push_alone(text: &mut String, form: Form, asked: &Reading, told: &Told) -> Result<(), AllocError>
+    ensures { OnOk result (string_bytes text.new ≡ string_bytes text.old ++ alone_in form asked.now.names.items asked.now.job told.now) }
 {
     match form {
         Form::Words => push_words(text, told),
         Form::Json => {
             text.push_str("{")?;
-            push_key(text, told)?;
-            text.push_str("}\n")
+            push_rest(text, None, asked, told)
         }
     }
 }
 
-/// That a step isn't answered as it expects, and what was told of it.
-pub fn push_unmet(
+/// What was told at a place.
+fn push_told_at(
     text: &mut String,
     form: Form,
-    unmet: Unmet,
+    place: Place,
+    asked: &Reading,
     told: &Told,
 ) -> Result<(), AllocError>
-    ensures { OnOk result (string_bytes text.new ≡ string_bytes text.old ++ unmet_in form unmet (told_view told.now)) }
+    ensures { OnOk result (string_bytes text.new ≡ string_bytes text.old ++ told_at form place asked.now.names.items asked.now.job told.now) }
+{
+    match told {
+        Told::Many(limit) => push_more_at(text, form, *limit, place),
+        Told::Schedule(_) => push_schedule_at(text, form, place, asked, told),
+    }
+}
+
+/// A schedule at a place, below the line of the place.
+fn push_schedule_at(
+    text: &mut String,
+    form: Form,
+    place: Place,
+    asked: &Reading,
+    told: &Told,
+) -> Result<(), AllocError>
+    ensures { OnOk result (string_bytes text.new ≡ string_bytes text.old ++ schedule_at form place asked.now.names.items asked.now.job told.now) }
 {
     match form {
         Form::Words => {
-            push_unmet_words(text, unmet)?;
+            write!(text, "at {place}\n")?;
+            push_words(text, told)
+        }
+        Form::Json => {
+            text.push_str("{")?;
+            push_rest(text, Some(place), asked, told)
+        }
+    }
+}
+
+/// The line that there are more states than the limit at a place.
+pub fn push_more_at(
+    text: &mut String,
+    form: Form,
+    limit: usize,
+    place: Place,
+) -> Result<(), AllocError>
+    ensures { OnOk result (string_bytes text.new ≡ string_bytes text.old ++ more_at form limit place) }
+{
+    match form {
+        Form::Words => write!(text, "more than {limit} states at {place}\n"),
+        Form::Json => write!(
+            text,
+            "{{\"more_states_than\":{limit},\"at\":\"{place}\"}}\n"
+        ),
+    }
+}
+
+/// That a step isn't answered as it expects, perhaps at a place, and what was told of it.
+pub fn push_unmet(
+    text: &mut String,
+    form: Form,
+    at: Option<Place>,
+    asked: &Reading,
+    unmet: Unmet,
+    told: &Told,
+) -> Result<(), AllocError>
+    ensures { OnOk result (string_bytes text.new ≡ string_bytes text.old ++ unmet_in form at asked.now.names.items asked.now.job unmet told.now) }
+{
+    match form {
+        Form::Words => {
+            push_unmet_words(text, at, unmet)?;
             push_words(text, told)
         }
         Form::Json => {
             push_unmet_json(text, unmet)?;
-            push_key(text, told)?;
-            text.push_str("}\n")
+            push_rest(text, at, asked, told)
         }
     }
 }
 
 /// That a step isn't answered as it expects, in words.
-fn push_unmet_words(text: &mut String, unmet: Unmet) -> Result<(), AllocError>
-    ensures { OnOk result (string_bytes text.new ≡ string_bytes text.old ++ unmet_words unmet) }
+fn push_unmet_words(text: &mut String, at: Option<Place>, unmet: Unmet) -> Result<(), AllocError>
+    ensures { OnOk result (string_bytes text.new ≡ string_bytes text.old ++ unmet_words at unmet) }
 {
     let rank = unmet.rank;
     let step = unmet.step;
-    write!(text, "not as expected: {rank}.{step}\n")
+    write!(text, "not as expected: {rank}.{step}")?;
+    push_at_words(text, at)
 }
 
 /// The same as the first key of an object.
-pub(crate) fn push_unmet_json(text: &mut String, unmet: Unmet) -> Result<(), AllocError>
+fn push_unmet_json(text: &mut String, unmet: Unmet) -> Result<(), AllocError>
     ensures { OnOk result (string_bytes text.new ≡ string_bytes text.old ++ unmet_json unmet) }
 {
     text.push_str("{\"not_as_expected\":")?;
@@ -83,33 +156,116 @@ fn push_place(text: &mut String, unmet: Unmet) -> Result<(), AllocError>
     text.push_str("},")
 }
 
-/// A row of `never` by its number, and what was told of it.
-pub fn push_row(text: &mut String, form: Form, number: usize, told: &Told) -> Result<(), AllocError>
-    ensures { OnOk result (string_bytes text.new ≡ string_bytes text.old ++ row_in form number (told_view told.now)) }
+/// A row of `never` by its number, whose answers all come together or may, perhaps at a place, and what was told of it.
+pub fn push_row(
+    text: &mut String,
+    form: Form,
+    at: Option<Place>,
+    asked: &Reading,
+    number: usize,
+    told: &Told,
+) -> Result<(), AllocError>
+    ensures { OnOk result (string_bytes text.new ≡ string_bytes text.old ++ row_in form at asked.now.names.items asked.now.job number told.now) }
 {
     match form {
         Form::Words => {
-            push_row_words(text, number)?;
+            push_row_words(text, at, number, told)?;
             push_words(text, told)
         }
         Form::Json => {
-            write!(text, "{{\"never\":{number},")?;
-            push_key(text, told)?;
-            text.push_str("}\n")
+            push_row_key(text, number, told)?;
+            push_rest(text, at, asked, told)
         }
     }
 }
 
-/// That all answers of a row come together, by its number, in words.
-fn push_row_words(text: &mut String, number: usize) -> Result<(), AllocError>
-    ensures { OnOk result (string_bytes text.new ≡ string_bytes text.old ++ row_words number) }
+/// The line of a row by its number, in words.
+fn push_row_words(
+    text: &mut String,
+    at: Option<Place>,
+    number: usize,
+    told: &Told,
+) -> Result<(), AllocError>
+    ensures { OnOk result (string_bytes text.new ≡ string_bytes text.old ++ row_words at number told.now) }
 {
-    write!(text, "come together: never[{number}]\n")
+    push_row_head(text, number, told)?;
+    push_at_words(text, at)?;
+    Ok(())
+}
+
+/// What is said of a row: that all its answers come together, or that it isn't known whether they do.
+fn row_saying(told: &Told) -> &'static str
+    ensures { result.now ≡ row_saying told.now }
+{
+    match told {
+        Told::Schedule(_) => "come together: never[",
+        Told::Many(_) => "not known: never[",
+    }
+}
+
+/// The beginning of a line: what is said of a row by its number.
+fn push_row_head(text: &mut String, number: usize, told: &Told) -> Result<(), AllocError>
+    ensures { OnOk result (string_bytes text.new ≡ string_bytes text.old ++ row_head number told.now) }
+{
+    let saying = row_saying(told);
+    write!(text, "{saying}{number}]")
+}
+
+/// The key of a row's number, as the first of an object.
+fn row_key(told: &Told) -> &'static str
+    ensures { result.now ≡ row_key told.now }
+{
+    match told {
+        Told::Schedule(_) => "{\"never\":",
+        Told::Many(_) => "{\"not_known\":",
+    }
+}
+
+/// That key, the number, and a comma.
+fn push_row_key(text: &mut String, number: usize, told: &Told) -> Result<(), AllocError>
+    ensures { OnOk result (string_bytes text.new ≡ string_bytes text.old ++ row_key told.now ++ decimal number ++ codes ",") }
+{
+    let key = row_key(told);
+    write!(text, "{key}{number},")
+}
+
+/// The end of a line: a place, if there is one.
+fn push_at_words(text: &mut String, at: Option<Place>) -> Result<(), AllocError>
+    ensures { OnOk result (string_bytes text.new ≡ string_bytes text.old ++ at_words at) }
+{
+    match at {
+        Some(place) => write!(text, " at {place}\n"),
+        None => text.push_str("\n"),
+    }
+}
+
+/// The key of a place, if there is one, and a comma.
+fn push_at(text: &mut String, at: Option<Place>) -> Result<(), AllocError>
+    ensures { OnOk result (string_bytes text.new ≡ string_bytes text.old ++ at_json at) }
+{
+    match at {
+        Some(place) => write!(text, "\"at\":\"{place}\","),
+        None => Ok(()),
+    }
+}
+
+/// The rest of an object: the place, and what was told.
+fn push_rest(
+    text: &mut String,
+    at: Option<Place>,
+    asked: &Reading,
+    told: &Told,
+) -> Result<(), AllocError>
+    ensures { OnOk result (string_bytes text.new ≡ string_bytes text.old ++ rest_json at asked.now.names.items asked.now.job told.now) }
+{
+    push_at(text, at)?;
+    push_key(text, asked, told)?;
+    text.push_str("}\n")
 }
 
 /// What was told, in words.
-pub(crate) fn push_words(text: &mut String, told: &Told) -> Result<(), AllocError>
-    ensures { OnOk result (string_bytes text.new ≡ string_bytes text.old ++ told_words (told_view told.now)) }
+fn push_words(text: &mut String, told: &Told) -> Result<(), AllocError>
+    ensures { OnOk result (string_bytes text.new ≡ string_bytes text.old ++ told_words told.now) }
 {
     match told {
         Told::Schedule(schedule) => push_schedule(text, schedule),
@@ -118,56 +274,23 @@ pub(crate) fn push_words(text: &mut String, told: &Told) -> Result<(), AllocErro
 }
 
 /// What was told, as the key of an object.
-pub(crate) fn push_key(text: &mut String, told: &Told) -> Result<(), AllocError>
-    ensures { OnOk result (string_bytes text.new ≡ string_bytes text.old ++ told_json (told_view told.now)) }
+fn push_key(text: &mut String, asked: &Reading, told: &Told) -> Result<(), AllocError>
+    ensures { OnOk result (string_bytes text.new ≡ string_bytes text.old ++ told_json asked.now.names.items asked.now.job told.now) }
 {
     match told {
-        Told::Schedule(schedule) => push_lines_of(text, schedule),
+        Told::Schedule(schedule) => push_schedule_key(text, asked, schedule),
         Told::Many(limit) => write!(text, "\"more_states_than\":{limit}"),
     }
 }
 
 /// The key of a schedule.
-fn push_lines_of(text: &mut String, schedule: &Schedule) -> Result<(), AllocError>
-    ensures { OnOk result (string_bytes text.new ≡ string_bytes text.old ++ told_json (by_text (schedule_text schedule.now))) }
-{
-    let alloc = *text.allocator();
-    let mut words = String::new(alloc);
-    push_schedule(&mut words, schedule)?;
-    let lines = lines_of(alloc, words.as_str())?;
-    push_lines(text, lines.as_slice())
-}
-
-/// The key of a schedule with its lines.
-fn push_lines(text: &mut String, lines: &[String]) -> Result<(), AllocError>
-    ensures { OnOk result (string_bytes text.new ≡ string_bytes text.old ++ codes "\"schedule\":" ++ texts_json (map string_bytes lines.now)) }
+fn push_schedule_key(
+    text: &mut String,
+    asked: &Reading,
+    schedule: &Schedule,
+) -> Result<(), AllocError>
+    ensures { OnOk result (string_bytes text.new ≡ string_bytes text.old ++ schedule_key asked.now.names.items asked.now.job schedule.now) }
 {
     text.push_str("\"schedule\":")?;
-    push_texts(text, lines)
-}
-
-/// The lines of a text.
-fn lines_of(alloc: Global, text: &str) -> Result<Vec<String>, AllocError>
-    ensures { IfOk result (λ v. map string_bytes v.items ≡ lines text.now) }
-{
-    let parts = parts_of(alloc, text)?;
-    kept(alloc, parts.as_slice())
-}
-
-/// The lines of a text, where they stand.
-fn parts_of(alloc: Global, text: &str) -> Result<Vec<&str>, AllocError>
-    ensures { IfOk result (λ v. map (λ part. part.now) v.items ≡ lines text.now) }
-{
-    text.lines().collect(alloc)
-}
-
-/// Texts once more.
-fn kept(alloc: Global, parts: &[&str]) -> Result<Vec<String>, AllocError>
-    ensures { IfOk result (λ v. map string_bytes v.items ≡ map (λ part. part.now) parts.now) }
-{
-    let mut texts = Vec::new(alloc);
-    for part in parts {
-        texts.push(String::from_str(alloc, part)?)?;
-    }
-    Ok(texts)
+    push_schedule_json(text, asked, schedule)
 }

@@ -1,6 +1,5 @@
 //! What all lists tell of a step, and at which places.
-ghost use Rattle.std.specs.Prelude.{◌≡◌, ◌∷◌, ◌++◌, [], IfOk, OnOk, map, string_bytes};
-ghost use Rattle.ulfm_stops.specs.Text.{place_text};
+ghost use Rattle.std.specs.Prelude.{◌≡◌, IfOk, map, string_bytes};
 ghost use Rattle.ulfm_lists.specs.Union.{AreAllAscii};
 ghost use Rattle.ulfm_lists.specs.Union.{answers_of, is_row, is_told, is_told_at, places_with, some_never_ends};
 
@@ -34,7 +33,7 @@ fn answer_set(
 }
 
 /// The answers that these lists have for a step of the file, in rising order of their bytes, each once.
-pub fn answers_of(
+pub(crate) fn answers_of(
     alloc: Global,
     job: &Job,
     listed: &[Listed],
@@ -83,33 +82,25 @@ fn is_told_at(job: &Job, rank: u8, k: usize, words: &[u8], one: &Listed) -> bool
     is_told(&one.found, rank, number, words)
 }
 
-/// The texts of the places at which that is told: an answer by its words, or that the step never ends by none.
-pub fn places_with(
+/// The places at which that is told: an answer by its words, or that the step never ends by none.
+pub(crate) fn places_with(
     alloc: Global,
     job: &Job,
     listed: &[Listed],
     rank: u8,
     k: usize,
     words: &[u8],
-) -> Result<Vec<String>, OutOfMemory>
-    ensures { IfOk result (λ places. map string_bytes places.items ≡ places_with job.now listed.now rank k words.now) }
+) -> Result<Vec<Place>, OutOfMemory>
+    ensures { IfOk result (λ places. places.items ≡ places_with job.now listed.now rank k words.now) }
 {
     let mut places = Vec::new(alloc);
     for one in listed {
         if !is_told_at(job, rank, k, words, one) {
             continue;
         }
-        push_place(alloc, &mut places, one.place)?;
+        places.push(one.place)?;
     }
     Ok(places)
-}
-
-/// Puts the text of a place behind others.
-fn push_place(alloc: Global, places: &mut Vec<String>, place: Place) -> Result<(), OutOfMemory>
-    ensures { OnOk result (map string_bytes places.new.items ≡ map string_bytes places.old.items ++ place_text place ∷ []) }
-{
-    places.push(format!(in alloc; "{place}")?)?;
-    Ok(())
 }
 
 /// Whether some step never ends at some of these places.

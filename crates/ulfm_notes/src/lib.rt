@@ -1,8 +1,8 @@
 //! What standard error says beside a reply.
 //!
+//!     write_verdict(alloc, has_colour, &reply, &mut errors);
 //!     write_notes(alloc, wanted, bytes, &reply, &mut errors);
 //!     write_fault(alloc, usage, &mut errors);
-//!     write_goal(alloc, wanted, bytes, text, goal, &mut errors);
 //!
 //! That is for people, and no contract speaks of it. What is wrong with a job is found by `ulfm_explain`;
 //! what is told of steps and rows comes with the reply.
@@ -14,4 +14,4 @@ mod misplaced;
 mod notes;
 mod told;
 
-pub use notes::{write_fault, write_goal, write_notes};
+pub use notes::{write_fault, write_notes, write_verdict};

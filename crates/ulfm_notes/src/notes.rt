@@ -2,7 +2,7 @@
 
 use crate::goal::goal_reason;
 use crate::misplaced::{misplaced_line, place_of};
-use crate::told::remarks_told;
+use crate::told::{remarks_told, verdict_line};
 use std::alloc::{AllocError, Global};
 use std::io::Write;
 use ulfm_explain::{Explanation, explain, warnings};
@@ -41,23 +41,18 @@ pub fn write_notes<E: Write>(
     }
 }
 
-/// Tells in one line what is wrong with the words that a usage text is about. Where that finds no memory, nothing is told.
-pub fn write_fault<E: Write>(alloc: Global, usage: &str, errors: &mut E) {
-    if let Ok(line) = fault_line(alloc, usage) {
-        let _is_written = write_whole(errors, line.as_bytes());
+/// Tells in one line what a list comes to, perhaps in red or green, for whom it would scroll away below it. Where that finds no memory, nothing is told.
+pub fn write_verdict<E: Write>(alloc: Global, has_colour: bool, reply: &Reply, errors: &mut E) {
+    if let Some(remarks) = &reply.remarks {
+        if let Ok(line) = verdict_line(alloc, has_colour, remarks.as_slice()) {
+            let _is_written = write_whole(errors, line.as_bytes());
+        }
     }
 }
 
-/// Tells in one line that a goal is refused, in this text, and why. Where that finds no memory, nothing is told.
-pub fn write_goal<E: Write>(
-    alloc: Global,
-    wanted: Wanted,
-    bytes: &[u8],
-    text: &str,
-    goal: &str,
-    errors: &mut E,
-) {
-    if let Ok(line) = goal_line(alloc, wanted, bytes, text, goal) {
+/// Tells in one line what is wrong with the words that a usage text is about. Where that finds no memory, nothing is told.
+pub fn write_fault<E: Write>(alloc: Global, usage: &str, errors: &mut E) {
+    if let Ok(line) = fault_line(alloc, usage) {
         let _is_written = write_whole(errors, line.as_bytes());
     }
 }
@@ -79,13 +74,21 @@ fn goal_line(
     format!(in alloc; "ulfm: {}{end} {reason}\n", text.trim_ascii())
 }
 
-/// The first paragraph of a usage text, as one line.
+/// What a tip stands behind in a usage text.
+const TIP: &str = "  tip: ";
+
+/// The first paragraph of a usage text, and its tip, as one line.
 fn fault_line(alloc: Global, usage: &str) -> Result<String, AllocError> {
     let mut line = String::from_str(alloc, "ulfm:")?;
     for part in usage.lines().take_while(|part| !part.is_empty()) {
         let part = part.trim_ascii();
         let part = part.strip_prefix("error: ").unwrap_or(part);
         write!(line, " {part}")?;
+    }
+    for part in usage.lines() {
+        if let Some(tip) = part.strip_prefix(TIP) {
+            write!(line, "; {tip}")?;
+        }
     }
     line.push_str("\n")?;
     Ok(line)
@@ -99,6 +102,9 @@ fn notes_on(
     bytes: &[u8],
     reply: &Reply,
 ) -> Result<String, AllocError> {
+    if let Some(goal) = refused_goal(reply) {
+        return goal_line(alloc, wanted, bytes, reply.text.as_str(), goal);
+    }
     match (reply.status, wanted) {
         (JOB_REFUSED, _) if bytes.trim_ascii().is_empty() => String::from_str(alloc, EMPTY),
         (JOB_REFUSED, _) => refused_notes(alloc, wanted, bytes, reply.text.as_str()),
@@ -109,6 +115,17 @@ fn notes_on(
             None => Ok(String::new(alloc)),
         },
     }
+}
+
+/// The goal that names no answer of the job, if one doesn't.
+fn refused_goal(reply: &Reply) -> Option<&str> {
+    let remarks = reply.remarks.as_ref()?;
+    for remark in remarks {
+        if let Remark::NoGoal(goal) = remark {
+            return Some(goal.as_str());
+        }
+    }
+    None
 }
 
 /// Why a job is refused, and which stop put into it has no place there.

@@ -3,10 +3,9 @@
 use crate::asking::has_come;
 use crate::trace::is_unfinished;
 use std::alloc::{AllocError, Global};
-use ulfm_answer::{StepAnswer, StepReport, holds_of, push_answer};
-use ulfm_job::Job;
+use ulfm_answer::StepReport;
 use ulfm_reader::Reading;
-use ulfm_replies::{Remark, StepTold, asks};
+use ulfm_replies::{Remark, StepTold, push_unmet_answers};
 use ulfm_script::RankReport;
 
 /// What is told of the reports of a job's ranks: answers that aren't as their steps expect, rows whose answers all came, and steps that are
@@ -23,7 +22,9 @@ fn found_in(
 ) -> Result<Vec<Remark>, AllocError> {
     let mut remarks = Vec::new(alloc);
     for report in reports {
-        push_steps(&mut remarks, asked, report.me().number, report.steps())?;
+        let rank = report.me().number;
+        push_unmet_answers(&mut remarks, asked, rank, report.steps())?;
+        push_unfinished(&mut remarks, asked, rank, report.steps())?;
     }
     for (number, row) in asked.never.iter().enumerate() {
         if has_come(alloc, &asked.job, reports, row) {
@@ -33,8 +34,8 @@ fn found_in(
     Ok(remarks)
 }
 
-/// Adds what is told of a rank's answered steps.
-fn push_steps(
+/// Adds which of a rank's answered steps are unfinished.
+fn push_unfinished(
     remarks: &mut Vec<Remark>,
     asked: &Reading,
     rank: u8,
@@ -42,35 +43,9 @@ fn push_steps(
 ) -> Result<(), AllocError> {
     let alloc = *remarks.allocator();
     for (at, step) in done.iter().enumerate() {
-        if is_unmet(alloc, &asked.job, rank, at, done, &step.answer) {
-            let mut answer = String::new(alloc);
-            push_answer(&mut answer, &step.answer)?;
-            remarks.push(Remark::unmet(alloc, asked, rank, at, answer)?)?;
-        }
         if is_unfinished(step) && !asked.job.may_leave(rank, at) {
             remarks.push(Remark::Unfinished(StepTold::of(alloc, asked, rank, at)?))?;
         }
     }
     Ok(())
-}
-
-/// Whether a step expects other answers than the one that it has among these of its rank.
-fn is_unmet(
-    alloc: Global,
-    job: &Job,
-    rank: u8,
-    at: usize,
-    done: &[StepReport],
-    answer: &StepAnswer,
-) -> bool {
-    let mut expects = false;
-    for clause in job.expected() {
-        if asks(rank, at, clause) {
-            if holds_of(alloc, done, clause) {
-                return false;
-            }
-            expects = true;
-        }
-    }
-    expects && !matches!(answer, StepAnswer::Skipped)
 }

@@ -4,7 +4,7 @@ use Rattle.ulfm_json.specs.declared.form.Form.{Form}
 use Rattle.ulfm_replies.proofs.Statuses.{IsKnown, checked, expand_known, places_known}
 use Rattle.ulfm_replies.specs.declared.command.Wanted.{Wanted}
 use Rattle.ulfm_replies.specs.declared.command.Wanted.TheVariants.{Check, Replay, Run, Sweep, Outcomes, Places, Expand, Draw}
-use Rattle.ulfm_judged.proofs.Statuses.{by_known}
+use Rattle.ulfm_judged.proofs.Statuses.{reply_known}
 use Rattle.ulfm_program.specs.Replies.{IsReplyIn}
 use Rattle.ulfm_played.proofs.Statuses.{drawn_known, replayed, run_known, sweep_known}
 
@@ -16,4 +16,4 @@ known_status form show Sweep bytes status text h = sweep_known form bytes status
 known_status form show (Places stops) bytes status text h = places_known form stops bytes status text h
 known_status form show Expand bytes status text h = expand_known form bytes status text h
 known_status form show (Draw style turns place) bytes status text h = drawn_known form turns place bytes status text h
-known_status form show (Outcomes options) bytes status text h = by_known form show options.stops options bytes status text h
+known_status form show (Outcomes options) bytes status text h = reply_known form show options bytes status text h

@@ -18,11 +18,10 @@ use std::time::Clock;
 use ulfm_finder::Finder;
 use ulfm_findings::{InputFault, read_front, write_whole};
 use ulfm_json::Form;
-use ulfm_judged::NO_GOAL;
-use ulfm_notes::{write_fault, write_goal, write_notes};
+use ulfm_notes::{write_fault, write_notes, write_verdict};
 use ulfm_replies::{
-    Asked, DONE, Failure, INPUT_FAILED, JOB_REFUSED, OUTPUT_FAILED, PAST_LIMIT, RUN_FAILED, Reply,
-    USAGE, Unfollowed, Wanted, asked_for, failed_line,
+    Asked, DONE, Failure, INPUT_FAILED, OUTPUT_FAILED, PAST_LIMIT, RUN_FAILED, Reply, USAGE,
+    Unfollowed, Wanted, asked_for, failed_line,
 };
 
 /// What is written where a word can't be read.
@@ -128,29 +127,12 @@ where
     let far = progress.end();
     match told {
         Ok(reply) => {
+            write_verdict(alloc, asked.has_colour, &reply, errors);
             let status = write_reply(output, reply.status, reply.text.as_bytes());
-            match reply.status {
-                JOB_REFUSED if reply.text.as_str().starts_with(NO_GOAL) => {
-                    write_refused_goal(alloc, wanted, bytes.as_slice(), reply.text.as_str(), errors)
-                }
-                _ => write_remarks(alloc, wanted, bytes.as_slice(), &reply, far, errors),
-            }
+            write_remarks(alloc, wanted, bytes.as_slice(), &reply, far, errors);
             status
         }
         Err(_) => write_starved(output, form),
-    }
-}
-
-/// Writes that a goal is refused, and why.
-fn write_refused_goal<E: Write>(
-    alloc: Global,
-    wanted: Wanted,
-    bytes: &[u8],
-    text: &str,
-    errors: &mut E,
-) {
-    if let Some(goal) = text.strip_prefix(NO_GOAL) {
-        write_goal(alloc, wanted, bytes, text, goal, errors);
     }
 }
 

@@ -7,6 +7,7 @@ ghost use Rattle.ulfm_replies.specs.declared.command.Wanted.{Wanted};
 ghost use Rattle.ulfm_replies.specs.CommandLine.{AsksFor, HasRanges, IsWordsStatus, asked, faults, files_in, form_asked, show_asked};
 
 use crate::app::{follow, run_on, write_starved};
+use crate::page::{tell_unpaged, write_page};
 use std::alloc::Global;
 use std::convert::AsStr;
 use std::fmt;
@@ -59,6 +60,7 @@ where
     match asked_for(alloc, words) {
         Ok(asked) => {
             if asked.files.is_empty() {
+                tell_unpaged(&asked, errors);
                 follow(rt, finder, alloc, &asked, input, output, errors)
             } else {
                 run_files(rt, finder, alloc, &asked, output, errors)
@@ -128,6 +130,7 @@ where
     match File::open(rt, file) {
         Ok(mut opened) => {
             let status = follow(rt, finder, alloc, asked, &mut opened, output, errors);
+            write_page(rt, finder, alloc, asked, file, errors);
             if status == INPUT_FAILED {
                 write_unread(alloc, file, "the read failed", errors);
             }

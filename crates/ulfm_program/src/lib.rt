@@ -9,6 +9,7 @@
 mod app;
 mod far;
 mod files;
+mod page;
 mod progress;
 mod reply;
 

@@ -9,7 +9,7 @@ use std::sync::Wait;
 use std::thread::Threads;
 use ulfm_finder::Finder;
 use ulfm_json::Form;
-use ulfm_judged::{Onlooker, list_reply};
+use ulfm_judged::{Onlooker, Search, list_reply};
 use ulfm_played::{draw_reply, replay_reply, run_reply, sweep_reply};
 use ulfm_reach::Watch;
 use ulfm_replies::{Asked, Reply, Wanted, check_reply, expand_reply, places_reply};
@@ -33,9 +33,15 @@ where
     let form = asked.form;
     match asked.wanted {
         Wanted::Run(options) => run_reply(rt, alloc, form, options, bytes),
-        Wanted::Outcomes(options) => list_reply(
-            rt, finder, alloc, form, asked.show, options, bytes, watch,
-        ),
+        Wanted::Outcomes(options) => {
+            let search = Search {
+                finder,
+                alloc,
+                form,
+                options,
+            };
+            list_reply(rt, &search, asked.show, bytes, watch)
+        }
         _ => plain_reply(alloc, form, asked.wanted, bytes),
     }
 }

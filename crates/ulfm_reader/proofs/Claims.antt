@@ -9,11 +9,16 @@ use Rattle.std.specs.Str.{all_ascii_digits}
 use Rattle.std.specs.Str.Parse.{IsNumeral, digits_value, without_leading_plus}
 use Rattle.toml.specs.Data.{Data, Items, as_array, as_str}
 use Rattle.toml.proofs.Views.{items_view-drop}
+use Rattle.ulfm_expand.proofs.Blocks.{items_of-view}
+use Rattle.ulfm_expand.proofs.Values.{listed-view}
+use Rattle.ulfm_expand.specs.Lines.{Line}
+use Rattle.ulfm_expand.specs.Rows.{rows_out}
 use Rattle.ulfm_job.specs.declared.fault.Fault.{Fault}
+use Rattle.ulfm_job.specs.declared.fault.JobFault.TheVariants.{InJob}
 use Rattle.ulfm_job.specs.declared.fault.Fault.TheVariants.{BadKey, OutOfRange}
 use Rattle.ulfm_reader.proofs.Common.{Clause, JobFault, Name, Order, Step, Value, view, order_of, items_view, list_all, nat_tests, ◌>>=◌}
 use Rattle.ulfm_reader.specs.JobText.{in_job, rows_of}
-use Rattle.ulfm_reader.specs.Never.{all_items, are_texts, claim_at, claims_onto, is_number, is_row, is_text, never_items_in, number_in, order_at, parted, row_in, rows_onto}
+use Rattle.ulfm_reader.specs.Never.{all_items, are_texts, claim_at, claims_onto, is_number, is_row, is_text, never_items_in, never_out, number_in, order_at, parted, row_in, rows_onto}
 
 -- a text in two parts
 pub two_parts : (c : ℕ) (text front rest : List ℕ) → position_or_len (λ b. b == c) text < length text → front ≡ before_first (λ b. b == c) text → rest ≡ after_first (λ b. b == c) text → Ok (front, rest) ≡ parted c text
@@ -139,3 +144,12 @@ not_within least most n m e lt = let below : leb least n ≡ false = grind (arit
 -- one more row
 pub rows_of-push : (rows : List (Vec Clause Global)) (row : Vec Clause Global) → rows_of (rows ++ row ∷ []) ≡ rows_of rows ++ row.items ∷ []
 rows_of-push rows row = map_push (λ (w : Vec Clause Global). w.items) rows row
+
+module _ (lines : List Line) (ranks : ℕ) (vs : List Value) where
+  -- rows that are written out
+  pub rows_found : (rows : List Value) → Some (map view rows) ≡ rows_out lines ranks (map view vs) → in_job (never_out lines ranks (Some (items_view vs))) ≡ Ok (Some (items_view rows))
+  rows_found rows is = rw (listed-view vs, ← is, items_of-view rows) refl
+
+  -- rows that are too many
+  pub rows_many : None ≡ rows_out lines ranks (map view vs) → in_job (never_out lines ranks (Some (items_view vs))) ≡ Err (InJob OutOfRange)
+  rows_many is = rw (listed-view vs, ← is) refl

@@ -16,7 +16,7 @@ use Rattle.ulfm_reader.specs.declared.filed.Filed.{Filed}
 use Rattle.ulfm_reader.specs.declared.name.Name.{Name}
 use Rattle.ulfm_reader.specs.declared.reading.Reading.{Reading as Kept}
 use Rattle.std.specs.declared.alloc.Global.{Global}
-use Rattle.ulfm_reader.specs.Never.{never_items, rows_in}
+use Rattle.ulfm_reader.specs.Never.{never_items, never_out, rows_in}
 use Rattle.ulfm_reader.specs.Plan.{Order, PlannedStep, Plan, plan_of}
 use Rattle.ulfm_reader.specs.Reacting.{names_in, conditions_in, expected_in}
 use Rattle.ulfm_reader.specs.StepText.{step_of}
@@ -150,19 +150,23 @@ reading_view r = record { plan = plan_of r.job; never = rows_of r.never.items; n
 abbrev pub read_as : Head → Draft → List (List Clause) → Reading
 read_as h draft never = record { plan = planned_as h draft; never = never; names = draft.names; filed = draft.filed }
 
--- the rows of a job, by its steps and their names
-abbrev pub never_of : Head → Draft → Result Reading JobFault
-never_of h draft = in_job (rows_in draft.scripts draft.names h.never) >>= (λ never. Ok (read_as h draft never))
+-- the rows of a job, as they are written out, by its steps and their names
+abbrev pub never_of : Head → Option Items → Draft → Result Reading JobFault
+never_of h never draft = in_job (rows_in draft.scripts draft.names never) >>= (λ rows. Ok (read_as h draft rows))
 
 -- the steps of a job, written out
 abbrev pub lines_of : Head → List Line
 lines_of h = written_out h.ranks (listed h.steps)
 
+-- the same, where they are still to be written out
+abbrev pub rest_of : Head → Draft → Result Reading JobFault
+rest_of h draft = in_job (never_out (lines_of h) h.ranks h.never) >>= (λ never. never_of h never draft)
+
 -- what a table asks for: its own keys, how many steps there are, written out, then these steps, and then the rows
 unfoldable pub reading_of : Members → Result Reading JobFault
 reading_of ms = in_job (head_of ms) >>= (λ h.
     if nat_lt 256 (length (lines_of h)) then Err refused.TooLarge
-    else steps_of h.ranks (blank h.ranks) (lines_of h) >>= never_of h)
+    else steps_of h.ranks (blank h.ranks) (lines_of h) >>= rest_of h)
 
 -- what a text asks for that may be no document
 abbrev pub reading_of_document : Option Members → Result Reading JobFault

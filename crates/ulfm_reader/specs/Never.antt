@@ -5,6 +5,10 @@ use Rattle.std.specs.Option.{ok_or}
 use Rattle.std.specs.Char.{is_ascii_digit}
 use Rattle.std.specs.Str.Parse.{digits_value}
 use Rattle.toml.specs.Data.{Data, Items, no_items, item, Members, get_member, as_array, as_str}
+use Rattle.toml.specs.View.{items_of}
+use Rattle.ulfm_expand.specs.Lines.{Line}
+use Rattle.ulfm_expand.specs.Members.{listed}
+use Rattle.ulfm_expand.specs.Rows.{rows_out}
 use Rattle.ulfm_job.specs.declared.clause.Clause.{Clause}
 use Rattle.ulfm_job.specs.declared.fault.Fault.{Fault}
 use Rattle.ulfm_job.specs.declared.fault.Fault.TheVariants.{BadKey, OutOfRange}
@@ -81,10 +85,20 @@ unfoldable pub rows_onto : List (List Order) → List Name → List (List Clause
 rows_onto scripts names before no_items = Ok before
 rows_onto scripts names before (item d ds) = row_in scripts names (as_array d) >>= (λ row. rows_onto scripts names (before ++ row ∷ []) ds)
 
--- the rows of the key `never`, where it is there: 1 to 32
+-- the rows of the key `never`, written out, where it is there: 1 to 1024
 abbrev pub rows_in : List (List Order) → List Name → Option Items → Result (List (List Clause)) Fault
 rows_in scripts names None = Ok []
-rows_in scripts names (Some ds) = if is_within 1 32 ds then rows_onto scripts names [] ds else Err OutOfRange
+rows_in scripts names (Some ds) = if is_within 1 1024 ds then rows_onto scripts names [] ds else Err OutOfRange
+
+-- rows that were written out, where they aren't more than 1024
+abbrev pub rows_or_many : Option (List Data) → Result (Option Items) Fault
+rows_or_many None = Err OutOfRange
+rows_or_many (Some rows) = Ok (Some (items_of rows))
+
+-- the items of the key `never`, where it is there, with rows over ranks written out, for a job of so many ranks and of these lines
+abbrev pub never_out : List Line → ℕ → Option Items → Result (Option Items) Fault
+never_out lines ranks None = Ok None
+never_out lines ranks (Some ds) = rows_or_many (rows_out lines ranks (listed ds))
 
 -- each item passes a test
 abbrev pub all_items : (Data → Bool) → Items → Bool

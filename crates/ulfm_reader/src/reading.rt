@@ -1,19 +1,19 @@
 //! The job of a text.
-ghost use Rattle.std.specs.Prelude.{◌≡◌, ◌≤◌, ◌<◌, ℕ, List, Err, IfOk, length, map};
-ghost use Rattle.toml.specs.View.{table_view};
+ghost use Rattle.std.specs.Prelude.{◌≡◌, ◌≤◌, ◌<◌, ℕ, List, Err, IfOk, length, map, option_map};
+ghost use Rattle.toml.specs.View.{items_view, table_view};
 ghost use Rattle.ulfm_expand.specs.Lines.{line_view};
 ghost use Rattle.ulfm_reader.specs.inside.Reading.{IsHead, draft_view, head_view};
 ghost use Rattle.ulfm_job.specs.Job.{lists_of, step_count};
-ghost use Rattle.ulfm_reader.specs.JobText.{Gives, blank, steps_of, job_of_bytes, never_of, reading_of, reading_of_bytes, reading_view, IsNoDocument};
+ghost use Rattle.ulfm_reader.specs.JobText.{Gives, blank, steps_of, job_of_bytes, lines_of, never_of, reading_of, reading_of_bytes, reading_view, rest_of, IsNoDocument};
 ghost use Rattle.ulfm_reader.specs.Plan.{plan_of};
 
 use crate::draft::Draft;
 use crate::filed::Filed;
 use crate::head::{Head, head_of};
 use crate::name::Name;
-use crate::rows::{rows_in, texts_in};
+use crate::rows::{never_out, rows_in, texts_in};
 use std::alloc::Global;
-use toml::Table;
+use toml::{Table, Value};
 use ulfm_expand::{Line, Unwritten, written_out};
 use ulfm_job::limits::MOST_BYTES;
 use ulfm_job::{Clause, Job, JobFault, Text};
@@ -99,21 +99,56 @@ fn reading_of(alloc: Global, table: &Table) -> Result<Reading, JobFault>
         Err(Unwritten::OutOfMemory) => return Err(JobFault::OutOfMemory),
     };
     let draft = draft_of(alloc, head.ranks, lines.as_slice())?;
-    with_rows(alloc, &head, draft)
+    rest_of(alloc, &head, lines.as_slice(), draft)
 }
 
-/// What the job's own keys and the steps ask for, and the rows.
-fn with_rows(alloc: Global, head: &Head<'_>, draft: Draft) -> Result<Reading, JobFault>
+/// What the job's own keys and the steps ask for, and the rows, written out.
+fn rest_of(
+    alloc: Global,
+    head: &Head<'_>,
+    lines: &[Line],
+    draft: Draft,
+) -> Result<Reading, JobFault>
     requires ranges { IsHead (head_view head.now) }
     requires each { length draft.scripts.items ≡ head.now.ranks }
     requires few { step_count (lists_of draft.scripts.items) ≤ 256 }
-    ensures { Gives reading_view result (never_of (head_view head.now) (draft_view draft)) }
+    requires lines { map line_view lines.now ≡ lines_of (head_view head.now) }
+    ensures { Gives reading_view result (rest_of (head_view head.now) (draft_view draft)) }
 {
-    let never = match rows_in(alloc, &draft, head.never) {
+    let never = match never_out(alloc, head.ranks, lines, head.never) {
         Ok(never) => never,
         Err(fault) => return Err(fault),
     };
-    let texts = texts_in(alloc, head.never)?;
+    with_rows(alloc, head, values_of(&never), draft)
+}
+
+/// The values of a list, where there is one.
+fn values_of(never: &Option<Vec<Value>>) -> Option<&[Value]>
+    ensures { option_map (λ s. items_view s.now) result ≡ option_map (λ rows. items_view rows.items) never.now }
+{
+    match never {
+        Some(values) => Some(values.as_slice()),
+        None => None,
+    }
+}
+
+/// What the job's own keys and the steps ask for, and these rows.
+fn with_rows(
+    alloc: Global,
+    head: &Head<'_>,
+    values: Option<&[Value]>,
+    draft: Draft,
+) -> Result<Reading, JobFault>
+    requires ranges { IsHead (head_view head.now) }
+    requires each { length draft.scripts.items ≡ head.now.ranks }
+    requires few { step_count (lists_of draft.scripts.items) ≤ 256 }
+    ensures { Gives reading_view result (never_of (head_view head.now) (option_map (λ s. items_view s.now) values.entry) (draft_view draft)) }
+{
+    let never = match rows_in(alloc, &draft, values) {
+        Ok(never) => never,
+        Err(fault) => return Err(fault),
+    };
+    let texts = texts_in(alloc, values)?;
     let Draft {
         scripts,
         names,

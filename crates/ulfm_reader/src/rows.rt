@@ -1,10 +1,11 @@
 //! The rows of answers of which no run may have all.
-ghost use Rattle.std.specs.Prelude.{◌≡◌, [], IfErr, is_some, option_map};
+ghost use Rattle.std.specs.Prelude.{◌≡◌, [], IfErr, is_some, map, option_map};
 ghost use Rattle.std.specs.List.{list_all};
 ghost use Rattle.toml.specs.Data.{as_array, as_str};
 ghost use Rattle.toml.specs.View.{view, table_view, items_view};
+ghost use Rattle.ulfm_expand.specs.Lines.{line_view};
 ghost use Rattle.ulfm_reader.specs.JobText.{Gives, in_job, rows_of};
-ghost use Rattle.ulfm_reader.specs.Never.{claims_onto, is_row, is_within, never_items, row_in, rows_in, rows_onto};
+ghost use Rattle.ulfm_reader.specs.Never.{claims_onto, is_row, is_within, never_items, never_out, row_in, rows_in, rows_onto};
 ghost use Rattle.ulfm_reader.specs.inside.Reading.{draft_view, map_ok};
 
 use crate::claim::claim_at;
@@ -12,7 +13,8 @@ use crate::draft::Draft;
 use crate::fields::value_at;
 use std::alloc::Global;
 use toml::{Table, Value};
-use ulfm_job::limits::{FEWEST_OF_ROW, MOST_OF_ROW, MOST_ROWS};
+use ulfm_expand::{Line, MOST_ROWS, rows_out};
+use ulfm_job::limits::{FEWEST_OF_ROW, MOST_OF_ROW};
 use ulfm_job::{Clause, Fault, JobFault, Text};
 
 /// Whether each value is a text.
@@ -59,6 +61,24 @@ pub fn never_values(table: &Table) -> Result<Option<&[Value]>, Fault>
             None => Err(Fault::BadKey),
         },
         None => Ok(None),
+    }
+}
+
+/// The values of the key `never`, where it is there, with rows over ranks written out.
+pub fn never_out(
+    alloc: Global,
+    ranks: u8,
+    lines: &[Line],
+    values: Option<&[Value]>,
+) -> Result<Option<Vec<Value>>, JobFault>
+    ensures { Gives (option_map (λ rows. items_view rows.items)) result (in_job (never_out (map line_view lines.now) ranks (option_map (λ s. items_view s.now) values.entry))) }
+{
+    let Some(values) = values else {
+        return Ok(None);
+    };
+    match rows_out(alloc, ranks, lines, values)? {
+        Some(rows) => Ok(Some(rows)),
+        None => Err(JobFault::InJob(Fault::OutOfRange)),
     }
 }
 
@@ -118,7 +138,7 @@ fn rows_of(alloc: Global, draft: &Draft, values: &[Value]) -> Result<Vec<Vec<Cla
     Ok(rows)
 }
 
-/// The rows of the key `never`, where it is there: 1 to 32.
+/// The rows of the key `never`, written out, where it is there: 1 to 1,024.
 pub fn rows_in(
     alloc: Global,
     draft: &Draft,

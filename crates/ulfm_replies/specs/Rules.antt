@@ -92,6 +92,10 @@ progress_rule = record (new_rule (codes "progress")) { long = Some (codes "progr
 abbrev pub show_rule : Rule
 show_rule = record (new_rule (codes "show")) { long = Some (codes "show"); value_names = 1 }
 
+-- the option `--html` with one value
+abbrev pub html_rule : Rule
+html_rule = record (new_rule (codes "html")) { long = Some (codes "html"); value_names = 1 }
+
 -- a flag of this name
 abbrev pub flag_rule : Text → Rule
 flag_rule name = record (new_rule name) { long = Some name; action = Some SetTrue }
@@ -120,9 +124,13 @@ most_threads = 64
 abbrev pub stops_rule : Rule
 stops_rule = number_rule (codes "stops") most_stops
 
--- a command with the options of places: `--stops` and `--threads`
+-- a command with what tells people of lists: the flag `--color` and the option `--html`
+abbrev pub of_told : App → App
+of_told app = with_rule (with_rule app (flag_rule (codes "color"))) html_rule
+
+-- a command with the options of places, `--stops` and `--threads`, and with these
 abbrev pub of_places : App → App
-of_places app = with_rule (with_rule app stops_rule) (number_rule (codes "threads") most_threads)
+of_places app = of_told (with_rule (with_rule app stops_rule) (number_rule (codes "threads") most_threads))
 
 -- the command `places` with its option
 abbrev pub places_app : App

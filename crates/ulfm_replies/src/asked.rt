@@ -5,6 +5,7 @@ ghost use Rattle.ulfm_replies.specs.Asked.{IsTold, IsToldAs};
 ghost use Rattle.ulfm_replies.specs.CommandLine.{HasRanges, asked, faults, files_in, form_asked, meant, show_asked};
 
 use crate::command::{Asked, asked_of};
+use crate::tips::tipped;
 use clap::Error;
 use clap::error::ErrorKind;
 use std::alloc::{AllocError, Global};
@@ -54,6 +55,7 @@ fn told_of(alloc: Global, error: &Error) -> Result<Unfollowed, AllocError>
     ensures { IfOk result (IsToldAs (kind_of error.now)) }
 {
     let text = format!(in alloc; "{error}")?;
+    let text = tipped(alloc, text.as_str())?;
     Ok(if error.use_stderr() {
         Unfollowed::Usage(text)
     } else {

@@ -111,6 +111,10 @@ pub struct Asked<'a> {
     pub show: Option<&'a str>,
     /// The files that they name, in their order. Where there are none, the job comes on standard input.
     pub files: Vec<&'a str>,
+    /// Where a page of lists is to be written, where it is to be: for people, and none of it is promised.
+    pub page: Option<&'a str>,
+    /// Whether what a list comes to has a colour on standard error, of which nothing is promised either.
+    pub has_colour: bool,
 }
 
 /// What the words ask for. An error is a wrong command line, or help or the version that is asked for.
@@ -130,6 +134,8 @@ pub fn asked_of<'a, S: AsStr>(alloc: Global, words: &'a [S]) -> Result<Asked<'a>
             form: form_in(&matches),
             show: show_in(&matches),
             files: files_in(alloc, &matches)?,
+            page: page_in(&matches),
+            has_colour: has_colour(&matches),
         }),
         None => Err(unmeant(alloc, &mut command, &matches)?),
     }
@@ -238,6 +244,22 @@ fn show_in<'a>(matches: &ArgMatches<'a>) -> Option<&'a str>
     match matches.subcommand() {
         Some((_, options)) => value_of(options, "show"),
         None => None,
+    }
+}
+
+/// Where a page of lists is to be written, by what was found in the words.
+fn page_in<'a>(matches: &ArgMatches<'a>) -> Option<&'a str> {
+    match matches.subcommand() {
+        Some((_, options)) => value_of(options, "html"),
+        None => None,
+    }
+}
+
+/// Whether what a list comes to has a colour, by what was found in the words.
+fn has_colour(matches: &ArgMatches<'_>) -> bool {
+    match matches.subcommand() {
+        Some((_, options)) => is_flagged(options, "color"),
+        None => false,
     }
 }
 

@@ -25,7 +25,10 @@ mod remark;
 mod reply;
 mod stopped;
 mod subcommands;
+mod tips;
 mod unmeant;
+mod unmet;
+mod verdict;
 mod version;
 mod written;
 
@@ -36,7 +39,7 @@ pub use failure::{Failure, failed, failed_line};
 pub use laws::nowhere_is_as_read;
 pub use looked_at::is_looked_at;
 pub use options::MOST_THREADS;
-pub use remark::{Remark, StepTold, asks};
+pub use remark::{Remark, StepTold};
 pub use reply::{
     DONE, INPUT_FAILED, JOB_REFUSED, NO_SCHEDULE, NOT_EXPECTED, OUTPUT_FAILED, PAST_LIMIT,
     RUN_FAILED, Reply, UNFINISHED, USAGE, check_reply, refusal,
@@ -44,4 +47,6 @@ pub use reply::{
 pub use stopped::{asked_at, asked_beside};
 pub use ulfm_json::Form;
 pub use ulfm_stops::Place;
+pub use unmet::push_unmet_answers;
+pub use verdict::{Extent, Verdict, Where};
 pub use written::places_reply;

@@ -1,9 +1,11 @@
 //! What standard error tells beside a reply: for people, and none of it is promised.
 
+use crate::verdict::Verdict;
 use std::alloc::{AllocError, Global};
 use std::fmt;
 use ulfm_job::{Clause, Text};
 use ulfm_reader::{Reading, name_at};
+use ulfm_stops::Place;
 
 /// A step as it is told of.
 #[derive(Drop)]
@@ -30,6 +32,14 @@ pub enum Remark {
     Unmet(StepTold, Vec<Text>, String),
     /// All answers of a row of `never` came: its number and its texts.
     Came(usize, Vec<Text>),
+    /// What a list comes to, which is told before it.
+    Verdict(Verdict),
+    /// A schedule in which a step never ends, line by line.
+    Hanging(String),
+    /// This text names no answer of the job.
+    NoGoal(String),
+    /// A step has an answer that is nearly always a mistake of the script: how it begins, and at which places, where some are looked at.
+    Mistaken(StepTold, &'static str, Vec<Place>),
 }
 
 impl StepTold {
@@ -54,6 +64,23 @@ impl StepTold {
             place: place_of(asked, rank, at),
             call,
         })
+    }
+
+    /// The same step by the number that it has in the file.
+    pub fn numbered(self, at: usize) -> StepTold {
+        StepTold {
+            at,
+            place: None,
+            ..self
+        }
+    }
+
+    /// Writes it as goals name it, and what it asks for.
+    pub(crate) fn write_short<W: fmt::Write>(&self, f: &mut fmt::Formatter<W>) -> fmt::Result {
+        match &self.name {
+            Some(name) => write!(f, "{}.{name} {}", self.rank, self.call),
+            None => write!(f, "{}.{} {}", self.rank, self.at, self.call),
+        }
     }
 }
 
@@ -86,7 +113,7 @@ impl Remark {
     /// # Errors
     ///
     /// `AllocError` where a growth was refused.
-    pub fn unmet(
+    pub(crate) fn unmet(
         alloc: Global,
         asked: &Reading,
         rank: u8,
@@ -116,9 +143,17 @@ impl Remark {
         }
         Ok(Remark::Came(number, texts))
     }
+
+    /// That a text names no answer of the job, alone. Nothing where a growth was refused.
+    pub fn no_goal(alloc: Global, goal: &str) -> Option<Vec<Remark>> {
+        let goal = String::from_str(alloc, goal).ok()?;
+        let mut remarks = Vec::new(alloc);
+        remarks.push(Remark::NoGoal(goal)).ok()?;
+        Some(remarks)
+    }
 }
 
 /// Whether a step of a rank asks for a clause.
-pub fn asks(rank: u8, at: usize, clause: &Clause) -> bool {
+pub(crate) fn asks(rank: u8, at: usize, clause: &Clause) -> bool {
     clause.rank == rank && clause.at as usize == at
 }

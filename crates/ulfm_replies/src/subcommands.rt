@@ -2,13 +2,13 @@
 ghost use Rattle.std.specs.Prelude.{◌≡◌, false, IfOk};
 ghost use Rattle.clap.specs.declared.builder.command.Command.TheViews.{out-Command};
 ghost use Rattle.clap.specs.Words.{App, app_of, with_subcommand};
-ghost use Rattle.ulfm_replies.specs.Rules.{check_app, demanding_app, draw_app, expand_app, of_jobs, of_pictures, of_places, of_schedules, of_stopped, outcomes_app, places_app, replay_app, run_app, sweep_app, tool_app};
+ghost use Rattle.ulfm_replies.specs.Rules.{check_app, demanding_app, draw_app, expand_app, of_jobs, of_pictures, of_places, of_schedules, of_stopped, of_told, outcomes_app, places_app, replay_app, run_app, sweep_app, tool_app};
 
 use crate::help::{ABOUT, HELP};
 use crate::options::{
-    MOST_RUNS, MOST_STATES, MOST_THREADS, brief_flag, carrier_option, files, json_flag,
-    number_option, plain_flag, progress_flag, show_option, stop_option, stops_option, strict_flag,
-    turns_option,
+    MOST_RUNS, MOST_STATES, MOST_THREADS, brief_flag, carrier_option, files, html_option,
+    json_flag, number_option, plain_flag, progress_flag, show_option, stop_option, stops_option,
+    strict_flag, turns_option,
 };
 use crate::version::VERSION;
 use clap::Command;
@@ -162,7 +162,7 @@ fn outcomes_command<'a>(alloc: Global) -> Result<Command<'a>, AllocError>
     of_stopped(alloc, command)
 }
 
-/// A command with the options of places: `--stops` and `--threads`.
+/// A command with the options of places: `--stops` and `--threads`, and with what tells people of lists.
 fn of_places<'a>(alloc: Global, command: Command<'a>) -> Result<Command<'a>, AllocError>
     requires { (out-Command command).has_globals ≡ false }
     ensures app { IfOk result (λ r. app_of r ≡ of_places (app_of command.entry)) }
@@ -179,7 +179,23 @@ fn of_places<'a>(alloc: Global, command: Command<'a>) -> Result<Command<'a>, All
         MOST_THREADS,
         "With --stops looks at places by so many threads [1 to 64; one a processor if left out]",
     );
-    command.arg(threads)
+    let command = command.arg(threads)?;
+    of_told(alloc, command)
+}
+
+/// A command with what tells people of lists: the flag `--color` and the option `--html`.
+fn of_told<'a>(alloc: Global, command: Command<'a>) -> Result<Command<'a>, AllocError>
+    requires { (out-Command command).has_globals ≡ false }
+    ensures app { IfOk result (λ r. app_of r ≡ of_told (app_of command.entry)) }
+    ensures local { IfOk result (λ r. (out-Command r).has_globals ≡ false) }
+{
+    let color = plain_flag(
+        alloc,
+        "color",
+        "Marks what a list comes to, on standard error, as ./ulfm asks where that is a terminal",
+    );
+    let command = command.arg(color)?;
+    command.arg(html_option(alloc))
 }
 
 /// The command `places` with its option.
@@ -215,7 +231,11 @@ fn of_schedules<'a>(alloc: Global, command: Command<'a>) -> Result<Command<'a>, 
     ensures app { IfOk result (λ r. app_of r ≡ of_schedules (app_of command.entry)) }
     ensures local { IfOk result (λ r. (out-Command r).has_globals ≡ false) }
 {
-    let draw = plain_flag(alloc, "draw", "With --show draws the schedule, as SVG");
+    let draw = plain_flag(
+        alloc,
+        "draw",
+        "Draws the schedule of --show, or else of the first step that never ends, as SVG",
+    );
     let command = command.arg(draw)?;
     of_pictures(alloc, command)
 }

@@ -1,7 +1,8 @@
 -- What a step that stands open waits for, and who would have to bring it.
-use Rattle.std.specs.Prelude.{ℕ, ◌+◌, ◌==◌, ◌&&◌, ◌||◌, not, Bool, true, false, List, [], ◌∷◌, ◌++◌, Option, Some, None, length, codes, filter, slice_get, if◌then◌else◌}
+use Rattle.std.specs.Prelude.{ℕ, ◌+◌, ◌==◌, ◌&&◌, ◌||◌, not, Bool, true, false, List, [], ◌∷◌, ◌++◌, Option, Some, None, length, codes, drop, filter, slice_get, if◌then◌else◌}
 use Rattle.std.specs.Fmt.{decimal}
 use Rattle.std.specs.List.{list_any}
+use Rattle.std.specs.Option.{option_or}
 use Rattle.ulfm_base.specs.Group.{rank_in}
 use Rattle.ulfm_base.specs.Topic.{is_topic, shrink_topic}
 use Rattle.ulfm_base.specs.declared.context.Context.{Context}
@@ -69,6 +70,10 @@ is_due need position step report = would_bring need position step && not (has_br
 abbrev pub due_from : Step → Option ℕ → List StepReport → ℕ → List Step → Option ℕ
 due_from need position done k [] = None
 due_from need position done k (step ∷ steps) = if is_due need position step (slice_get done k) then Some k else due_from need position done (k + 1) steps
+
+-- the step of a rank, of which so many steps are answered, that would bring it: the first that stands open or isn't reached, or else the first that was answered, and didn't
+abbrev pub due_in : Step → Option ℕ → List StepReport → List Step → Option ℕ
+due_in need position done script = option_or (due_from need position done (length done) (drop (length done) script)) (due_from need position done 0 script)
 
 -- what came of the step k of a rank, of which so many have an answer and the next stands open or not: its answer, or that it is this one, or isn't reached
 abbrev pub fate_text : ℕ → Bool → ℕ → Option StepReport → List ℕ

@@ -1,10 +1,10 @@
 -- What single functions find of a job at places.
-use Rattle.std.specs.Prelude.{◌≡◌, ◌≤◌, ℕ, ◌==◌, Bool, false, List, Option, Some, None, All, max, option_map, slice_get, string_bytes, take}
+use Rattle.std.specs.Prelude.{◌≡◌, ◌≤◌, ℕ, ⊤, ◌==◌, Bool, false, List, Option, Some, None, All, max, option_map, slice_get, string_bytes, take}
 use Rattle.ulfm_job.specs.declared.clause.Clause.{Clause}
 use Rattle.ulfm_job.specs.Job.{JobView}
 use Rattle.ulfm_stops.specs.Place.{IsPlaceOf, job_at}
 use Rattle.ulfm_stops.specs.declared.place.Place.{Place}
-use Rattle.ulfm_lists.specs.Objects.{lists_in}
+use Rattle.ulfm_lists.specs.List.{lists_in}
 use Rattle.ulfm_lists.specs.Union.{some_never_ends}
 use Rattle.ulfm_lists.specs.declared.listed.Listed.{Listed}
 use Rattle.ulfm_judged.specs.declared.lists.Lists.{Lists}
@@ -14,17 +14,15 @@ use Rattle.ulfm_replies.specs.Stopped.{Asked, asked_at, asked_view}
 use Rattle.ulfm_reader.specs.declared.reading.Reading.{Reading}
 use Rattle.ulfm_replies.specs.declared.command.ListOptions.{ListOptions}
 use Rattle.ulfm_replies.specs.declared.reply.Reply.{Reply}
-use Rattle.ulfm_judged.specs.EachPlace.{IsJudgedEach, IsToldAt, IsUnfound, IsWanted, places_in}
-use Rattle.ulfm_lists.specs.ToldAt.{more_at}
-use Rattle.ulfm_judged.specs.Outcomes.{HasList, list_status, nowhere_in}
-use Rattle.ulfm_lists.specs.Told.{Told, many, schedule}
+use Rattle.ulfm_judged.specs.EachPlace.{IsJudgedEach, IsToldAt, IsUnfound, places_in}
+use Rattle.ulfm_lists.specs.Told.{more_at}
+use Rattle.ulfm_judged.specs.Outcomes.{list_status, nowhere_in}
 use Rattle.ulfm_judged.specs.ShowEach.{AreGoalsAt, IsNowhereAt}
-use Rattle.ulfm_lists.specs.ToldAt.{told_at}
+use Rattle.ulfm_judged.specs.Wanted.{HasList, IsToldOf, IsWanted}
 use Rattle.ulfm_judged.specs.declared.show_each.LookAt.{LookAt}
-use Rattle.ulfm_lists.specs.declared.told.Told.{Told as Kept}
+use Rattle.ulfm_lists.specs.declared.told.Told.{Told}
 use Rattle.ulfm_finder.specs.Told.{IsLook}
-use Rattle.ulfm_judged.specs.inside.Looking.{look_status}
-use Rattle.ulfm_lists.specs.Told.{told_view}
+use Rattle.ulfm_judged.specs.inside.Looking.{IsLookText, look_status}
 use Rattle.ulfm_found.specs.declared.goals.Goals.{Goals}
 use Rattle.ulfm_json.specs.declared.style.Style.{Style}
 
@@ -46,10 +44,15 @@ abbrev pub IsStopped : Place → Asked → Option Reading → Type 0
 IsStopped place asked None = asked_at place asked ≡ asked
 IsStopped place asked (Some made) = asked_view made ≡ asked_at place asked
 
--- this is wanted, or that is told of it
-abbrev pub IsUnwanted : Form → ListOptions → Place → Asked → Option Reply → Type 0
-IsUnwanted form options place asked None = IsWanted asked
-IsUnwanted form options place asked (Some reply) = IsToldAt form options place asked reply.status (string_bytes reply.text)
+-- this is wanted, or that is told of it, by these rows of a list
+abbrev pub IsUnwanted : Form → ListOptions → Option Place → Asked → List (List ℕ) → Option Reply → Type 0
+IsUnwanted form options at asked found None = IsWanted asked
+IsUnwanted form options at asked found (Some reply) = IsToldOf form options at asked found reply.status (string_bytes reply.text)
+
+-- the same at a place, by a list there
+abbrev pub IsUnwantedAt : Form → ListOptions → Place → Asked → Option Reply → Type 0
+IsUnwantedAt form options place asked None = IsWanted asked
+IsUnwantedAt form options place asked (Some reply) = IsToldAt form options place asked reply.status (string_bytes reply.text)
 
 -- it is wanted at each of these places, or that is told of them, whatever the status of the lists is
 abbrev pub IsFirstUnwanted : Form → ListOptions → Asked → List Place → Option Reply → Type 0
@@ -87,7 +90,7 @@ abbrev pub lists_text : Form → List Name → JobView → ListOptions → Lists
 lists_text form names job options lists = text_past form names job options lists.listed.items lists.past_limit
 
 -- a search at a place for answers came to nothing, since no schedule shows them, or to what is told
-abbrev pub IsLookAt : JobView → List Clause → Bool → ℕ → Place → Option Kept → Type 0
+abbrev pub IsLookAt : JobView → List Clause → Bool → ℕ → Place → Option Told → Type 0
 IsLookAt job clauses is_brief limit place look = (goals : Goals) × AreGoalsAt place job clauses goals × IsLook (job_at place job) goals is_brief limit look
 
 -- none of these places shows them, or of the first that does, or can't be looked at, that is told
@@ -96,16 +99,16 @@ IsFirstLook job clauses is_brief limit places None = All (IsNowhereAt job clause
 IsFirstLook job clauses is_brief limit places (Some look) = (number : ℕ) × (slice_get places number ≡ Some look.place)
     × All (IsNowhereAt job clauses) (take number places) × IsLookAt job clauses is_brief limit look.place (Some look.told)
 
--- the text of what came of a search at a place: that, where it is no schedule that is to be drawn
-abbrev pub IsToldAtText : Form → Option Style → Place → Told → List ℕ → Type 0
-IsToldAtText form drawn place (schedule words) text = drawn ≡ None → text ≡ told_at form place (schedule words)
-IsToldAtText form drawn place (many limit) text = text ≡ told_at form place (many limit)
+-- what came of a search at each place came at one of the job, if it came to something
+abbrev pub IsInside : JobView → Option LookAt → Type 0
+IsInside job None = ⊤
+IsInside job (Some look) = IsPlaceOf job look.place
 
--- the same of a search at each place
-abbrev pub IsLookAtText : Form → Option Style → Option LookAt → List ℕ → Type 0
-IsLookAtText form drawn None text = text ≡ nowhere_in form
-IsLookAtText form drawn (Some look) text = IsToldAtText form drawn look.place (told_view look.told) text
+-- the text of what came of a search at each place
+abbrev pub IsLookAtText : Form → Option Style → Asked → Option LookAt → List ℕ → Type 0
+IsLookAtText form drawn asked None text = text ≡ nowhere_in form
+IsLookAtText form drawn asked (Some look) text = IsLookText form drawn (Some look.place) (asked_at look.place asked) (Some look.told) text
 
 -- its status
 abbrev pub look_at_status : Option LookAt → ℕ
-look_at_status look = look_status (option_map (λ (l : LookAt). told_view l.told) look)
+look_at_status look = look_status (option_map (λ (l : LookAt). l.told) look)

@@ -12,29 +12,29 @@ pub text_of-requires : goal.text_of-requires
 text_of-requires g c = record { ascii = subst AreAllAscii (sym c.as_slice-listed.ensures.value) c.requires.ascii }
 
 pub first_unwanted-requires : goal.first_unwanted-requires
-first_unwanted-requires g c = subst (AreListedOf (asked_view c.args.asked.now) c.args.options.limit) (sym c.as_slice-listed.ensures.value) c.requires.listed
+first_unwanted-requires g c = subst (AreListedOf (asked_view c.args.asked.now) c.args.search.now.options.limit) (sym c.as_slice-listed.ensures.value) c.requires.listed
 
 pub returns-in-Some : goal.returns-in-Some
 returns-in-Some g c =
     let asked = asked_view c.args.asked.now in
-    let form = c.args.form in
-    let options = c.args.options in
+    let form = c.args.search.now.form in
+    let options = c.args.search.now.options in
     let lists = c.args.lists.now in
     let words = string_bytes c.in-Some.told.text in
     let of_slice = subst (IsFirstUnwanted form options asked (places_in c.as_slice-listed.result.now)) c.in-Some.is c.in_ok-told.ensures in
     let first = subst (λ (listed : List Listed). IsFirstUnwanted form options asked (places_in listed) (Some c.in-Some.told)) c.as_slice-listed.ensures.value of_slice in
     let text = c.in_ok-text.ensures ∙ ap (λ (listed : List Listed). text_past form asked.names asked.job options listed lists.past_limit) c.as_slice-listed.ensures.value in
-    IfOk-weaker c.with_told.result _ _ (λ r h. (
+    IfOk-weaker c.below.result _ _ (λ r h. (
       words,
       subst (λ (k : ℕ). IsJudgedEach form options asked (places_in lists.listed.items) (lists_status options lists) k words) (sym h.0) (first (lists_status options lists)),
       h.1 ∙ ap (λ (t : List ℕ). t ++ words) text,
-    )) c.with_told.ensures
+    )) c.below.ensures
 
 pub returns-in-None : goal.returns-in-None
 returns-in-None g c =
     let asked = asked_view c.args.asked.now in
-    let form = c.args.form in
-    let options = c.args.options in
+    let form = c.args.search.now.form in
+    let options = c.args.search.now.options in
     let lists = c.args.lists.now in
     let of_slice = subst (IsFirstUnwanted form options asked (places_in c.as_slice-listed.result.now)) c.in-None.is c.in_ok-told.ensures in
     let all = subst (λ (listed : List Listed). IsFirstUnwanted form options asked (places_in listed) None) c.as_slice-listed.ensures.value of_slice in

@@ -10,10 +10,10 @@ pub returns-in-None : goal.returns-in-None
 returns-in-None g c =
     let places = c.args.places.now in
     let i = c.loop-place.place-index in
-    goes_on-past c.args.job.now c.args.limit places c.loop-place.listed.items (drop i places) c.loop-place.invariant (drop (i + 1) places) (get_or places i Nowhere)
-    (drop-get_or places i Nowhere c.loop-place-test.true) (subst (IsListOf c.args.job.now c.args.limit (get_or places i Nowhere)) c.in-None.is c.in_ok-one.ensures)
+    goes_on-past c.args.job.now c.args.search.now.options.limit places c.loop-place.listed.items (drop i places) c.loop-place.invariant (drop (i + 1) places) (get_or places i Nowhere)
+    (drop-get_or places i Nowhere c.loop-place-test.true) (subst (IsListOf c.args.job.now c.args.search.now.options.limit (get_or places i Nowhere)) c.in-None.is c.in_ok-one.ensures)
 
 pub returns : goal.returns
 returns g c =
     let places = c.args.places.now in
-    goes_on-end c.args.job.now c.args.limit places c.loop-place.listed.items (drop c.loop-place.place-index places) c.loop-place.invariant (drop_all c.loop-place.place-index places c.loop-place-test.false)
+    goes_on-end c.args.job.now c.args.search.now.options.limit places c.loop-place.listed.items (drop c.loop-place.place-index places) c.loop-place.invariant (drop_all c.loop-place.place-index places c.loop-place-test.false)

@@ -7,4 +7,4 @@ use Rattle.ulfm_judged.proofs.looking.look_for_row.Goals as goal
 pub returns-then-not-has_each : goal.returns-then-not-has_each
 returns-then-not-has_each g c =
     let lacks : has_each c.args.found.now c.in_ok-goals.goals ≡ false = search rules in
-    λ _. (c.in_ok-goals.goals, c.in_ok-goals.ensures, λ possible. false≢true (sym lacks ∙ each_listed c.args.job.now _ c.args.limit c.requires.0 c.args.found.now c.in_ok-goals.goals c.requires.1 possible))
+    λ _. (c.in_ok-goals.goals, c.in_ok-goals.ensures, λ possible. false≢true (sym lacks ∙ each_listed c.args.job.now _ c.args.search.now.options.limit c.requires.0 c.args.found.now c.in_ok-goals.goals c.requires.1 possible))

@@ -10,14 +10,14 @@ pub returns-in-Some : goal.returns-in-Some
 returns-in-Some g c =
     let places = c.args.places.now in
     let i = c.loop-place.place-index in
-    (i, slice_get-get_or places i Nowhere c.loop-place-test.true, c.loop-place.invariant, subst (IsLookAt c.args.job.now c.args.answers.now c.args.options.is_brief c.args.options.limit (get_or places i Nowhere)) c.in-Some.is c.in_ok-told.ensures)
+    (i, slice_get-get_or places i Nowhere c.loop-place-test.true, c.loop-place.invariant, subst (IsLookAt c.args.job.now c.args.answers.now c.args.search.now.options.is_brief c.args.search.now.options.limit (get_or places i Nowhere)) c.in-Some.is c.in_ok-told.ensures)
 
 pub loop-place-preserved : goal.loop-place-preserved
 loop-place-preserved g c =
     let places = c.args.places.now in
     let i = c.loop-place.place-index in
     All-more (IsNowhereAt c.args.job.now c.args.answers.now) places i Nowhere c.loop-place-test.true c.loop-place.invariant
-    (subst (IsLookAt c.args.job.now c.args.answers.now c.args.options.is_brief c.args.options.limit (get_or places i Nowhere)) c.in_default.is c.in_ok-told.ensures)
+    (subst (IsLookAt c.args.job.now c.args.answers.now c.args.search.now.options.is_brief c.args.search.now.options.limit (get_or places i Nowhere)) c.in_default.is c.in_ok-told.ensures)
 
 pub returns : goal.returns
 returns g c = subst (All (IsNowhereAt c.args.job.now c.args.answers.now)) (take_all c.loop-place.place-index c.args.places.now c.loop-place-test.false) c.loop-place.invariant

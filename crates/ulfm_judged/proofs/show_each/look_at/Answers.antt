@@ -5,4 +5,4 @@ use Rattle.ulfm_judged.proofs.show_each.look_at.Goals as goal
 
 pub returns : goal.returns
 returns g c =
-    (c.in_ok-goals.goals, c.in_ok-goals.ensures, subst (λ (j : JobView). IsLook j c.in_ok-goals.goals c.args.options.is_brief c.args.options.limit c.in_ok-look.look) c.in-Ok.ensures.exact c.in_ok-look.ensures)
+    (c.in_ok-goals.goals, c.in_ok-goals.ensures, subst (λ (j : JobView). IsLook j c.in_ok-goals.goals c.args.search.now.options.is_brief c.args.search.now.options.limit c.in_ok-look.look) c.in-Ok.ensures.exact c.in_ok-look.ensures)

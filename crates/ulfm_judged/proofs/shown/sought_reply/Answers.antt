@@ -18,5 +18,5 @@ pub returns : goal.returns
 returns g c = λ bytes read.
     let asked = asked_view c.args.asked.now in
     let named = sym c.in_ok-answers.ensures ∙ ap goals_view c.in-Ok.is in
-    IfOk-weaker c.look_reply.result _ _ (λ r h. rw (h.0) (show_as c.args.form c.args.options c.args.show.now bytes asked c.in-Ok.answers.items c.in_ok-goals.goals c.in_ok-look.look (string_bytes r.text)
+    IfOk-weaker c.look_reply.result _ _ (λ r h. rw (h.0) (show_as c.args.search.now.form c.args.search.now.options c.args.show.now bytes asked c.in-Ok.answers.items c.in_ok-goals.goals c.in_ok-look.look (string_bytes r.text)
     read named (subst (λ (clauses : List Clause). AreOfClauses asked.job clauses c.in_ok-goals.goals) c.as_slice.ensures.value c.in_ok-goals.ensures) c.in_ok-look.ensures h.1)) c.look_reply.ensures

@@ -1,9 +1,8 @@
-use Rattle.ulfm_judged.specs.EachPlace.{unmet}
-use Rattle.ulfm_lists.specs.Told.{told_view}
+use Rattle.ulfm_judged.specs.Wanted.{unmet}
 use Rattle.ulfm_judged.proofs.unwanted.unmet_told.Goals as goal
 
 pub told_of-requires : goal.told_of-requires
-told_of-requires g c = c.requires.judges c.in_ok-goals.goals c.in_ok-goals.ensures
+told_of-requires g c = c.requires c.in_ok-goals.goals c.in_ok-goals.ensures
 
 pub returns : goal.returns
-returns g c = rw c.in_ok-text.ensures (unmet c.args.unmet c.in_ok-goals.goals (told_view c.in_ok-told.told) c.requires.first c.in_ok-goals.ensures c.in_ok-told.ensures)
+returns g c = λ found first. rw c.in_ok-text.ensures (unmet c.args.unmet c.in_ok-goals.goals c.in_ok-told.told first c.in_ok-goals.ensures c.in_ok-told.ensures)

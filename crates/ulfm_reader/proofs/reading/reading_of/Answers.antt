@@ -31,4 +31,9 @@ returns c =
     let lines = lines-view h c.in-Ok.head.steps.now c.in-Ok-written_out.lines.items refl c.in-Ok-written_out.ensures.exact in
     let few : length (lines_of h) ≤ 256 = omega (arith, ap length lines, length-map c.in-Ok-written_out.lines.items line_view, c.in-Ok-written_out.ensures.few) in
     let here = lines ∙ sym (ap (map line_view) c.as_slice.ensures.value) in
-    rw (steps_read _ h (Ok (draft_view c.in_ok-draft.draft)) c.in-Ok.ensures.exact few (ap (steps_of h.ranks (blank h.ranks)) here ∙ c.in_ok-draft.ensures.exact)) c.with_rows.ensures
+    rw (steps_read _ h (Ok (draft_view c.in_ok-draft.draft)) c.in-Ok.ensures.exact few (ap (steps_of h.ranks (blank h.ranks)) here ∙ c.in_ok-draft.ensures.exact)) c.rest_of.ensures
+
+pub rest_of-requires-clause-lines : goal.rest_of-requires-clause-lines
+rest_of-requires-clause-lines c =
+    let h = head_view c.in-Ok.head in
+    ap (map line_view) c.as_slice-2.ensures.value ∙ sym (lines-view h c.in-Ok.head.steps.now c.in-Ok-written_out.lines.items refl c.in-Ok-written_out.ensures.exact)

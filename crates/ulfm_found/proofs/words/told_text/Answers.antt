@@ -1,0 +1,10 @@
+use Rattle.std.proofs.Common.{string_bytes, codes}
+use Rattle.ulfm_found.specs.Listed.{outcomes_view}
+use Rattle.ulfm_found.specs.Words.{endings}
+use Rattle.ulfm_found.proofs.Endings.{joined}
+use Rattle.ulfm_found.proofs.words.told_text.Goals as goal
+
+pub returns : goal.returns
+returns c =
+    joined string_bytes (codes " | ") _ c.deref.result.now c.in_ok-endings.endings.items (endings (outcomes_view c.args.told.now))
+    c.in_ok-join.ensures.ok c.deref.ensures.value c.in_ok-endings.ensures

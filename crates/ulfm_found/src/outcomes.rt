@@ -1,0 +1,15 @@
+//! What a list tells of a step.
+
+use crate::outcome::Outcome;
+use ulfm_stops::Place;
+
+/// What a list tells of a step.
+#[derive(Drop)]
+pub struct Outcomes {
+    /// Its answers, in rising order of their bytes, each once.
+    pub answers: Vec<Outcome>,
+    /// Whether it never ends in some schedule.
+    pub never_ends: bool,
+    /// The places at which it never ends, in their order; none where a list isn't one of places.
+    pub never_ends_at: Vec<Place>,
+}

@@ -1,0 +1,85 @@
+//! A list as it is printed.
+ghost use Rattle.std.specs.Prelude.{◌≡◌, ◌++◌, IfOk, OnOk, string_bytes};
+ghost use Rattle.ulfm_found.specs.Listed.{list_found, list_view};
+ghost use Rattle.ulfm_found.specs.Objects.{list_in, more_in, printed};
+ghost use Rattle.ulfm_found.specs.Text.{AreAscii, IsWritable};
+
+use crate::list::list_of;
+use crate::objects::push_objects;
+use crate::step_list::StepList;
+use crate::words::push_words;
+use std::alloc::{AllocError, Global};
+use ulfm_base::OutOfMemory;
+use ulfm_job::Job;
+use ulfm_json::Form;
+use ulfm_reach::{Reach, Reached};
+use ulfm_reader::Name;
+
+/// Puts a list of steps that have these names behind a text, in this form: a line for each step with its answers, in the order in which they
+/// are listed, and last that it never ends in some schedule; then how many states were visited.
+///
+/// # Errors
+///
+/// A growth was refused: some lines may stand in the text then.
+pub fn push_list(
+    text: &mut String,
+    form: Form,
+    names: &[Name],
+    list: &StepList<'_>,
+) -> Result<(), AllocError>
+    ensures { OnOk result (string_bytes text.new ≡ string_bytes text.old ++ printed form names.now (list_view list.now)) }
+{
+    match form {
+        Form::Words => push_words(text, list),
+        Form::Json => push_objects(text, names, list),
+    }
+}
+
+/// The list of an exploration of a job whose steps have these names, in this form. Of more states than the limit one line.
+///
+/// # Errors
+///
+/// `OutOfMemory` where a growth was refused.
+pub fn list_in(
+    alloc: Global,
+    form: Form,
+    names: &[Name],
+    job: &Job,
+    reach: &Reach,
+    limit: usize,
+) -> Result<String, OutOfMemory>
+    requires ascii { IsWritable reach.now }
+    ensures { IfOk result (λ text. string_bytes text ≡ list_in form names.now job.now reach.now limit) }
+{
+    match reach {
+        Reach::All(reached) => whole_in(alloc, form, names, job, reached),
+        Reach::More => more_in(alloc, form, limit),
+    }
+}
+
+/// The list of all that is reached.
+fn whole_in(
+    alloc: Global,
+    form: Form,
+    names: &[Name],
+    job: &Job,
+    reached: &Reached,
+) -> Result<String, OutOfMemory>
+    requires ascii { AreAscii reached.now.found }
+    ensures { IfOk result (λ text. string_bytes text ≡ printed form names.now (list_found job.now reached.now)) }
+{
+    let list = list_of(alloc, job, reached)?;
+    let mut text = String::new(alloc);
+    push_list(&mut text, form, names, &list)?;
+    Ok(text)
+}
+
+/// That there are more states than the limit.
+fn more_in(alloc: Global, form: Form, limit: usize) -> Result<String, OutOfMemory>
+    ensures { IfOk result (λ text. string_bytes text ≡ more_in form limit) }
+{
+    match form {
+        Form::Words => Ok(format!(in alloc; "more than {limit} states\n")?),
+        Form::Json => Ok(format!(in alloc; "{{\"more_states_than\":{limit}}}\n")?),
+    }
+}

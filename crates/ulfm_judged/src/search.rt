@@ -1,0 +1,60 @@
+//! A search, how far it goes, and in which form it is told.
+ghost use Rattle.std.specs.Prelude.{IfOk};
+ghost use Rattle.ulfm_finder.specs.Outcomes.{IsList};
+ghost use Rattle.ulfm_finder.specs.Told.{IsLook};
+
+use std::alloc::Global;
+use ulfm_base::OutOfMemory;
+use ulfm_finder::Finder;
+use ulfm_found::Goals;
+use ulfm_job::Job;
+use ulfm_json::Form;
+use ulfm_lists::Told;
+use ulfm_reach::{Reach, Watch};
+use ulfm_replies::ListOptions;
+
+/// What a command looks by for outcomes and schedules.
+#[derive(Drop)]
+pub struct Search<'a, F> {
+    /// Who finds them.
+    pub finder: &'a F,
+    /// Where they are kept.
+    pub alloc: Global,
+    /// The form in which they are told.
+    pub form: Form,
+    /// How far is looked, among others.
+    pub options: ListOptions,
+}
+
+impl<F: Finder> Search<'_, F> {
+    /// What the steps of a job may be answered. `watch` is told how far it is.
+    ///
+    /// # Errors
+    ///
+    /// `OutOfMemory` where a growth was refused.
+    pub fn outcomes<W: Watch>(&self, job: &Job, watch: &mut W) -> Result<Reach, OutOfMemory>
+        ensures { IfOk result (λ reach. IsList job.now self.now.options.limit reach) }
+    {
+        let limit = self.options.limit as usize;
+        self.finder.outcomes(self.alloc, job, limit, watch)
+    }
+
+    /// A schedule of a job that shows these goals, if there is one. `watch` is told how far it is.
+    ///
+    /// # Errors
+    ///
+    /// `OutOfMemory` where a growth was refused.
+    pub fn show<W: Watch>(
+        &self,
+        job: &Job,
+        goals: &Goals,
+        watch: &mut W,
+    ) -> Result<Option<Told>, OutOfMemory>
+        ensures { IfOk result (IsLook job.now goals.now self.now.options.is_brief self.now.options.limit) }
+    {
+        let limit = self.options.limit as usize;
+        let is_brief = self.options.is_brief;
+        self.finder
+            .show(self.alloc, job, goals, is_brief, limit, watch)
+    }
+}

@@ -1,0 +1,42 @@
+-- The lists of places as one list.
+use Rattle.std.specs.Prelude.{ℕ, ◌==◌, List, [], Some, length, map, not, sum_by}
+use Rattle.ulfm_found.specs.Listed.{ListView, ListedView, OutcomeView, OutcomesView, StepView, all_steps}
+use Rattle.ulfm_found.specs.Objects.{printed}
+use Rattle.ulfm_job.specs.Job.{JobView}
+use Rattle.ulfm_json.specs.declared.form.Form.{Form}
+use Rattle.ulfm_lists.specs.Union.{answers_of, places_with, some_never_ends}
+use Rattle.ulfm_lists.specs.declared.listed.Listed.{Listed}
+use Rattle.ulfm_reader.specs.declared.name.Name.{Name}
+
+-- an answer of the step k of the rank r, with its places
+abbrev pub placed : JobView → List Listed → ℕ → ℕ → List ℕ → OutcomeView
+placed j listed r k words = record { words = words; places = places_with j listed r k words }
+
+-- what the lists tell of the step
+abbrev pub told_of : JobView → List Listed → ℕ → ℕ → OutcomesView
+told_of j listed r k = record {
+  answers = map (placed j listed r k) (answers_of j listed r k);
+  never_ends = not (length (places_with j listed r k []) == 0);
+  never_ends_at = places_with j listed r k [];
+}
+
+-- a step, and what they tell of it
+abbrev pub listed_at : JobView → List Listed → StepView → ListedView
+listed_at j listed s = record { at = s; told = told_of j listed s.rank s.number }
+
+-- how many states all places have together
+abbrev pub states_of : List Listed → ℕ
+states_of listed = sum_by (λ (one : Listed). one.states) listed
+
+-- the list of all steps of a job
+abbrev pub list_at : JobView → List Listed → ListView
+list_at j listed = record {
+  steps = map (listed_at j listed) (all_steps 0 j.scripts);
+  states = states_of listed;
+  places = Some (length listed);
+  never_ends = some_never_ends listed;
+}
+
+-- the lists in this form
+abbrev pub lists_in : Form → List Name → JobView → List Listed → List ℕ
+lists_in form names j listed = printed form names (list_at j listed)

@@ -1,0 +1,123 @@
+//! The lists of places as one list.
+ghost use Rattle.std.specs.Prelude.{◌≡◌, map, IfOk, string_bytes};
+ghost use Rattle.ulfm_found.specs.Listed.{list_view, listed_view, outcome_view, outcomes_view, step_view};
+ghost use Rattle.ulfm_lists.specs.List.{list_at, listed_at, lists_in, placed, states_of, told_of};
+ghost use Rattle.ulfm_lists.specs.Union.{AreAllAscii};
+
+use crate::listed::Listed;
+use crate::union::{answers_of, places_with, some_never_ends};
+use std::alloc::{AllocError, Global};
+use ulfm_base::OutOfMemory;
+use ulfm_found::{JobStep, ListedStep, Outcome, Outcomes, StepList, push_list, steps_of};
+use ulfm_job::Job;
+use ulfm_json::Form;
+use ulfm_reader::Name;
+
+/// The lists of places as one list, in this form: what each step of the file may be answered, and at which of them. The job's
+/// steps have these names.
+///
+/// # Errors
+///
+/// `OutOfMemory` where a growth was refused, or more states than a number holds are to be counted.
+pub fn lists_in(
+    alloc: Global,
+    form: Form,
+    names: &[Name],
+    job: &Job,
+    listed: &[Listed],
+) -> Result<String, OutOfMemory>
+    requires ascii { AreAllAscii listed.now }
+    ensures { IfOk result (λ text. string_bytes text ≡ lists_in form names.now job.now listed.now) }
+{
+    let list = list_of(alloc, job, listed)?;
+    let mut text = String::new(alloc);
+    push_list(&mut text, form, names, &list)?;
+    Ok(text)
+}
+
+/// The list of all steps of a job, as the lists of places have them.
+fn list_of<'a>(alloc: Global, job: &'a Job, listed: &[Listed]) -> Result<StepList<'a>, OutOfMemory>
+    requires ascii { AreAllAscii listed.now }
+    ensures { IfOk result (λ list. list_view list ≡ list_at job.now listed.now) }
+{
+    let steps = steps_of(alloc, job)?;
+    Ok(StepList {
+        steps: listed_steps(alloc, job, listed, steps.as_slice())?,
+        states: states_of(listed)?,
+        places: Some(listed.len()),
+        never_ends: some_never_ends(listed),
+    })
+}
+
+/// How many states all places have together.
+fn states_of(listed: &[Listed]) -> Result<usize, OutOfMemory>
+    ensures { IfOk result (λ states. states ≡ states_of listed.now) }
+{
+    let mut states = 0usize;
+    for one in listed {
+        match states.checked_add(one.states) {
+            Some(sum) => states = sum,
+            None => return Err(AllocError),
+        }
+    }
+    Ok(states)
+}
+
+/// These steps, and what the lists tell of each.
+fn listed_steps<'a>(
+    alloc: Global,
+    job: &Job,
+    listed: &[Listed],
+    steps: &[JobStep<'a>],
+) -> Result<Vec<ListedStep<'a>>, OutOfMemory>
+    requires ascii { AreAllAscii listed.now }
+    ensures { IfOk result (λ list. map listed_view list.items ≡ map (listed_at job.now listed.now) (map step_view steps.now)) }
+{
+    let mut list = Vec::new(alloc);
+    for at in steps {
+        let told = told_of(alloc, job, listed, at.rank, at.number)?;
+        list.push(ListedStep { at: *at, told })?;
+    }
+    Ok(list)
+}
+
+/// What the lists tell of a step.
+fn told_of(
+    alloc: Global,
+    job: &Job,
+    listed: &[Listed],
+    rank: u8,
+    k: usize,
+) -> Result<Outcomes, OutOfMemory>
+    requires ascii { AreAllAscii listed.now }
+    ensures { IfOk result (λ told. outcomes_view told ≡ told_of job.now listed.now rank k) }
+{
+    let answers = answers_of(alloc, job, listed, rank, k)?;
+    let never_ends_at = places_with(alloc, job, listed, rank, k, &[])?;
+    Ok(Outcomes {
+        answers: placed_answers(alloc, job, listed, rank, k, answers.as_slice())?,
+        never_ends: !never_ends_at.is_empty(),
+        never_ends_at,
+    })
+}
+
+/// These answers of a step, each with its places.
+fn placed_answers(
+    alloc: Global,
+    job: &Job,
+    listed: &[Listed],
+    rank: u8,
+    k: usize,
+    answers: &[String],
+) -> Result<Vec<Outcome>, OutOfMemory>
+    ensures { IfOk result (λ placeds. map outcome_view placeds.items ≡ map (placed job.now listed.now rank k) (map string_bytes answers.now)) }
+{
+    let mut placeds = Vec::new(alloc);
+    for words in answers {
+        placeds.push(Outcome {
+            words: words.clone()?,
+            places: places_with(alloc, job, listed, rank, k, words.as_bytes())?,
+        })?;
+    }
+    Ok(placeds)
+}

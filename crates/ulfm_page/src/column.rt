@@ -1,0 +1,92 @@
+//! What the steps of a job come to at a place.
+
+use crate::cell::{Cell, Kind};
+use crate::nobody::Nobody;
+use crate::wanted::{Shown, shown_at};
+use std::alloc::{AllocError, Global};
+use ulfm_finder::Finder;
+use ulfm_job::Job;
+use ulfm_judged::stopped;
+use ulfm_lists::number_at;
+use ulfm_reach::{Reach, Reached};
+use ulfm_reader::Reading;
+use ulfm_replies::{ListOptions, Place};
+
+/// The steps at a place, rank by rank.
+#[derive(Drop)]
+pub(crate) struct Column {
+    pub(crate) place: Place,
+    /// How many states there are; none where there are more than the limit.
+    pub(crate) states: Option<usize>,
+    pub(crate) ranks: Vec<Vec<Cell>>,
+    /// A schedule that isn't wanted, if there is one.
+    pub(crate) shown: Option<Shown>,
+}
+
+impl Column {
+    /// The steps of what was read of a job, at a place that it has.
+    pub(crate) fn of<F: Finder>(
+        finder: &F,
+        alloc: Global,
+        options: ListOptions,
+        read: &Reading,
+        place: Place,
+    ) -> Result<Column, AllocError> {
+        let limit = options.limit as usize;
+        let mut column = Column {
+            place,
+            states: None,
+            ranks: Vec::new(alloc),
+            shown: None,
+        };
+        if !place.is_inside(&read.job) {
+            return Ok(column);
+        }
+        let made = stopped(alloc, place, read)?;
+        let asked = match &made {
+            Some(made) => made,
+            None => read,
+        };
+        let reach = finder.outcomes(alloc, &asked.job, limit, &mut Nobody)?;
+        if let Reach::All(reached) = &reach {
+            column.fill(alloc, &read.job, asked, reached)?;
+            column.shown = shown_at(finder, alloc, options, asked, &reached.found, &column)?;
+        }
+        Ok(column)
+    }
+
+    /// Fills it by a list.
+    fn fill(
+        &mut self,
+        alloc: Global,
+        job: &Job,
+        asked: &Reading,
+        reached: &Reached,
+    ) -> Result<(), AllocError> {
+        self.states = Some(reached.keys.len());
+        for rank in 0..job.ranks() {
+            let mut cells = Vec::new(alloc);
+            for step in 0..job.script_len(rank) {
+                let at = number_at(self.place, job, rank, step);
+                cells.push(Cell::of(alloc, &asked.job, &reached.found, rank, at)?)?;
+            }
+            self.ranks.push(cells)?;
+        }
+        Ok(())
+    }
+
+    /// The first step that comes to this, by the number that it has in the file.
+    pub(crate) fn first(&self, kind: Kind) -> Option<(u8, usize)> {
+        for (rank, cells) in self.ranks.iter().enumerate() {
+            if let Some(step) = cells.iter().position(|cell| cell.kind == kind) {
+                return Some((u8::try_from(rank).ok()?, step));
+            }
+        }
+        None
+    }
+
+    /// The step of a rank.
+    pub(crate) fn cell(&self, rank: u8, step: usize) -> Option<&Cell> {
+        self.ranks.get(rank as usize)?.get(step)
+    }
+}

@@ -1,0 +1,221 @@
+//! The page.
+
+use crate::cell::{Cell, Kind};
+use crate::column::Column;
+use crate::writing::push_text;
+use std::alloc::{AllocError, Global};
+use ulfm_finder::Finder;
+use ulfm_job::{Job, MOST_STEPS};
+use ulfm_reader::{ReadJob, Reading, name_at};
+use ulfm_replies::ListOptions;
+use ulfm_stops::places;
+
+/// What stands above all else, up to the name of the job.
+const HEAD: &str = "<!doctype html>
+<html lang=\"en\"><head><meta charset=\"utf-8\">
+<style>
+body{font:15px system-ui,sans-serif;margin:2em;color:#1b1b1b}
+table{border-collapse:collapse;font:13px ui-monospace,monospace}
+th,td{border:1px solid #ccc;padding:2px 6px;text-align:center}
+th:first-child{text-align:left;white-space:nowrap}
+.good{background:#e3f3e3}.skipped,.unreached{color:#888}
+.hangs,.unmet{background:#c62828;color:#fff;font-weight:bold}.hangs a,.unmet a,.bad a{color:inherit}
+p.bad{color:#a31621;font-weight:bold}p.fine{color:#1f6f3a;font-weight:bold}
+section{height:0;overflow:hidden}section:target{height:auto;overflow:auto}
+</style>
+<title>";
+
+/// What the marks of the table mean.
+const LEGEND: &str =
+    "<p>A step a row, a place a column: <code>0.2</code> is rank 0 stopped before its step 2, <code>1.5*</code> rank 1 dead inside its step 5, <code>-</code> nobody. \
+<span class=\"good\">&nbsp;ok&nbsp;</span> each answer is as wanted, <span class=\"hangs\">&nbsp;hangs&nbsp;</span> it never ends in some schedule, \
+<span class=\"unmet\">&nbsp;not so&nbsp;</span> an answer isn't as it expects, <span class=\"skipped\">skip</span> always skipped, <span class=\"unreached\">.</span> never reached. \
+A place in red leads to a schedule.</p>\n";
+
+/// The page of the job of these bytes, under this name, with at most so many stops; nothing where the bytes are no job, or one with no room
+/// for so many stops.
+///
+/// # Errors
+///
+/// `AllocError` where a growth was refused.
+pub fn page_of<F: Finder>(
+    finder: &F,
+    alloc: Global,
+    options: ListOptions,
+    stops: u8,
+    name: &str,
+    bytes: &[u8],
+) -> Result<Option<String>, AllocError> {
+    let Ok(read) = Reading::read(alloc, bytes) else {
+        return Ok(None);
+    };
+    if read.job.len() + stops as usize > MOST_STEPS {
+        return Ok(None);
+    }
+    let mut columns = Vec::new(alloc);
+    for place in &places(alloc, &read.job, stops)? {
+        columns.push(Column::of(finder, alloc, options, &read, *place)?)?;
+    }
+    Ok(Some(written(alloc, &read, name, columns.as_slice())?))
+}
+
+/// The page of these columns.
+fn written(
+    alloc: Global,
+    read: &Reading,
+    name: &str,
+    columns: &[Column],
+) -> Result<String, AllocError> {
+    let mut page = String::from_str(alloc, HEAD)?;
+    push_text(&mut page, name)?;
+    page.push_str("</title></head><body>\n<h1>")?;
+    push_text(&mut page, name)?;
+    page.push_str("</h1>\n")?;
+    push_verdict(&mut page, columns)?;
+    page.push_str(LEGEND)?;
+    push_table(&mut page, read, columns)?;
+    for column in columns {
+        push_section(&mut page, column)?;
+    }
+    page.push_str("</body></html>\n")?;
+    Ok(page)
+}
+
+/// Puts at how many places something isn't as wanted.
+fn push_verdict(page: &mut String, columns: &[Column]) -> Result<(), AllocError> {
+    let all = columns.len();
+    let bad = columns
+        .iter()
+        .filter(|column| column.shown.is_some())
+        .count();
+    let past = columns
+        .iter()
+        .filter(|column| column.states.is_none())
+        .count();
+    if bad > 0 {
+        write!(
+            page,
+            "<p class=\"bad\">Not as wanted at {bad} of {all} places.</p>\n"
+        )?;
+    } else if past == 0 {
+        write!(
+            page,
+            "<p class=\"fine\">Every step ends, and is as wanted, at all {all} places.</p>\n"
+        )?;
+    }
+    if past > 0 {
+        write!(
+            page,
+            "<p class=\"bad\">Past the limit of states, and not known, at {past} of {all} places.</p>\n"
+        )?;
+    }
+    Ok(())
+}
+
+/// Puts the table.
+fn push_table(page: &mut String, read: &Reading, columns: &[Column]) -> Result<(), AllocError> {
+    page.push_str("<table>\n<tr><th>step</th>")?;
+    for column in columns {
+        push_place(page, column)?;
+    }
+    page.push_str("</tr>\n")?;
+    for rank in 0..read.job.ranks() {
+        for step in 0..read.job.script_len(rank) {
+            push_row(page, read, columns, rank, step)?;
+        }
+    }
+    page.push_str("</table>\n")
+}
+
+/// Puts the head of a column: the place, which leads to its schedule.
+fn push_place(page: &mut String, column: &Column) -> Result<(), AllocError> {
+    let place = column.place;
+    match (&column.shown, column.states) {
+        (Some(_), _) => write!(
+            page,
+            "<th class=\"hangs\"><a href=\"#at-{place}\">{place}</a></th>"
+        ),
+        (None, Some(states)) => write!(page, "<th title=\"{states} states\">{place}</th>"),
+        (None, None) => write!(
+            page,
+            "<th class=\"unmet\" title=\"past the limit\">{place}?</th>"
+        ),
+    }
+}
+
+/// Puts the row of a step.
+fn push_row(
+    page: &mut String,
+    read: &Reading,
+    columns: &[Column],
+    rank: u8,
+    step: usize,
+) -> Result<(), AllocError> {
+    page.push_str("<tr><th>")?;
+    push_step(page, &read.job, rank, step)?;
+    if let Some(name) = name_at(&read.names, rank, step) {
+        write!(page, " '{name}'")?;
+    }
+    page.push_str("</th>")?;
+    for column in columns {
+        match column.cell(rank, step) {
+            Some(cell) => push_cell(page, column, cell)?,
+            None => page.push_str("<td></td>")?,
+        }
+    }
+    page.push_str("</tr>\n")
+}
+
+/// Puts a step in words.
+fn push_step(page: &mut String, job: &Job, rank: u8, step: usize) -> Result<(), AllocError> {
+    match job.step(rank, step) {
+        Some(call) => write!(page, "{rank}.{step} {call}"),
+        None => Ok(()),
+    }
+}
+
+/// Puts what a step comes to at a place, with its answers for who points at it.
+fn push_cell(page: &mut String, column: &Column, cell: &Cell) -> Result<(), AllocError> {
+    let class = class_of(cell.kind);
+    let mark = mark_of(cell.kind);
+    write!(page, "<td class=\"{class}\" title=\"")?;
+    push_text(page, cell.words.as_str())?;
+    if column.shown.is_some() && matches!(cell.kind, Kind::Hangs | Kind::Unmet) {
+        let place = column.place;
+        return write!(page, "\"><a href=\"#at-{place}\">{mark}</a></td>");
+    }
+    write!(page, "\">{mark}</td>")
+}
+
+/// The class of a cell.
+fn class_of(kind: Kind) -> &'static str {
+    match kind {
+        Kind::Unreached => "unreached",
+        Kind::Skipped => "skipped",
+        Kind::Good => "good",
+        Kind::Unmet => "unmet",
+        Kind::Hangs => "hangs",
+    }
+}
+
+/// What stands in it.
+fn mark_of(kind: Kind) -> &'static str {
+    match kind {
+        Kind::Unreached => ".",
+        Kind::Skipped => "skip",
+        Kind::Good => "ok",
+        Kind::Unmet => "not so",
+        Kind::Hangs => "hangs",
+    }
+}
+
+/// Puts the schedule of a place, if it has one.
+fn push_section(page: &mut String, column: &Column) -> Result<(), AllocError> {
+    let Some(shown) = &column.shown else {
+        return Ok(());
+    };
+    let place = column.place;
+    write!(page, "<section id=\"at-{place}\"><h2>at {place}: ")?;
+    push_text(page, shown.title.as_str())?;
+    write!(page, "</h2>\n{}</section>\n", shown.picture)
+}
