@@ -12,6 +12,7 @@
 
 mod drawing;
 mod each_place;
+mod hang;
 mod hanging;
 mod listed;
 mod listing;
@@ -27,6 +28,7 @@ mod threads;
 mod unwanted;
 mod verdicts;
 
+pub use hanging::open_goals;
 pub use listed::list_reply;
 pub use lists::Lists;
 pub use onlooker::{Onlooker, Seen};

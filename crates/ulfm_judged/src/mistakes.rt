@@ -2,18 +2,19 @@
 
 use std::alloc::{AllocError, Global};
 use ulfm_found::words_at;
-use ulfm_lists::{Listed, filed_number};
+use ulfm_job::{Job, Step};
+use ulfm_lists::{Listed, number_at};
 use ulfm_reach::Rows;
 use ulfm_reader::{Reading, begins};
 use ulfm_replies::{Place, Remark, StepTold};
 
-/// How such answers begin: what they name isn't there, or was there before.
+/// How such answers begin: a communicator, a rank, a tag or a request that isn't there, or one that the rank made before.
 const MISTAKES: [&str; 5] = [
-    "refused 1",
-    "refused 2",
-    "refused 4",
-    "refused 7",
-    "refused 8",
+    "refused 1 ",
+    "refused 2 ",
+    "refused 4 ",
+    "refused 7 ",
+    "refused 8 ",
 ];
 
 /// Adds the mistakes in the list of a job.
@@ -24,9 +25,12 @@ pub(crate) fn push_mistakes(
 ) -> Result<(), AllocError> {
     let alloc = *remarks.allocator();
     for rank in 0..asked.job.ranks() {
-        for at in 0..asked.job.script_len(rank) {
-            if let Some(answer) = mistake_at(found, rank, at) {
-                remarks.push(mistaken(alloc, asked, rank, at, answer, Vec::new(alloc))?)?;
+        for step in 0..asked.job.script_len(rank) {
+            for mistake in &MISTAKES {
+                if is_mistaken(&asked.job, Place::Nowhere, found, rank, step, *mistake) {
+                    let places = Vec::new(alloc);
+                    remarks.push(mistaken(alloc, asked, rank, step, *mistake, places)?)?;
+                }
             }
         }
     }
@@ -41,11 +45,11 @@ pub(crate) fn push_mistakes_at(
 ) -> Result<(), AllocError> {
     let alloc = *remarks.allocator();
     for rank in 0..asked.job.ranks() {
-        for at in 0..asked.job.script_len(rank) {
-            for answer in &MISTAKES {
-                let places = places_of(alloc, listed, rank, at, *answer)?;
+        for step in 0..asked.job.script_len(rank) {
+            for mistake in &MISTAKES {
+                let places = places_of(alloc, &asked.job, listed, rank, step, *mistake)?;
                 if !places.is_empty() {
-                    remarks.push(mistaken(alloc, asked, rank, at, *answer, places)?)?;
+                    remarks.push(mistaken(alloc, asked, rank, step, *mistake, places)?)?;
                 }
             }
         }
@@ -53,54 +57,70 @@ pub(crate) fn push_mistakes_at(
     Ok(())
 }
 
-/// The first such answer that a step has in a list.
-fn mistake_at(found: &Rows, rank: u8, at: usize) -> Option<&'static str> {
-    for answer in &MISTAKES {
-        if has_answer(found, rank, at, *answer) {
-            return Some(*answer);
-        }
-    }
-    None
-}
-
-/// Whether a step has an answer that begins so in a list.
-fn has_answer(found: &Rows, rank: u8, at: usize, answer: &str) -> bool {
-    for row in 0..found.len() {
-        if let Some(words) = words_at(found, row, rank, at) {
-            if begins(words, answer.as_bytes()) {
-                return true;
-            }
-        }
-    }
-    false
-}
-
-/// The places at which a step, by its number in the file, has an answer that begins so.
+/// The places at which a step is mistaken so.
 fn places_of(
     alloc: Global,
+    job: &Job,
     listed: &[Listed],
     rank: u8,
-    at: usize,
-    answer: &str,
+    step: usize,
+    mistake: &str,
 ) -> Result<Vec<Place>, AllocError> {
     let mut places = Vec::new(alloc);
     for one in listed {
-        // Beside a stop a step has a number more at most.
-        for k in [at, at.saturating_add(1)] {
-            if is_filed(one.place, rank, k, at) && has_answer(&one.found, rank, k, answer) {
-                places.push(one.place)?;
-            }
+        if is_mistaken(job, one.place, &one.found, rank, step, mistake) {
+            places.push(one.place)?;
         }
     }
     Ok(places)
 }
 
-/// Whether a step by its number at a place is that of a number in the file.
-fn is_filed(place: Place, rank: u8, k: usize, at: usize) -> bool {
-    match u16::try_from(k) {
-        Ok(k) => filed_number(place, rank, k) as usize == at,
-        Err(_) => false,
+/// Whether a step, by its number in the file, is never answered otherwise at a place than by a mistake that begins so, but where it is
+/// skipped. Where it asks for what another step was refused, or skipped, that is the flow of a recovery, and no mistake.
+fn is_mistaken(
+    job: &Job,
+    place: Place,
+    found: &Rows,
+    rank: u8,
+    step: usize,
+    mistake: &str,
+) -> bool {
+    let at = number_at(place, job, rank, step);
+    has_answer(found, rank, at, mistake)
+        && !has_other(found, rank, at, &[mistake, "skipped"])
+        && is_made(job, place, found, rank, step)
+}
+
+/// Whether the receive or the probe that a step goes on from was always made. A step that names neither is mistaken itself.
+fn is_made(job: &Job, place: Place, found: &Rows, rank: u8, step: usize) -> bool {
+    let (Some(Step::Wait { req }) | Some(Step::Mrecv { req, .. }) | Some(Step::Cancel { req })) =
+        job.step(rank, step) else {
+        return true;
+    };
+    let from = *req as usize;
+    match job.step(rank, from) {
+        Some(Step::Recv { .. }) | Some(Step::Probe { .. }) => {
+            let at = number_at(place, job, rank, from);
+            !has_other(found, rank, at, &["posted", "found"])
+        }
+        _ => true,
     }
+}
+
+/// Whether a step has an answer that begins so in a list.
+fn has_answer(found: &Rows, rank: u8, at: usize, beginning: &str) -> bool {
+    (0..found.len()).any(|row| match words_at(found, row, rank, at) {
+        Some(words) => begins(words, beginning.as_bytes()),
+        None => false,
+    })
+}
+
+/// Whether it has one that begins as none of these, or never ends.
+fn has_other(found: &Rows, rank: u8, at: usize, beginnings: &[&str]) -> bool {
+    (0..found.len()).any(|row| match words_at(found, row, rank, at) {
+        Some(words) => !beginnings.iter().any(|one| begins(words, one.as_bytes())),
+        None => false,
+    })
 }
 
 /// That a step has an answer that begins so, at these places.
@@ -112,5 +132,9 @@ fn mistaken(
     answer: &'static str,
     places: Vec<Place>,
 ) -> Result<Remark, AllocError> {
-    Ok(Remark::Mistaken(StepTold::of(alloc, asked, rank, at)?, answer, places))
+    Ok(Remark::Mistaken(
+        StepTold::of(alloc, asked, rank, at)?,
+        answer.trim_end(),
+        places,
+    ))
 }

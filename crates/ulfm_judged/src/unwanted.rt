@@ -191,7 +191,7 @@ fn unmet_text<F>(
 }
 
 /// The step with the number that it has in the file.
-fn filed(at: Option<Place>, unmet: Unmet) -> Unmet
+pub(crate) fn filed(at: Option<Place>, unmet: Unmet) -> Unmet
     ensures { result ≡ filed at unmet }
 {
     match at {

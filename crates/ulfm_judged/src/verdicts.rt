@@ -1,15 +1,17 @@
 //! What lists come to, in a line: for people, and none of it is promised.
 
-use crate::hanging::{hanging, hanging_somewhere};
+use crate::hang::Hang;
+use crate::hanging::hanging;
 use crate::lists::Lists;
 use crate::mistakes::{push_mistakes, push_mistakes_at};
-use crate::onlooker::Onlooker;
+use crate::onlooker::{Onlooker, Seen};
 use crate::remarks::{remarks_on, skipped_in};
 use crate::search::Search;
+use crate::unwanted::{filed, stopped};
 use std::alloc::{AllocError, Global};
 use ulfm_finder::Finder;
-use ulfm_found::{Unmet, is_stuck};
-use ulfm_lists::{Listed, Told, filed_number, first_open};
+use ulfm_found::Unmet;
+use ulfm_lists::{Listed, Told};
 use ulfm_reach::{Rows, Watch};
 use ulfm_reader::Reading;
 use ulfm_replies::{Extent, Place, Remark, StepTold, Verdict, Where};
@@ -23,13 +25,14 @@ pub(crate) fn list_remarks<F: Finder, W: Watch>(
     watch: &mut W,
 ) -> Option<Vec<Remark>> {
     let mut remarks = skipped_in(search.alloc, asked, found).ok()?;
+    let hang = Hang::first(search, &asked.job, Place::Nowhere, found);
     let at = where_of(search, None);
     remarks
-        .push(verdict_on(search.alloc, asked, at, found).ok()?)
+        .push(verdict_on(search.alloc, asked, at, hang, Extent::Alone).ok()?)
         .ok()?;
     push_mistakes(&mut remarks, asked, found).ok()?;
-    if search.options.is_strict {
-        let shown = hanging(search, &asked.job, found, watch).ok()?;
+    if let (Some(hang), true) = (hang, search.options.is_strict) {
+        let shown = hanging(search, &asked.job, hang.left, watch).ok()?;
         add(&mut remarks, shown).ok()?;
     }
     Some(remarks)
@@ -46,16 +49,36 @@ pub(crate) fn lists_remarks<F: Finder, L: Onlooker>(
         return None;
     }
     let listed = lists.listed.as_slice();
+    let hang = Hang::first_of(search, &asked.job, listed);
     let mut remarks = Vec::new(search.alloc);
+    let at = one_of_some(hang.map_or(Place::Nowhere, |hang| hang.place));
+    let extent = Extent::Places(listed.len());
     remarks
-        .push(verdict_on_lists(search.alloc, asked, listed).ok()?)
+        .push(verdict_on(search.alloc, asked, at, hang, extent).ok()?)
         .ok()?;
     push_mistakes_at(&mut remarks, asked, listed).ok()?;
-    if search.options.is_strict {
-        let shown = hanging_somewhere(search, asked, listed, onlooker).ok()?;
+    if let (Some(hang), true) = (hang, search.options.is_strict) {
+        let shown = hanging_at(search, asked, hang, onlooker).ok()?;
         add(&mut remarks, shown).ok()?;
     }
     Some(remarks)
+}
+
+/// A schedule in which the step never ends, at its place.
+fn hanging_at<F: Finder, L: Onlooker>(
+    search: &Search<'_, F>,
+    asked: &Reading,
+    hang: Hang,
+    onlooker: &L,
+) -> Result<Option<Remark>, AllocError> {
+    if !hang.place.is_inside(&asked.job) {
+        return Ok(None);
+    }
+    let watch = &mut Seen::of(onlooker, hang.place);
+    match stopped(search.alloc, hang.place, asked)? {
+        Some(made) => hanging(search, &made.job, hang.left, watch),
+        None => hanging(search, &asked.job, hang.left, watch),
+    }
 }
 
 /// What is told of a step that isn't answered as it expects, and of what a search came to that shows it.
@@ -117,54 +140,18 @@ fn add(remarks: &mut Vec<Remark>, more: Option<Remark>) -> Result<(), AllocError
     Ok(())
 }
 
-/// What the list of a job comes to, below which nothing is told.
+/// What lists come to below which nothing is told, by the first step that never ends, if one does.
 fn verdict_on(
     alloc: Global,
     asked: &Reading,
     at: Where,
-    found: &Rows,
+    hang: Option<Hang>,
+    extent: Extent,
 ) -> Result<Remark, AllocError> {
-    Ok(Remark::Verdict(match first_open(&asked.job, found) {
-        Some((rank, step)) => Verdict::Hangs(StepTold::of(alloc, asked, rank, step)?, at),
-        None => good(asked, Extent::Alone),
+    Ok(Remark::Verdict(match hang {
+        Some(hang) => Verdict::Hangs(StepTold::of(alloc, asked, hang.left.rank, hang.filed)?, at),
+        None => good(asked, extent),
     }))
-}
-
-/// What the lists of places come to, below which nothing is told.
-fn verdict_on_lists(
-    alloc: Global,
-    asked: &Reading,
-    listed: &[Listed],
-) -> Result<Remark, AllocError> {
-    for one in listed {
-        if let Some(verdict) = hang_at(alloc, asked, one)? {
-            return Ok(Remark::Verdict(verdict));
-        }
-    }
-    Ok(Remark::Verdict(good(asked, Extent::Places(listed.len()))))
-}
-
-/// That a step never ends at a place, if one does there.
-fn hang_at(alloc: Global, asked: &Reading, one: &Listed) -> Result<Option<Verdict>, AllocError> {
-    let at = one_of_some(one.place);
-    for rank in 0..asked.job.ranks() {
-        // With its stops a rank has two steps more at most.
-        for step in 0..asked.job.script_len(rank).saturating_add(2) {
-            if is_stuck(&one.found, rank, step) {
-                let filed = filed_at(one.place, rank, step);
-                return Ok(Some(Verdict::Hangs(StepTold::of(alloc, asked, rank, filed)?, at)));
-            }
-        }
-    }
-    Ok(None)
-}
-
-/// The number that a step has in the file.
-fn filed_at(place: Place, rank: u8, step: usize) -> usize {
-    match u16::try_from(step) {
-        Ok(number) => filed_number(place, rank, number) as usize,
-        Err(_) => step,
-    }
 }
 
 /// What is so where nothing is wrong: answers are as expected, where some are expected.
@@ -183,10 +170,9 @@ fn verdict_unmet(
     at: Where,
     unmet: Unmet,
 ) -> Result<Remark, AllocError> {
-    let step = unmet.step as usize;
-    let told = StepTold::of(alloc, asked, unmet.rank, step)?;
+    let told = StepTold::of(alloc, asked, unmet.rank, unmet.step as usize)?;
     let told = if at.is_one_of_some {
-        told.numbered(filed_at(at.place, unmet.rank, step))
+        told.numbered(filed(Some(at.place), unmet).step as usize)
     } else {
         told
     };

@@ -41,7 +41,7 @@ pub fn write_notes<E: Write>(
     }
 }
 
-/// Tells in one line what a list comes to, perhaps in red or green, for whom it would scroll away below it. Where that finds no memory, nothing is told.
+/// Tells in one line what a list comes to, perhaps in red or green. It stands before the list, since below a long one readers miss it. Where that finds no memory, nothing is told.
 pub fn write_verdict<E: Write>(alloc: Global, has_colour: bool, reply: &Reply, errors: &mut E) {
     if let Some(remarks) = &reply.remarks {
         if let Ok(line) = verdict_line(alloc, has_colour, remarks.as_slice()) {

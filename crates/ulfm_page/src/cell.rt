@@ -66,6 +66,7 @@ impl Cell {
 /// What an answer of a step makes of it; no words are that it never ends.
 fn kind_of(job: &Job, rank: u8, at: usize, words: &str) -> Kind {
     match words {
+        "" if expects(job, rank, at) && !is_unmet(job, rank, at, "unfinished") => Kind::Good,
         "" => Kind::Hangs,
         "skipped" => Kind::Skipped,
         _ if is_unmet(job, rank, at, words) => Kind::Unmet,
@@ -91,6 +92,13 @@ fn weight(kind: Kind) -> u8 {
         Kind::Unmet => 3,
         Kind::Hangs => 4,
     }
+}
+
+/// Whether a step expects some answers.
+fn expects(job: &Job, rank: u8, at: usize) -> bool {
+    job.expected()
+        .iter()
+        .any(|clause| clause.rank == rank && clause.at as usize == at)
 }
 
 /// Whether a step expects other answers than this one.

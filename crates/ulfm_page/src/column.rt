@@ -2,15 +2,15 @@
 
 use crate::cell::{Cell, Kind};
 use crate::nobody::Nobody;
-use crate::wanted::{Shown, shown_at};
+use crate::wanted::{Unwanted, unwanted_at};
 use std::alloc::{AllocError, Global};
 use ulfm_finder::Finder;
 use ulfm_job::Job;
-use ulfm_judged::stopped;
+use ulfm_judged::{Search, stopped};
 use ulfm_lists::number_at;
 use ulfm_reach::{Reach, Reached};
 use ulfm_reader::Reading;
-use ulfm_replies::{ListOptions, Place};
+use ulfm_replies::Place;
 
 /// The steps at a place, rank by rank.
 #[derive(Drop)]
@@ -19,38 +19,35 @@ pub(crate) struct Column {
     /// How many states there are; none where there are more than the limit.
     pub(crate) states: Option<usize>,
     pub(crate) ranks: Vec<Vec<Cell>>,
-    /// A schedule that isn't wanted, if there is one.
-    pub(crate) shown: Option<Shown>,
+    /// What isn't as wanted there, if there is something.
+    pub(crate) unwanted: Option<Unwanted>,
 }
 
 impl Column {
     /// The steps of what was read of a job, at a place that it has.
     pub(crate) fn of<F: Finder>(
-        finder: &F,
-        alloc: Global,
-        options: ListOptions,
+        search: &Search<'_, F>,
         read: &Reading,
         place: Place,
     ) -> Result<Column, AllocError> {
-        let limit = options.limit as usize;
         let mut column = Column {
             place,
             states: None,
-            ranks: Vec::new(alloc),
-            shown: None,
+            ranks: Vec::new(search.alloc),
+            unwanted: None,
         };
         if !place.is_inside(&read.job) {
             return Ok(column);
         }
-        let made = stopped(alloc, place, read)?;
+        let made = stopped(search.alloc, place, read)?;
         let asked = match &made {
             Some(made) => made,
             None => read,
         };
-        let reach = finder.outcomes(alloc, &asked.job, limit, &mut Nobody)?;
+        let reach = search.outcomes(&asked.job, &mut Nobody)?;
         if let Reach::All(reached) = &reach {
-            column.fill(alloc, &read.job, asked, reached)?;
-            column.shown = shown_at(finder, alloc, options, asked, &reached.found, &column)?;
+            column.fill(search.alloc, &read.job, asked, reached)?;
+            column.unwanted = unwanted_at(search, read, asked, &reached.found, &column)?;
         }
         Ok(column)
     }

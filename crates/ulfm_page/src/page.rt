@@ -6,8 +6,8 @@ use crate::writing::push_text;
 use std::alloc::{AllocError, Global};
 use ulfm_finder::Finder;
 use ulfm_job::{Job, MOST_STEPS};
+use ulfm_judged::Search;
 use ulfm_reader::{ReadJob, Reading, name_at};
-use ulfm_replies::ListOptions;
 use ulfm_stops::places;
 
 /// What stands above all else, up to the name of the job.
@@ -32,31 +32,29 @@ const LEGEND: &str =
 <span class=\"unmet\">&nbsp;not so&nbsp;</span> an answer isn't as it expects, <span class=\"skipped\">skip</span> always skipped, <span class=\"unreached\">.</span> never reached. \
 A place in red leads to a schedule.</p>\n";
 
-/// The page of the job of these bytes, under this name, with at most so many stops; nothing where the bytes are no job, or one with no room
-/// for so many stops.
+/// The page of the job of these bytes by this search, under this name, with at most so many stops; nothing where the bytes are no job, or one
+/// with no room for so many stops.
 ///
 /// # Errors
 ///
 /// `AllocError` where a growth was refused.
 pub fn page_of<F: Finder>(
-    finder: &F,
-    alloc: Global,
-    options: ListOptions,
+    search: &Search<'_, F>,
     stops: u8,
     name: &str,
     bytes: &[u8],
 ) -> Result<Option<String>, AllocError> {
-    let Ok(read) = Reading::read(alloc, bytes) else {
+    let Ok(read) = Reading::read(search.alloc, bytes) else {
         return Ok(None);
     };
     if read.job.len() + stops as usize > MOST_STEPS {
         return Ok(None);
     }
-    let mut columns = Vec::new(alloc);
-    for place in &places(alloc, &read.job, stops)? {
-        columns.push(Column::of(finder, alloc, options, &read, *place)?)?;
+    let mut columns = Vec::new(search.alloc);
+    for place in &places(search.alloc, &read.job, stops)? {
+        columns.push(Column::of(search, &read, *place)?)?;
     }
-    Ok(Some(written(alloc, &read, name, columns.as_slice())?))
+    Ok(Some(written(search.alloc, &read, name, columns.as_slice())?))
 }
 
 /// The page of these columns.
@@ -81,35 +79,39 @@ fn written(
     Ok(page)
 }
 
-/// Puts at how many places something isn't as wanted.
+/// Puts at how many places something isn't as wanted, and at how many that isn't known.
 fn push_verdict(page: &mut String, columns: &[Column]) -> Result<(), AllocError> {
     let all = columns.len();
-    let bad = columns
-        .iter()
-        .filter(|column| column.shown.is_some())
-        .count();
-    let past = columns
-        .iter()
-        .filter(|column| column.states.is_none())
-        .count();
+    let bad = columns.iter().filter(|column| is_bad(*column)).count();
+    let unknown = columns.iter().filter(|column| is_unknown(*column)).count();
     if bad > 0 {
         write!(
             page,
             "<p class=\"bad\">Not as wanted at {bad} of {all} places.</p>\n"
         )?;
-    } else if past == 0 {
+    } else if unknown == 0 {
         write!(
             page,
             "<p class=\"fine\">Every step ends, and is as wanted, at all {all} places.</p>\n"
         )?;
     }
-    if past > 0 {
+    if unknown > 0 {
         write!(
             page,
-            "<p class=\"bad\">Past the limit of states, and not known, at {past} of {all} places.</p>\n"
+            "<p class=\"bad\">Past the limit of states, and not known, at {unknown} of {all} places.</p>\n"
         )?;
     }
     Ok(())
+}
+
+/// Whether something isn't as wanted at a place.
+fn is_bad(column: &Column) -> bool {
+    matches!(&column.unwanted, Some(unwanted) if unwanted.is_known)
+}
+
+/// Whether it isn't known that all is as wanted there.
+fn is_unknown(column: &Column) -> bool {
+    column.states.is_none() || matches!(&column.unwanted, Some(unwanted) if !unwanted.is_known)
 }
 
 /// Puts the table.
@@ -127,10 +129,10 @@ fn push_table(page: &mut String, read: &Reading, columns: &[Column]) -> Result<(
     page.push_str("</table>\n")
 }
 
-/// Puts the head of a column: the place, which leads to its schedule.
+/// Puts the head of a column: the place, which leads to what isn't as wanted there.
 fn push_place(page: &mut String, column: &Column) -> Result<(), AllocError> {
     let place = column.place;
-    match (&column.shown, column.states) {
+    match (&column.unwanted, column.states) {
         (Some(_), _) => write!(
             page,
             "<th class=\"hangs\"><a href=\"#at-{place}\">{place}</a></th>"
@@ -180,7 +182,7 @@ fn push_cell(page: &mut String, column: &Column, cell: &Cell) -> Result<(), Allo
     let mark = mark_of(cell.kind);
     write!(page, "<td class=\"{class}\" title=\"")?;
     push_text(page, cell.words.as_str())?;
-    if column.shown.is_some() && matches!(cell.kind, Kind::Hangs | Kind::Unmet) {
+    if column.unwanted.is_some() && matches!(cell.kind, Kind::Hangs | Kind::Unmet) {
         let place = column.place;
         return write!(page, "\"><a href=\"#at-{place}\">{mark}</a></td>");
     }
@@ -209,13 +211,18 @@ fn mark_of(kind: Kind) -> &'static str {
     }
 }
 
-/// Puts the schedule of a place, if it has one.
+/// Puts what isn't as wanted at a place, if something isn't, with its picture.
 fn push_section(page: &mut String, column: &Column) -> Result<(), AllocError> {
-    let Some(shown) = &column.shown else {
+    let Some(unwanted) = &column.unwanted else {
         return Ok(());
     };
     let place = column.place;
     write!(page, "<section id=\"at-{place}\"><h2>at {place}: ")?;
-    push_text(page, shown.title.as_str())?;
-    write!(page, "</h2>\n{}</section>\n", shown.picture)
+    push_text(page, unwanted.title.as_str())?;
+    page.push_str("</h2>\n")?;
+    match &unwanted.picture {
+        Some(picture) => page.push_str(picture.as_str())?,
+        None => page.push_str("<p>No schedule is found within the limit of states.</p>\n")?,
+    }
+    page.push_str("</section>\n")
 }

@@ -1,105 +1,117 @@
-//! A schedule that isn't wanted at a place.
+//! What isn't as wanted at a place.
 
 use crate::cell::Kind;
 use crate::column::Column;
 use crate::nobody::Nobody;
-use std::alloc::{AllocError, Global};
+use std::alloc::AllocError;
 use ulfm_draw::drawn;
 use ulfm_finder::{Finder, first_unmet};
 use ulfm_found::{Goals, OpenStep, has_each};
 use ulfm_job::Clause;
 use ulfm_json::Style;
-use ulfm_lists::{Told, filed_number, first_open};
+use ulfm_judged::{Search, open_goals};
+use ulfm_lists::{Told, filed_number, number_at};
 use ulfm_reach::Rows;
 use ulfm_reader::Reading;
-use ulfm_replies::{ListOptions, is_looked_at};
+use ulfm_replies::is_looked_at;
 
-/// A picture of a schedule that isn't wanted, and what is wrong in it.
+/// What isn't as wanted at a place, or isn't known to be.
 #[derive(Drop)]
-pub(crate) struct Shown {
+pub(crate) struct Unwanted {
+    /// What it is.
     pub(crate) title: String,
-    pub(crate) picture: String,
+    /// A picture of a schedule that shows it, where one is found within the limit.
+    pub(crate) picture: Option<String>,
+    /// Whether it is known that some schedule has it.
+    pub(crate) is_known: bool,
 }
 
-/// The first one of what is asked for with the stops of a place, by its list: of a step that isn't answered as it expects, of one that never
-/// ends, or of a row of `never`.
-pub(crate) fn shown_at<F: Finder>(
-    finder: &F,
-    alloc: Global,
-    options: ListOptions,
+/// The first one of what is asked for with the stops of a place, by its list: a step that isn't answered as it expects, one that never ends, or
+/// a row of `never`.
+pub(crate) fn unwanted_at<F: Finder>(
+    search: &Search<'_, F>,
+    read: &Reading,
     asked: &Reading,
     found: &Rows,
     column: &Column,
-) -> Result<Option<Shown>, AllocError> {
+) -> Result<Option<Unwanted>, AllocError> {
     if let Some(unmet) = first_unmet(&asked.job, found) {
-        let goals = unmet.goals(alloc, &asked.job)?;
+        let goals = unmet.goals(search.alloc, &asked.job)?;
         let step = filed_number(column.place, unmet.rank, unmet.step);
-        let title = format!(in alloc; "{}.{step} isn't as expected", unmet.rank)?;
-        return drawn_by(finder, alloc, options, asked, &goals, title);
+        let title = format!(in search.alloc; "{}.{step} isn't as expected", unmet.rank)?;
+        return Ok(Some(drawn_by(search, asked, &goals, title)?));
     }
-    if let (Some((rank, step)), Some((_, at))) = (
-        column.first(Kind::Hangs),
-        first_open(&asked.job, found),
-    ) {
-        let goals = open_goals(alloc, rank, at)?;
-        let title = format!(in alloc; "{rank}.{step} never ends")?;
-        return drawn_by(finder, alloc, options, asked, &goals, title);
+    if let Some((rank, step)) = column.first(Kind::Hangs) {
+        let at = number_at(column.place, &read.job, rank, step);
+        let left = OpenStep {
+            rank,
+            step: u16::try_from(at).unwrap_or(u16::MAX),
+        };
+        let goals = open_goals(search.alloc, left)?;
+        let title = format!(in search.alloc; "{rank}.{step} never ends")?;
+        return Ok(Some(drawn_by(search, asked, &goals, title)?));
     }
+    first_row(search, asked, found)
+}
+
+/// The first row of `never` whose answers come together, or the first for which that isn't known.
+fn first_row<F: Finder>(
+    search: &Search<'_, F>,
+    asked: &Reading,
+    found: &Rows,
+) -> Result<Option<Unwanted>, AllocError> {
     for (number, row) in asked.never.iter().enumerate() {
-        let title = format!(in alloc; "all answers of never[{number}] come")?;
-        let shown = row_shown(finder, alloc, options, asked, found, row.as_slice(), title)?;
-        if shown.is_some() {
-            return Ok(shown);
+        let told = row_at(search, asked, found, number, row.as_slice())?;
+        if told.is_some() {
+            return Ok(told);
         }
     }
     Ok(None)
 }
 
-/// That a step never ends.
-fn open_goals(alloc: Global, rank: u8, step: usize) -> Result<Goals, AllocError> {
-    let mut left = Vec::new(alloc);
-    if let Ok(step) = u16::try_from(step) {
-        left.push(OpenStep { rank, step })?;
-    }
-    Ok(Goals {
-        answers: Vec::new(alloc),
-        others: Vec::new(alloc),
-        left,
-    })
-}
-
-/// A schedule with all answers of a row, if one has them.
-fn row_shown<F: Finder>(
-    finder: &F,
-    alloc: Global,
-    options: ListOptions,
+/// What is told of a row, if its answers may come together.
+fn row_at<F: Finder>(
+    search: &Search<'_, F>,
     asked: &Reading,
     found: &Rows,
+    number: usize,
     row: &[Clause],
-    title: String,
-) -> Result<Option<Shown>, AllocError> {
-    let goals = Goals::of(alloc, &asked.job, row)?;
+) -> Result<Option<Unwanted>, AllocError> {
+    let goals = Goals::of(search.alloc, &asked.job, row)?;
     if !is_looked_at(&asked.job, row) || !has_each(found, &goals) {
         return Ok(None);
     }
-    drawn_by(finder, alloc, options, asked, &goals, title)
+    match search.show(&asked.job, &goals, &mut Nobody)? {
+        Some(Told::Schedule(schedule)) => Ok(Some(Unwanted {
+            title: format!(in search.alloc; "all answers of never[{number}] come")?,
+            picture: Some(drawn(search.alloc, Style::Svg, &schedule, "")?),
+            is_known: true,
+        })),
+        Some(Told::Many(states)) => Ok(Some(Unwanted {
+            title: format!(in search.alloc;
+                "whether all answers of never[{number}] come isn't known: there are more than {states} states"
+            )?,
+            picture: None,
+            is_known: false,
+        })),
+        None => Ok(None),
+    }
 }
 
-/// A picture of a schedule that shows these, if one does within the limit.
+/// What some schedule has that shows these, with a picture of one where it is found within the limit.
 fn drawn_by<F: Finder>(
-    finder: &F,
-    alloc: Global,
-    options: ListOptions,
+    search: &Search<'_, F>,
     asked: &Reading,
     goals: &Goals,
     title: String,
-) -> Result<Option<Shown>, AllocError> {
-    let limit = options.limit as usize;
-    match finder.show(alloc, &asked.job, goals, true, limit, &mut Nobody)? {
-        Some(Told::Schedule(schedule)) => Ok(Some(Shown {
-            title,
-            picture: drawn(alloc, Style::Svg, &schedule, "")?,
-        })),
-        _ => Ok(None),
-    }
+) -> Result<Unwanted, AllocError> {
+    let picture = match search.show(&asked.job, goals, &mut Nobody)? {
+        Some(Told::Schedule(schedule)) => Some(drawn(search.alloc, Style::Svg, &schedule, "")?),
+        _ => None,
+    };
+    Ok(Unwanted {
+        title,
+        picture,
+        is_known: true,
+    })
 }

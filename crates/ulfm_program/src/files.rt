@@ -130,7 +130,7 @@ where
     match File::open(rt, file) {
         Ok(mut opened) => {
             let status = follow(rt, finder, alloc, asked, &mut opened, output, errors);
-            write_page(rt, finder, alloc, asked, file, errors);
+            write_page(rt, finder, alloc, asked, file, status, errors);
             if status == INPUT_FAILED {
                 write_unread(alloc, file, "the read failed", errors);
             }

@@ -6,8 +6,10 @@ use std::io::Write;
 use std::rt::Files;
 use ulfm_finder::Finder;
 use ulfm_findings::{read_front, write_whole};
+use ulfm_json::Form;
+use ulfm_judged::Search;
 use ulfm_page::page_of;
-use ulfm_replies::{Asked, ListOptions, Wanted};
+use ulfm_replies::{Asked, JOB_REFUSED, ListOptions, Wanted};
 
 /// What is told where the words don't ask for lists of places of one job in a file.
 const UNPAGED: &str =
@@ -23,13 +25,14 @@ pub(crate) fn tell_unpaged<E: Write>(asked: &Asked<'_>, errors: &mut E) {
     }
 }
 
-/// Writes the page of the job in a file, if the words ask for one. Where it can't be written, standard error says so.
+/// Writes the page of the job in a file, whose answer had this status, if the words ask for one. Where it can't be written, standard error says so.
 pub(crate) fn write_page<T: Files, F: Finder, E: Write>(
     rt: &T,
     finder: &F,
     alloc: Global,
     asked: &Asked<'_>,
     file: &str,
+    status: u8,
     errors: &mut E,
 ) {
     let Some(page) = asked.page else {
@@ -39,9 +42,18 @@ pub(crate) fn write_page<T: Files, F: Finder, E: Write>(
         tell_unpaged(asked, errors);
         return;
     };
-    match made(rt, finder, alloc, options, stops, file) {
+    let search = Search {
+        finder,
+        alloc,
+        form: Form::Words,
+        options: ListOptions {
+            is_brief: true,
+            ..options
+        },
+    };
+    match made(rt, &search, stops, file) {
         // Standard error has said what is wrong with the job.
-        Ok(None) => {}
+        Ok(None) if status == JOB_REFUSED => {}
         Ok(Some(text)) if is_kept(rt, page, text.as_str()) => {}
         _ => {
             let _is_written = write_whole(errors, UNWRITTEN.as_bytes());
@@ -57,20 +69,18 @@ fn lists_of(asked: &Asked<'_>) -> Option<(ListOptions, u8)> {
     }
 }
 
-/// The page of the job in a file, where that is one.
+/// The page of the job in a file, where that is one. The file is read once more, so what can be read but once has none.
 fn made<T: Files, F: Finder>(
     rt: &T,
-    finder: &F,
-    alloc: Global,
-    options: ListOptions,
+    search: &Search<'_, F>,
     stops: u8,
     file: &str,
 ) -> Result<Option<String>, AllocError> {
     let Ok(mut opened) = File::open(rt, file) else {
         return Ok(None);
     };
-    match read_front(alloc, &mut opened) {
-        Ok(bytes) => page_of(finder, alloc, options, stops, file, bytes.as_slice()),
+    match read_front(search.alloc, &mut opened) {
+        Ok(bytes) => page_of(search, stops, file, bytes.as_slice()),
         Err(_) => Ok(None),
     }
 }
