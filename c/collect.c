@@ -1,7 +1,7 @@
 /* What collectives are made of: messages on the hidden context, each with the number of its collective in its tag. A rank waits for a message of
    another one until it comes, or that rank is known to have failed, or the program's communicator is known to be revoked. So a collective in which
    a member failed ends at each member that makes it: at some by success, at others by MPIX_ERR_PROC_FAILED (ULFM). */
-#include "run.h"
+#include "body.h"
 #include <stdlib.h>
 #include <string.h>
 
@@ -33,12 +33,12 @@ bool is_buffer(const void *buffer, size_t bytes, MPI_Datatype type) {
 }
 
 int collect_send(struct comm *comm, int to, const void *bytes, size_t length) {
-    int code = send_letter(comm->hidden, comm->place[to], comm->members[to], tag_of(comm), bytes, length, 0);
+    int code = send_body(comm->hidden, comm->place[to], comm->members[to], tag_of(comm), bytes, length, 0);
     plan_inside();
     return code;
 }
 
-/* Posts the receive of a letter, or null where there is no memory. */
+/* Posts the receive of a message, or null where there is no memory. */
 struct request *collect_post(struct comm *comm, int from, void *bytes, size_t room, struct landing *landing) {
     struct request *request = new_request(RECEIVE, comm, from, tag_of(comm));
     if (!request) return 0;
@@ -55,7 +55,7 @@ static bool has_come(void *of, bool is_settled) {
     return request->over || is_revoked(request->comm);
 }
 
-/* Waits for a letter, and releases its request. */
+/* Waits for a message, and releases its request. */
 int collect_finish(struct request *request) {
     if (!request) return MPI_ERR_NO_MEM;
     me->place.waits_for = 1u << request->comm->members[request->peer];

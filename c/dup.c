@@ -2,6 +2,7 @@
    chain: its first context, the duplicate of that, which all of them share for their collectives, the duplicate of the duplicate, and so on. A plane is
    a communicator's place in the chain. The members agree on it, so that those that missed one that others made, since a failure met it, agree with
    them again; and a plane that all of them freed is used again. */
+#include "body.h"
 #include "dup.h"
 #include "graph.h"
 #include <stdlib.h>
@@ -74,20 +75,21 @@ void decide(const struct comm *team, const struct wish *all, struct decided *dec
 }
 
 /* Takes away what was sent on a plane before and never received. */
-void drop_letters(const struct chain *chain, int plane) {
+void drop_messages(const struct chain *chain, int plane) {
     if (plane >= chain->planes) return;
     uint32_t context = chain->plane[plane].context;
-    ulfm_status told;
+    struct received received;
     uint64_t id;
-    uint8_t letter[BODY];
-    while (ulfm_improbe(me->slot, context, ULFM_ANY, ULFM_ANY, &id, &told) == ULFM_OK)
-        if (ulfm_mrecv(me->slot, id, &told, letter, sizeof letter) != ULFM_OK) return;
+    while (ulfm_improbe(me->slot, context, ULFM_ANY, ULFM_ANY, &id, &received.told) == ULFM_OK) {
+        if (ulfm_mrecv(me->slot, id, &received.told, &received.body.content, sizeof received.body) != ULFM_OK) return;
+        drop_body(&received);
+    }
 }
 
 /* Takes away what is left of the communicator that a plane had before. All are done with it before any of them sends on the new one. */
 static int empty_plane(struct comm *team, int plane) {
     char verdict[VERDICT];
-    drop_letters(team->chain, plane);
+    drop_messages(team->chain, plane);
     return spread_verdict(team, gather_all(team, 0, 0, 0), verdict, 0);
 }
 

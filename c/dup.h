@@ -21,7 +21,7 @@ struct decided {
 _Atomic int *new_marks(void);
 void wish_for(const struct chain *chain, struct wish *own);
 void decide(const struct comm *team, const struct wish *all, struct decided *decided);
-void drop_letters(const struct chain *chain, int plane);
+void drop_messages(const struct chain *chain, int plane);
 int release_comm(struct comm *of, MPI_Comm *handle);
 
 /* idup.c */

@@ -39,7 +39,7 @@ static int agree(struct comm *of, struct copy *copy) {
     copy->is_emptied = !copy->decided.is_old;
     if (copy->is_emptied) return MPI_SUCCESS;
     copy->is_emptied = true;
-    drop_letters(of->chain, copy->decided.plane);
+    drop_messages(of->chain, copy->decided.plane);
     return begin_round(of, copy, 0, copy->all, 0);
 }
 

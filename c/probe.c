@@ -1,12 +1,11 @@
 /* Probes (MPI 4.0, 3.8). A message that MPI_Mprobe found is taken from the engine at once, and kept here for MPI_Mrecv. */
-#include "run.h"
+#include "body.h"
 #include <stdlib.h>
 #include <string.h>
 
 struct message {
     struct comm *comm;
-    ulfm_status told;
-    uint8_t letter[BODY];
+    struct received received;
 };
 
 /* A probe: its arguments, and what it found. */
@@ -33,10 +32,10 @@ static void take_message(struct probe *probe, uint64_t id) {
         return;
     }
     message->comm = probe->comm;
-    probe->code = class_of(ulfm_mrecv(me->slot, id, &message->told, message->letter, sizeof message->letter));
+    struct received *received = &message->received;
+    probe->code = class_of(ulfm_mrecv(me->slot, id, &received->told, &received->body.content, sizeof received->body));
     probe->message = message;
-    mark_found(&message->told, message->letter);
-    tell_found(probe, &message->told, length_of_letter(&message->told, message->letter));
+    tell_found(probe, &received->told, set_body_aside(received));
 }
 
 /* Looks once. */
@@ -176,10 +175,10 @@ static int receive(void *buf, int count, MPI_Datatype type, MPI_Message *handle,
         return MPI_ERR_REQUEST;
     }
     *comm = message->comm;
-    take_letter(&message->told, message->letter, landing ? bytes_of_landing(landing) : buf, bytes, status, &code);
+    take_body(&message->received, landing ? bytes_of_landing(landing) : buf, bytes, status, &code);
     if (landing) land(landing, status->bytes);
     free_landing(landing);
-    status->MPI_SOURCE = position_at(message->comm, message->told.source);
+    status->MPI_SOURCE = position_at(message->comm, message->received.told.source);
     free(message);
     return code;
 }

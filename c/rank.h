@@ -12,7 +12,7 @@
 #include <stdbool.h>
 #include <stdio.h>
 
-enum { MAX_RANKS = 8, CONTEXTS = 63, BODY = 1024, PLANES = 7, NO_CONTEXT_LEFT = 255, STACK = 32 << 20 };
+enum { MAX_RANKS = 8, CONTEXTS = 63, PLANES = 7, NO_CONTEXT_LEFT = 255, STACK = 32 << 20 };
 
 /* Error codes: the class, and a detail times 256, which MPI_Error_string tells. */
 enum {

@@ -1,4 +1,5 @@
 /* Requests: what was begun and isn't over, and what is over and wasn't told. */
+#include "body.h"
 #include "repeated.h"
 #include <stddef.h>
 #include <stdlib.h>
@@ -117,7 +118,7 @@ void start_receive(struct request *request, void *buffer, size_t room) {
 /* Sends a message of the program. Where `parcel` isn't null, it gets a parcel whose flag tells the match. */
 int send_now(struct comm *comm, int peer, int tag, const void *buffer, size_t length, struct parcel **parcel) {
     if (comm->is_part && is_revoked(comm)) return MPIX_ERR_REVOKED;
-    return send_letter(comm->context, comm->place[peer], comm->members[peer], tag, buffer, length, parcel);
+    return send_body(comm->context, comm->place[peer], comm->members[peer], tag, buffer, length, parcel);
 }
 
 /* Starts the send of a request. A refusal is told where the request ends. */
@@ -140,24 +141,29 @@ static int look_at_send(struct request *request) {
     return MPI_SUCCESS;
 }
 
-/* The engine answered that the receive is over: `told`, and its letter. */
-static void end_receive(struct request *request, const ulfm_status *told, const uint8_t *letter) {
+/* The engine answered that the receive is over. */
+static void end_receive(struct request *request, const struct received *received) {
+    const ulfm_status *told = &received->told;
     int code = MPI_SUCCESS;
     if (told->cancelled) request->status.cancelled = 1;
     else if (told->error) code = class_of(told->error);
     else {
-        take_letter(told, letter, request->buffer, request->room, &request->status, &code);
+        take_body(received, request->buffer, request->room, &request->status, &code);
         request->status.MPI_SOURCE = position_at(request->comm, told->source);
         if (request->landing) land(request->landing, request->status.bytes);
     }
     end_request(request, code);
 }
 
+/* Cancels a receive. */
+static uint32_t cancel(const struct request *request, struct received *received) {
+    return ulfm_cancel(me->slot, request->id, &received->told, &received->body.content, sizeof received->body);
+}
+
 /* Ends a receive that waits on a part that is revoked. */
 static void end_revoked(struct request *request) {
-    uint8_t letter[BODY];
-    ulfm_status told;
-    if (ulfm_cancel(me->slot, request->id, &told, letter, sizeof letter) == ULFM_OK && !told.cancelled) end_receive(request, &told, letter);
+    struct received received;
+    if (cancel(request, &received) == ULFM_OK && !received.told.cancelled) end_receive(request, &received);
     else end_request(request, MPIX_ERR_REVOKED);
 }
 
@@ -174,9 +180,8 @@ int look_at(struct request *request) {
         request->look(request);
         return MPI_SUCCESS;
     }
-    uint8_t letter[BODY];
-    ulfm_status told;
-    uint32_t code = ulfm_test(me->slot, request->id, &told, letter, sizeof letter);
+    struct received received;
+    uint32_t code = ulfm_test(me->slot, request->id, &received.told, &received.body.content, sizeof received.body);
     bool is_open = code == ULFM_NOT_YET || code == ULFM_PENDING;
     if (is_open && request->comm->is_part && is_revoked(request->comm)) {
         end_revoked(request);
@@ -184,7 +189,7 @@ int look_at(struct request *request) {
     }
     if (code == ULFM_NOT_YET) return MPI_SUCCESS;
     if (code == ULFM_PENDING) return has_unacknowledged(request->comm) ? MPIX_ERR_PROC_FAILED_PENDING : MPI_SUCCESS;
-    if (code == ULFM_OK) end_receive(request, &told, letter);
+    if (code == ULFM_OK) end_receive(request, &received);
     else end_request(request, class_of(code));
     return MPI_SUCCESS;
 }
@@ -200,10 +205,9 @@ void look_at_all(void) {
 /* Withdraws a receive that waits. Where a message came before, the request ends with it. */
 void withdraw(struct request *request) {
     if (request->over || request->kind != RECEIVE) return;
-    uint8_t letter[BODY];
-    ulfm_status told;
-    uint32_t code = ulfm_cancel(me->slot, request->id, &told, letter, sizeof letter);
-    if (code == ULFM_OK) end_receive(request, &told, letter);
+    struct received received;
+    uint32_t code = cancel(request, &received);
+    if (code == ULFM_OK) end_receive(request, &received);
     else end_request(request, class_of(code));
 }
 

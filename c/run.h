@@ -96,15 +96,16 @@ void end_branches(void);
 void plan_call(void);
 void plan_inside(void);
 
-/* letter.c */
-int class_of(uint32_t code);
-int send_letter(uint32_t context, int dest, int world, int tag, const void *bytes, size_t length, struct parcel **parcel);
-void take_letter(const ulfm_status *told, const uint8_t *letter, void *buffer, size_t room, MPI_Status *status, int *code);
-size_t length_of_probed(const ulfm_status *told, uint32_t context, int from);
-size_t length_of_letter(const ulfm_status *told, const uint8_t *letter);
-void mark_found(const ulfm_status *told, const uint8_t *letter);
+/* parcel.c */
+struct parcel *new_parcel(const struct parcel *like);
 void let_go(struct parcel *parcel);
 void free_parcels(void);
+void fill_parcel(struct parcel *parcel);
+void empty_parcel(struct parcel *parcel, void *buffer, size_t length);
+size_t length_of_first(uint32_t context, int from, int tag);
+
+/* answer.c */
+int class_of(uint32_t code);
 bool is_revoked(const struct comm *comm);
 bool is_failed(const struct comm *comm, int position);
 int failed_of(const struct comm *comm, ulfm_group *failed);

@@ -68,18 +68,19 @@ static void long_and_probed(void) {
     free(x);
 }
 
-/* A probe tells of the message behind one that a matched probe took, and that isn't received yet (3.8.2). */
+/* A probe tells of the message behind one that a matched probe took, and that isn't received yet (3.8.2). The messages are of each way to go. */
 static void behind_found(void) {
-    static const int lengths[] = {4000, 2800, 7, 7, 1, 1024, 5000};
-    enum { N = sizeof lengths / sizeof *lengths };
-    static char bytes[5000];
+    static const int lengths[] = {4000, 2800, 7, 7, 1, 1024, 5000, 15, 15, 16, 0, 0, 14, 1023, 8, 8, 1023, 14};
+    enum { N = sizeof lengths / sizeof *lengths, MOST = 5000 };
+    static char sent[N][MOST], came[MOST];
     MPI_Request requests[N];
     MPI_Message messages[N];
     MPI_Status status;
     int count, flag, last = -1;
+    for (int k = 0; k < N; k++) memset(sent[k], k + 1, MOST);
     for (int k = 0; rank == 1 && k < N; k++) {
-        if (k % 2) MPI_Isend(bytes, lengths[k], MPI_BYTE, 0, 4, world, &requests[k]);
-        else MPI_Issend(bytes, lengths[k], MPI_BYTE, 0, 4, world, &requests[k]);
+        if (k % 2) MPI_Isend(sent[k], lengths[k], MPI_BYTE, 0, 4, world, &requests[k]);
+        else MPI_Issend(sent[k], lengths[k], MPI_BYTE, 0, 4, world, &requests[k]);
     }
     if (rank == 1) MPI_Waitall(N, requests, MPI_STATUSES_IGNORE);
     if (rank) return;
@@ -94,9 +95,9 @@ static void behind_found(void) {
         CHECK(count == lengths[k]);
     }
     for (int k = N - 1; k >= 0; k--) {
-        MPI_Mrecv(bytes, sizeof bytes, MPI_BYTE, &messages[k], &status);
+        MPI_Mrecv(came, MOST, MPI_BYTE, &messages[k], &status);
         MPI_Get_count(&status, MPI_BYTE, &count);
-        CHECK(count == lengths[k]);
+        CHECK(count == lengths[k] && !memcmp(came, sent[k], (size_t)count));
     }
 }
 

@@ -1,0 +1,44 @@
+/* What a body of the engine holds: a message, or where the parcel of one stands. Who sends or receives goes by these calls, and looks into no body. */
+#ifndef ULFM_MPI_BODY_H
+#define ULFM_MPI_BODY_H
+
+#include "run.h"
+
+enum { BODY = 1024, AT_ONCE = BODY - 1 };   /* the longest body, and the longest message in one */
+
+enum content { MESSAGE = 1, REFERENCE };
+
+/* A body: its first byte says what it holds. */
+union body {
+    uint8_t content;
+    struct whole {
+        uint8_t content, message[AT_ONCE];
+    } whole;
+    struct reference {
+        uint8_t content, unused[sizeof(struct parcel *) - 1];
+        struct parcel *parcel;   /* ranks share their memory */
+    } reference;
+};
+
+/* What the engine told of a body, and the body. */
+struct received {
+    ulfm_status told;
+    union body body;
+};
+
+/* Sends a message to the position `dest`, the world rank `world`. Where `waits` isn't null, it gets a parcel whose flag tells the match. */
+int send_body(uint32_t context, int dest, int world, int tag, const void *bytes, size_t length, struct parcel **waits);
+
+/* Copies the message of a body that came into a buffer, and tells its sender that it was matched. The source in the status is the engine's. */
+void take_body(const struct received *received, void *buffer, size_t room, MPI_Status *status, int *code);
+
+/* Nobody wants the message of a body that came. */
+void drop_body(const struct received *received);
+
+/* A matched probe took the body, whose message isn't received yet: other probes tell of those behind it (3.8.2). How long the message is. */
+size_t set_body_aside(const struct received *received);
+
+/* How long the message is that a probe found, of the world rank `from`. Receives that have theirs were looked at before. */
+size_t length_of_probed(const ulfm_status *told, uint32_t context, int from);
+
+#endif

@@ -1,0 +1,79 @@
+/* Parcels: messages that stand beside their bodies, since they are long, or since their senders wait for the match. A receiver reads the parcel in the
+   memory that ranks share, and lets it go. */
+#include "run.h"
+#include <sched.h>
+#include <stdlib.h>
+#include <string.h>
+
+enum { PART = 8192, SPINS = 10000 };
+
+/* A parcel like `like`, with room for its bytes, or null where there is no memory. */
+struct parcel *new_parcel(const struct parcel *like) {
+    struct parcel *parcel = malloc(sizeof *parcel + like->length);
+    if (!parcel) return 0;
+    *parcel = *like;
+    pthread_mutex_lock(&me->parcels_lock);
+    parcel->previous = me->last_parcel;
+    if (me->last_parcel) me->last_parcel->next = parcel;
+    else me->parcels = parcel;
+    me->last_parcel = parcel;
+    pthread_mutex_unlock(&me->parcels_lock);
+    return parcel;
+}
+
+/* One that used a parcel needs it no more; the last one frees it. */
+void let_go(struct parcel *parcel) {
+    if (atomic_fetch_sub(&parcel->users, 1) > 1) return;
+    struct rank *from = &ranks[parcel->from];
+    pthread_mutex_lock(&from->parcels_lock);
+    if (parcel->previous) parcel->previous->next = parcel->next;
+    else from->parcels = parcel->next;
+    if (parcel->next) parcel->next->previous = parcel->previous;
+    else from->last_parcel = parcel->previous;
+    pthread_mutex_unlock(&from->parcels_lock);
+    free(parcel);
+}
+
+/* Frees what nobody received. */
+void free_parcels(void) {
+    for (struct rank *rank = ranks; rank < ranks + MAX_RANKS; rank++)
+        while (rank->parcels) {
+            struct parcel *next = rank->parcels->next;
+            free(rank->parcels);
+            rank->parcels = next;
+        }
+}
+
+/* Copies a message, whose body is on its way, into its parcel, unless the receiver comes before and copies it from the sender: then it waits until
+   that is done. */
+void fill_parcel(struct parcel *parcel) {
+    const char *source = parcel->source;
+    for (size_t at = 0; at < parcel->length && atomic_load(&parcel->filling) == LIVE; at += PART)
+        memcpy(parcel->bytes + at, source + at, parcel->length - at < PART ? parcel->length - at : PART);
+    int live = LIVE;
+    if (!atomic_compare_exchange_strong(&parcel->filling, &live, FILLED))
+        for (size_t spins = 0; atomic_load(&parcel->filling) != TAKEN; spins++)
+            if (spins > SPINS + parcel->length) sched_yield();   /* the copy takes less, unless its rank doesn't run */
+    let_go(parcel);
+}
+
+/* Copies the bytes of a message from where they stand now. */
+void empty_parcel(struct parcel *parcel, void *buffer, size_t length) {
+    int live = LIVE;
+    bool is_live = atomic_compare_exchange_strong(&parcel->filling, &live, CLAIMED);
+    if (length) memcpy(buffer, is_live ? parcel->source : parcel->bytes, length);
+    if (is_live) atomic_store(&parcel->filling, TAKEN);
+}
+
+/* How long the first message is that a rank sent here by a parcel with this tag, and that nobody took or set aside. */
+size_t length_of_first(uint32_t context, int from, int tag) {
+    size_t length = 0;
+    pthread_mutex_lock(&ranks[from].parcels_lock);
+    for (struct parcel *parcel = ranks[from].parcels; parcel; parcel = parcel->next)
+        if (parcel->to == me->number && parcel->context == context && parcel->tag == tag && !parcel->is_found && !atomic_load(&parcel->matched)) {
+            length = parcel->length;
+            break;
+        }
+    pthread_mutex_unlock(&ranks[from].parcels_lock);
+    return length;
+}
