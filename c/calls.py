@@ -12,7 +12,7 @@ import sys
 import textwrap
 
 HEADERS = ("mpi.h", "ulfm_mpi_topologies.h", "ulfm_mpi_windows.h")
-HERE = pathlib.Path(__file__).resolve().parent
+DECLARED = pathlib.Path(__file__).resolve().parent / "include"
 MESSAGES = """Send Bsend Ssend Rsend Recv Isend Ibsend Issend Irsend Irecv Sendrecv Sendrecv_replace Isendrecv Isendrecv_replace
     Send_init Bsend_init Ssend_init Rsend_init Recv_init Mrecv Imrecv Reduce_local
     Put Get Accumulate Get_accumulate""".split()
@@ -71,7 +71,7 @@ def calls():
     """The calls that are declared, by their names."""
     found = {}
     for header in HEADERS:
-        for name, words in re.findall(r"^int MPI_(\w+)\(([^;]*)\);", (HERE / header).read_text(), re.M):
+        for name, words in re.findall(r"^int MPI_(\w+)\(([^;]*)\);", (DECLARED / header).read_text(), re.M):
             if name in TABLE:
                 found[name] = Call(name, [re.fullmatch(r"(.*?)(\w+)((?:\[\])?)", " ".join(it.split())).groups() for it in words.split(",")])
     return found
@@ -147,7 +147,7 @@ def main(folder):
     declared, code = made()
     (folder / "include").mkdir(parents=True, exist_ok=True)
     (folder / "include/ulfm_mpi_made.h").write_text(f"{HEADER}{declared}\n#endif\n")
-    (folder / "made.c").write_text(f'/* Written by c/calls.py, of the calls that these repeat. */\n#include "graph.h"\n#include "large.h"\n#include "repeated.h"\n\n{code}')
+    (folder / "made.c").write_text(f'/* Written by c/calls.py, of the calls that these repeat. */\n#include "mpi/graph.h"\n#include "mpi/large.h"\n#include "collective/repeated.h"\n\n{code}')
 
 
 main(pathlib.Path(sys.argv[1]))

@@ -3,7 +3,7 @@
 #define ULFM_MPI_RANK_H
 
 #include "mpi.h"
-#include "options.h"
+#include "launcher/options.h"
 #include "ulfm.h"
 #include <pthread.h>
 #include <setjmp.h>

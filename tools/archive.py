@@ -65,7 +65,7 @@ def look_for_what_is_built():
     """Says what isn't built, or is older than its files, and which command builds it."""
     if not is_built("ulfm"):
         raise CannotPack("the program isn't built of what stands here: ./ulfm build")
-    sources = [ENGINE, ROOT / "c/ulfm.c", ROOT / "c/ulfm.h", ROOT / "c/exports.h"]
+    sources = [ENGINE, ROOT / "c/engine/ulfm.c", ROOT / "c/include/ulfm.h", ROOT / "c/engine/exports.h"]
     is_young = is_built("ulfm_c", ENGINE.name) and all(it.exists() for it in LIBRARIES)
     if not is_young or max(it.stat().st_mtime for it in sources) > min(it.stat().st_mtime for it in LIBRARIES):
         raise CannotPack("the libraries for C aren't built of what stands here: tools/build c")

@@ -1,4 +1,4 @@
-"""The calls of c/ulfm.h for Python, by ctypes: what each answers, its ranges and its refusals stand there.
+"""The calls of c/include/ulfm.h for Python, by ctypes: what each answers, its ranges and its refusals stand there.
 
     ranks = ulfm.world(4)
     each in a thread of its own: rank.isend(0, 1, 7, b"abc"), rank.wait(rank.irecv(0, 0, 7, 100), 100), ..

@@ -1,0 +1,25 @@
+/* What a collective is that is started as often as wanted. */
+#ifndef ULFM_MPI_REPEATED_CALLS_H
+#define ULFM_MPI_REPEATED_CALLS_H
+
+#include "types/type.h"
+
+/* The arguments of a collective, those that it has, by the names of its parameters. */
+struct repeated {
+    int (*begin)(const struct repeated *of, MPI_Comm comm, MPI_Request *request);
+    unsigned number;
+    const void *sendbuf;
+    void *buf, *recvbuf;
+    MPI_Count count, sendcount, recvcount;
+    const void *counts, *sendcounts, *recvcounts, *displs, *sdispls, *rdispls;   /* lists as the call has them */
+    MPI_Datatype type, sendtype, recvtype, kept[3];
+    const MPI_Datatype *sendtypes, *recvtypes;
+    MPI_Op op;
+    int root;
+};
+
+void free_repeated(struct repeated *of);
+int init_repeated(const struct repeated *like, MPI_Comm comm, MPI_Info info, MPI_Request *handle);
+int start_repeated(const struct repeated *of, struct comm *comm, struct request **active);
+
+#endif

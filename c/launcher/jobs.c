@@ -1,0 +1,204 @@
+/* The runs of --every-stop: processes of the launcher, which write to files without names. */
+#define _GNU_SOURCE
+#include "launcher/every.h"
+#include <fcntl.h>
+#include <sched.h>
+#include <stdlib.h>
+#include <string.h>
+#include <sys/mman.h>
+#include <sys/prctl.h>
+#include <unistd.h>
+
+enum { MOST_WORDS = 32 + 2 * MAX_STOPS, TEXTS = 8 + MAX_STOPS, SECONDS = 60 };
+
+int processors(void) {
+    cpu_set_t set;
+    return sched_getaffinity(0, sizeof set, &set) == 0 ? CPU_COUNT(&set) : 1;
+}
+
+/* The words of a search at a place, or of a first run without one: how many there are. */
+static int words_of_search(char *words[], char texts[][64], const struct spot *spot) {
+    static char path[512];
+    int count = 0;
+    if (!spot) {
+        words[count++] = "--seed";
+        words[count++] = "1";
+        return count;
+    }
+    path_of_schedule(spot, 1, path, sizeof path);
+    snprintf(texts[0], 64, "%ld", options.limit);
+    snprintf(texts[1], 64, "%ld", options.checks);
+    words[count++] = "--search";
+    words[count++] = texts[0];
+    words[count++] = "--keep";
+    words[count++] = path;
+    if (options.no_loss) words[count++] = "--no-loss";
+    if (options.checks) {
+        words[count++] = "--checks";
+        words[count++] = texts[1];
+    }
+    return count;
+}
+
+/* The words of a run that goes on from each place: how many there are. */
+static int words_of_branches(char *words[], char texts[][64], const struct job *job) {
+    int count = 0;
+    snprintf(texts[0], 64, "%d", job->branches);
+    snprintf(texts[1], 64, "%d", options.jobs ? options.jobs : processors());
+    words[count++] = "--branches";
+    words[count++] = texts[0];
+    words[count++] = "--jobs";
+    words[count++] = texts[1];
+    if (options.same_output) words[count++] = "--same-output";
+    return count;
+}
+
+/* Fills in the words of a run, before those of the program: how many there are. */
+static int words_of(char *words[], const char *launcher, char texts[][64], const struct job *job, const struct spot *spot) {
+    int count = 0;
+    words[count++] = (char *)(uintptr_t)launcher;
+    words[count++] = "-n";
+    words[count++] = texts[0];
+    words[count++] = "--report";
+    words[count++] = texts[1];
+    words[count++] = "--timeout";
+    words[count++] = texts[2];
+    words[count++] = "--rounds";
+    words[count++] = texts[3];
+    snprintf(texts[0], 64, "%d", options.ranks);
+    snprintf(texts[1], 64, "%d", job->files[2]);
+    snprintf(texts[2], 64, "%g", options.timeout > 0 ? options.timeout : (double)SECONDS);
+    snprintf(texts[3], 64, "%d", options.rounds);
+    if (is_place(spot)) {
+        words[count++] = "--stop";
+        words[count++] = texts[4];
+        snprintf(texts[4], 64, spot->inside ? "%d@%d.%d" : "%d@%d", spot->rank, spot->call, spot->inside);
+    }
+    for (int k = 0; k < options.stops; k++) {
+        words[count++] = "--stop";
+        words[count++] = texts[8 + k];
+        text_of_stop(&options.stop[k], texts[8 + k], 64);
+    }
+    if (options.every_schedule) count += words_of_search(&words[count], &texts[6], spot);
+    if (!spot && !job->branches) words[count++] = "--calls";
+    if (job->branches) count += words_of_branches(&words[count], &texts[6], job);
+    if (options.seed) {
+        words[count++] = "--seed";
+        words[count++] = texts[5];
+        snprintf(texts[5], 64, "%llu", (unsigned long long)options.seed);
+    }
+    words[count++] = "--sends";
+    words[count++] = job->sends_wait ? "wait" : "buffer";
+    words[count++] = (char *)(uintptr_t)options.program;
+    return count;
+}
+
+/* In the process of a run: becomes the launcher. */
+static void become(pid_t parent, const struct job *job, const char *launcher, const struct spot *spot) {
+    char texts[TEXTS][64];
+    char **words = calloc((size_t)(MOST_WORDS + options.count + 1), sizeof *words);
+    int none = open("/dev/null", O_RDONLY);
+    prctl(PR_SET_PDEATHSIG, SIGTERM);   /* who ends the table ends its runs */
+    if (!words || none < 0 || getppid() != parent) _exit(STATUS_USAGE);
+    int count = words_of(words, launcher, texts, job, spot);
+    for (int k = 0; k < options.count; k++) words[count++] = options.words[k];
+    dup2(none, 0);
+    dup2(job->files[0], 1);
+    dup2(job->files[1], 2);
+    fcntl(job->files[2], F_SETFD, 0);
+    if (job->branches) fcntl(job->branches, F_SETFD, 0);
+    execv("/proc/self/exe", words);
+    _exit(STATUS_USAGE);
+}
+
+/* Starts a run with a stop, or with none. False where no process can be had. */
+bool start_job(struct job *job, const char *launcher, const struct spot *spot) {
+    for (int k = 0; k < 3; k++) {
+        job->files[k] = memfd_create("ulfm-run", MFD_CLOEXEC);
+        if (job->files[k] < 0) {
+            fprintf(stderr, "ulfm-mpirun: no file for a run\n");
+            return false;
+        }
+    }
+    fflush(stdout);
+    pid_t own = getpid();
+    job->pid = fork();
+    if (job->pid == 0) become(own, job, launcher, spot);
+    if (job->pid < 0) fprintf(stderr, "ulfm-mpirun: no process for a run\n");
+    return job->pid > 0;
+}
+
+void close_job(struct job *job) {
+    for (int k = 0; k < 3; k++) close(job->files[k]);
+}
+
+/* All of a file, or null where there is no memory. */
+char *read_all(int file) {
+    off_t length = lseek(file, 0, SEEK_END);
+    char *text = malloc((size_t)length + 1);
+    if (!text) return 0;
+    ssize_t count = pread(file, text, (size_t)length, 0);
+    text[count > 0 ? count : 0] = 0;
+    return text;
+}
+
+static int compare_lines(const void *a, const void *b) { return strcmp(*(char *const *)a, *(char *const *)b); }
+
+/* The lines of a text in order of their letters, each once, and with its end. */
+static char *sorted(char *text) {
+    size_t length = text ? strlen(text) : 0, count = 0, used = 0;
+    char **lines = calloc(length + 1, sizeof *lines), *result = malloc(length + 2), *rest;
+    if (!lines || !result || !text) return result;
+    for (char *line = strtok_r(text, "\n", &rest); line; line = strtok_r(0, "\n", &rest)) lines[count++] = line;
+    qsort(lines, count, sizeof *lines, compare_lines);
+    for (size_t k = 0; k < count; k++)
+        if (k == 0 || strcmp(lines[k - 1], lines[k])) used += (size_t)sprintf(result + used, "%s\n", lines[k]);
+    result[used] = 0;
+    free(lines);
+    return result;
+}
+
+/* Reads one line of a report. */
+static void read_line(const char *line, struct result *result) {
+    int rank, number;
+    char name[48], failures[96] = "";
+    size_t used = strlen(result->detail), room = sizeof result->detail - used;
+    if (sscanf(line, "stopped %d", &rank) == 1) result->fate[rank] = STOPPED;
+    else if (sscanf(line, "failed %d %d", &rank, &number) == 2) result->fate[rank] = FAILED_ITSELF;
+    else if (sscanf(line, "end %d %d", &rank, &number) == 2) result->fate[rank] = ENDED, result->status[rank] = number;
+    else if (sscanf(line, "at %d %47s%95[^\n]", &rank, name, failures) >= 2) snprintf(result->detail + used, room, "%s %d in %s%s", used ? "," : "", rank, name, failures);
+    else if (!strncmp(line, "stuck", 5)) result->end = STUCK;
+    else if (!strncmp(line, "loops", 5)) result->end = LOOPS;
+    else if (!strncmp(line, "late", 4)) result->end = LATE;
+    else if (!strncmp(line, "long", 4)) result->end = LONG;
+    else if (result->end != RIGHT) return;
+    else if (sscanf(line, "fatal %d %47s %d", &rank, name, &number) == 3) {
+        result->end = FATAL;
+        snprintf(result->detail, sizeof result->detail, " %d in %s, class %d", rank, name, number);
+    } else if (sscanf(line, "abort %d %d", &rank, &number) == 2) {
+        result->end = ABORTED;
+        snprintf(result->detail, sizeof result->detail, " %d by MPI_Abort with %d", rank, number);
+    } else if (sscanf(line, "crash %d %d", &rank, &number) == 2) {
+        result->end = CRASHED;
+        snprintf(result->detail, sizeof result->detail, " %d by signal %d", rank, number);
+    }
+}
+
+/* Reads a report, which is cut into its lines. */
+void read_report(char *text, struct result *result) {
+    char *rest;
+    *result = (struct result){.end = RIGHT};
+    for (char *line = text ? strtok_r(text, "\n", &rest) : 0; line; line = strtok_r(0, "\n", &rest)) read_line(line, result);
+}
+
+/* Reads what a run wrote, which is cut into its lines. */
+void read_output(char *text, struct result *result) { result->output = sorted(text); }
+
+void read_result(const struct job *job, struct result *result) {
+    char *text = read_all(job->files[2]);
+    read_report(text, result);
+    free(text);
+    text = read_all(job->files[0]);
+    read_output(text, result);
+    free(text);
+}

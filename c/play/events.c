@@ -1,0 +1,131 @@
+/* The events of a schedule in words, one a line: `rank 0 takes of 3: word of revocation on 0`. A file of them is played again line by line. */
+#define _GNU_SOURCE
+#include "launcher/every.h"
+#include "search/search.h"
+#include <stdlib.h>
+#include <string.h>
+
+enum { LINE = 160 };
+static const char *const words_of_calls[] = {
+    "sends to", "posts a receive from", "looks at receive", "cancels receive", "probes", "revokes", "asks for a revocation", "asks for failures",
+    "acknowledges failures", "duplicates", "enters the shrink", "polls the shrink", "enters an agreement", "polls the agreement", "stops"};
+static const char *const words_of_items[] = {
+    "nothing", "a message", "word of failure", "word of revocation", "an entry into the shrink", "an entry into agreement"};
+
+/* The line of an event. */
+void text_of_event(const struct event *event, char *text, size_t room) {
+    char peer[24] = "", tag[24] = "", comm[24] = "";
+    if (event->kind == LOSES) {
+        snprintf(text, room, "rank %d loses what %d sent", event->rank, event->peer);
+        return;
+    }
+    bool takes = event->kind == TAKES, is_look = event->kind == TESTS || event->kind == CANCELS;
+    bool is_message = event->kind == SENDS || event->kind == POSTS || event->kind == PROBES;
+    bool has_number = is_look || (takes && event->item == ULFM_AGREE_ENTRY);
+    if (is_message && event->peer == NOBODY) strcpy(peer, " any");
+    else if (is_message) snprintf(peer, sizeof peer, " %d", event->peer);
+    if (has_number) snprintf(tag, sizeof tag, " %d", event->tag);
+    else if (event->tag >= 0) snprintf(tag, sizeof tag, " tag %d", event->tag);
+    if (!is_look && event->kind != STOPS && !(takes && event->item == ULFM_STOP_NOTICE)) snprintf(comm, sizeof comm, " on %d", event->comm);
+    if (takes) snprintf(text, room, "rank %d takes of %d: %s%s%s", event->rank, event->peer, words_of_items[event->item], tag, comm);
+    else snprintf(text, room, "rank %d %s%s%s%s", event->rank, words_of_calls[event->kind], peer, tag, comm);
+}
+
+/* ---- A schedule that is played again ---- */
+
+static FILE *schedule;
+static int line_number;
+
+/* Plans the losses of a file: of how many items each keeps. Whether there are some. */
+static bool plan_losses_of_file(void) {
+    char line[LINE];
+    int to, from, taken[MAX_RANKS][MAX_RANKS] = {{0}};
+    bool is_any = false;
+    while (fgets(line, LINE, schedule)) {
+        if (sscanf(line, "rank %1d takes of %1d", &to, &from) == 2 && to < MAX_RANKS && from < MAX_RANKS) taken[from][to]++;
+        if (sscanf(line, "rank %1d loses what %1d", &to, &from) != 2 || to >= MAX_RANKS || from >= MAX_RANKS) continue;
+        plan_loss(from, to, taken[from][to]);
+        is_any = true;
+    }
+    rewind(schedule);
+    return is_any;
+}
+
+bool open_schedule(void) {
+    schedule = fopen(options.schedule, "r");
+    if (!schedule) fprintf(stderr, "ulfm-mpirun: %s can't be read\n", options.schedule);
+    return schedule && (!plan_losses_of_file() || begin_search());   /* what was sent is counted by footprints */
+}
+
+/* The next event of the file; false at its end. */
+static bool read_event(char *line) {
+    while (fgets(line, LINE, schedule)) {
+        line_number++;
+        line[strcspn(line, "\n")] = 0;
+        if (*line && *line != '#') return true;
+    }
+    return false;
+}
+
+/* The program does something else than it did: says what, and where. */
+static void tell_other(const char *line) {
+    char text[LINE], place[256];
+    int number;
+    fprintf(stderr, "ulfm-mpirun: not the same again: line %d of %s is '%s', but ", line_number, options.schedule, line);
+    if (sscanf(line, "rank %d", &number) != 1 || number < 0 || number >= options.ranks) {
+        fprintf(stderr, "there is no such event\n");
+        end_run(STATUS_OTHER);
+    }
+    const struct rank *rank = &ranks[number];
+    text_of_event(&players[number].call, text, sizeof text);
+    const char *state = players[number].state == WAITS ? "waits" : players[number].state == OVER ? "has ended" : strchr(text + 5, ' ') + 1;
+    const char *call = rank->place.call ? rank->place.call : "its start";
+    fprintf(stderr, "now rank %d %s, in %s%s (call %d)\n", number, state, call, line_of(rank, place, sizeof place), rank->calls);
+    end_run(STATUS_OTHER);
+}
+
+/* Which of the choices is the next line of the file; -1 at its end. */
+int choose_by_schedule(const struct event *choices, int count) {
+    char line[LINE], text[LINE];
+    if (!read_event(line)) return -1;
+    for (int k = 0; k < count; k++) {
+        text_of_event(&choices[k], text, sizeof text);
+        if (!strcmp(line, text)) return k;
+    }
+    tell_other(line);
+    return -1;
+}
+
+/* ---- A schedule that is kept ---- */
+
+enum { MOST_EVENTS = 1 << 24 };
+static struct {
+    int count;
+    struct event events[];
+} *kept;
+
+/* Adds an event to those that are kept: they stand in memory that isn't put back. */
+void record(const struct event *event) {
+    if (kept && kept->count < MOST_EVENTS) kept->events[kept->count++] = *event;
+}
+
+bool begin_record(void) {
+    if (!kept) kept = shared_memory(sizeof *kept + MOST_EVENTS * sizeof *kept->events);
+    if (kept) kept->count = 0;
+    return kept != 0;
+}
+
+/* Writes the file of a schedule, with the command that it is of. False where it can't be written. */
+bool keep_schedule(const char *path) {
+    char text[LINE];
+    FILE *file = fopen(path, "w");
+    if (!file) return false;
+    fputs("#", file);
+    tell_command(file, 0, options.sends_wait);
+    for (int k = 0; k < kept->count; k++) {
+        text_of_event(&kept->events[k], text, sizeof text);
+        fprintf(file, "%s\n", text);
+    }
+    if (kept->count == MOST_EVENTS) fprintf(file, "# more events weren't kept\n");
+    return fclose(file) == 0;
+}

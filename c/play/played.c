@@ -1,0 +1,140 @@
+/* A run that is played: by chance from a seed, or again by a file. */
+#define _GNU_SOURCE
+#include "search/search.h"
+#include <setjmp.h>
+#include <signal.h>
+#include <stdlib.h>
+#include <sys/personality.h>
+#include <time.h>
+#include <unistd.h>
+
+bool is_played;
+static sigjmp_buf to_end;
+static bool is_playing;
+static uint64_t chance;
+static volatile sig_atomic_t alarms;   /* how often the time was over */
+
+/* Numbers by chance, from a seed. */
+void begin_chance(uint64_t seed) { chance = seed * 0x9E3779B97F4A7C15u + 1; }
+
+int choose_by_chance(int count) {   /* splitmix64 */
+    uint64_t x = chance += 0x9E3779B97F4A7C15u;
+    x = (x ^ x >> 30) * 0xBF58476D1CE4E5B9u;
+    x = (x ^ x >> 27) * 0x94D049BB133111EBu;
+    x ^= x >> 31;
+    return (int)(x % (uint64_t)count);
+}
+
+/* So that a program which goes by addresses does the same again: the launcher begins anew with addresses that are the same in each process, where the
+   system lets it. */
+void fix_addresses(char **words) {
+    int kind = personality(0xffffffff);
+    if (kind < 0 || kind & ADDR_NO_RANDOMIZE || has_valgrind() || getenv("ULFM_MPIRUN_FIXED")) {
+        unsetenv("ULFM_MPIRUN_FIXED");
+        return;
+    }
+    if (personality((unsigned long)kind | ADDR_NO_RANDOMIZE) < 0) return;
+    setenv("ULFM_MPIRUN_FIXED", "1", 1);
+    execv("/proc/self/exe", words);
+    unsetenv("ULFM_MPIRUN_FIXED");
+}
+
+static void count_alarm(int number) {
+    (void)number;
+    if (++alarms > 1) tell_late();   /* a rank doesn't come to its next call */
+}
+
+/* From the end of the time on, a signal each second. */
+void set_alarm(void) {
+    timer_t timer;
+    int number = SIGRTMAX - 1;
+    struct sigevent event = {.sigev_notify = SIGEV_SIGNAL, .sigev_signo = number};
+    time_t whole = (time_t)options.timeout;
+    struct itimerspec at = {.it_value = {whole, (long)(1e9 * (options.timeout - (double)whole))}, .it_interval = {1, 0}};
+    if (options.timeout <= 0 || options.branches >= 0) return;   /* those that go on from it have their time */
+    signal(number, count_alarm);
+    if (timer_create(CLOCK_MONOTONIC, &event, &timer) == 0) timer_settime(timer, 0, &at, 0);
+}
+
+/* Each rank runs up to its first event. */
+bool begin_ranks(void) {
+    for (int k = 0; k < options.ranks; k++) {
+        prepare_rank(&ranks[k], k);
+        if (!open_output(&ranks[k]) || !make_context(k)) return false;
+        resume(k);
+    }
+    settle();
+    return true;
+}
+
+static bool have_all_ended(void) {
+    for (int k = 0; k < options.ranks; k++)
+        if (players[k].state != OVER) return false;
+    return true;
+}
+
+/* Nothing can happen any more, but that ranks look again at what they looked at: these loop. */
+static void tell_end(void) {
+    for (int k = 0; k < options.ranks; k++) ranks[k].loops = players[k].state == AT_CALL;
+    tell_stuck();
+}
+
+static int choose(const struct event *choices, int count) {
+    if (is_searching()) return choose_by_search(choices, count);
+    return options.schedule ? choose_by_schedule(choices, count) : choose_by_chance(count);
+}
+
+/* Plays events until nothing can happen. A search wants what comes when all ranks have ended too: it might have come before. It keeps so many events. */
+static void play_schedule(void) {
+    struct event choices[MOST_CHOICES];
+    bool has_room = true;
+    for (int k = 0; k < options.ranks; k++) block_rings(k), look_ahead(k);
+    for (int count; has_room && (footprints || !have_all_ended()) && (count = list_choices(choices)) > 0;) {
+        int choice = choose(choices, count);
+        if (choice < 0) break;
+        record(&choices[choice]);
+        note_drawn(&choices[choice]);
+        perform(&choices[choice]);
+        if (is_searching() && !note_step()) break;
+        has_room = !footprints || step < MOST_STEPS - 1;
+        if (alarms) tell_late();
+    }
+    if (is_searching() && cut_of_search() != NOT_CUT) return;
+    if (!has_room) report("long\n");
+    else if (!have_all_ended()) tell_end();
+}
+
+/* A rank, or the controller, ends a run that is played. */
+void end_schedule(int status) {
+    if (is_playing) siglongjmp(to_end, status + 1);
+}
+
+/* The status of a run that ended early; -1: all ranks ended. */
+int play_once(void) {
+    int ended = sigsetjmp(to_end, 1);
+    if (!ended) {
+        is_playing = true;
+        play_schedule();
+    }
+    is_playing = false;
+    return ended - 1;
+}
+
+int play(void) {
+    set_alarm();
+    if (!begin_notes() || (options.keep && !begin_record())) return STATUS_USAGE;
+    if (options.limit) return explore();
+    if (options.seeds) return play_seeds();
+    if ((options.schedule && !open_schedule()) || (options.draw && !begin_drawing())) return STATUS_USAGE;
+    begin_chance(options.seed);
+    if ((options.branches >= 0 && !begin_branches()) || !begin_ranks()) {
+        fprintf(stderr, "ulfm-mpirun: no memory for the ranks\n");
+        return STATUS_USAGE;
+    }
+    int status = play_once();
+    end_branches();
+    if (options.keep && !keep_schedule(options.keep)) fprintf(stderr, "ulfm-mpirun: %s can't be written\n", options.keep);
+    if (options.draw && !draw_schedule(options.draw)) fprintf(stderr, "ulfm-mpirun: %s can't be written\n", options.draw);
+    if (status >= 0) end_run(status);
+    return close_run();
+}

@@ -1,0 +1,157 @@
+/* Which events commute: neither changes what the other one sees or does, nor whether it can be. Events of different ranks do, but for two decisions of
+   one shrink or agreement that differ. */
+#include "search/search.h"
+
+enum { NAMED_ALONE, ONE_ANY, MANY_ANY };   /* receives of a context: each names its sender; any sender, all with one tag; so, with several tags, or probes */
+enum { OF_ANYBODY = -3, OF_NOBODY = -2, BEFORE = -2 };
+
+/* What was learnt of receives from any source, in memory that stays. */
+static struct wildcards {
+    int use[MAX_RANKS][CONTEXTS], tag[MAX_RANKS][CONTEXTS];
+} *wildcards;
+
+bool begin_commute(void) { return (wildcards = shared_memory(sizeof *wildcards)) != 0; }
+
+static bool is_item(const struct footprint *e, int item) { return e->kind == TAKES && e->item == item; }
+static bool is_message(const struct footprint *e) { return is_item(e, ULFM_MESSAGE); }
+static bool is_failure(const struct footprint *e) { return is_item(e, ULFM_STOP_NOTICE); }
+static bool is_revocation(const struct footprint *e) { return is_item(e, ULFM_REVOCATION); }
+static bool is_entry(const struct footprint *e) { return is_item(e, ULFM_SHRINK_ENTRY) || is_item(e, ULFM_AGREE_ENTRY); }
+static bool is_call(const struct footprint *e) { return e->kind != TAKES; }
+static bool is_poll(const struct footprint *e) { return e->kind == POLLS_SHRINK || e->kind == POLLS_AGREE; }
+static bool is_revoker(const struct footprint *e) { return is_revocation(e) || e->kind == REVOKES; }
+static bool is_end_of_receive(const struct footprint *e) { return (e->kind == TESTS || e->kind == CANCELS) && e->flags & ASKED; }
+static bool uses_messages(const struct footprint *e) { return e->kind == POSTS || e->kind == PROBES || e->kind == CANCELS; }
+static bool covers(int named, int source) { return named == ANYBODY || named == source; }
+static bool has_tag(int asked, int tag) { return asked == -1 || asked == tag; }
+
+static bool reads_revocations(const struct footprint *e) {
+    return e->kind == SENDS || e->kind == POSTS || e->kind == DUPLICATES || e->kind == ASKS_REVOKED || e->kind == PROBES;
+}
+
+/* A communicator and its duplicates: a wait for a collective ends by a message on the duplicate, or a revocation of the communicator. */
+static int family(int comm) {
+    while (comm > 0 && comm % 2 == 1) comm = (comm - 1) / 2;
+    return comm;
+}
+
+static bool are_of_family(const struct footprint *a, const struct footprint *b) { return family(a->comm) == family(b->comm); }
+
+/* Whether the wait that a call ends looked in vain for a message of a communicator (-1: of any) and a source. */
+static bool has_silent(const struct footprint *e, int comm, int source) {
+    if (!is_call(e) || !e->silent_count) return false;
+    if (e->silent_count == TOO_MANY) return true;
+    for (int k = 0; k < e->silent_count; k++) {
+        bool is_of = e->silent[k].is_message && (comm < 0 || e->silent[k].comm == comm);
+        if (is_of && (source == OF_ANYBODY || (e->silent[k].source != OF_NOBODY && covers(e->silent[k].source, source)))) return true;
+    }
+    return false;
+}
+
+/* An item came, and then a wait ended that had looked for it in vain. */
+static bool is_silent_before(const struct footprint *a, const struct footprint *b) {
+    return (is_message(a) && has_silent(b, a->comm, a->source)) || (is_failure(a) && has_silent(b, -1, a->source)) ||
+           (is_revocation(a) && has_silent(b, a->comm, OF_ANYBODY));
+}
+
+static bool is_before_revocation(const struct footprint *a, const struct footprint *b) {
+    if (!is_revoker(b)) return false;
+    bool saw_none = a->flags & SAW_NO_REVOCATION;
+    return (saw_none && is_call(a) && a->comm == b->comm) || (saw_none && is_message(a) && are_of_family(a, b)) || is_failure(a) ||
+           has_silent(a, b->comm, OF_ANYBODY);
+}
+
+/* `at` is the number of a; BEFORE: that isn't known. */
+static bool is_after_revocation(const struct footprint *a, int at, const struct footprint *b) {
+    if (!is_revoker(a) || !(a->flags & REVOKED_FIRST)) return false;
+    return (reads_revocations(b) && b->comm == a->comm) || (is_message(b) && are_of_family(a, b)) || is_failure(b) ||
+           (is_end_of_receive(b) && b->comm == a->comm && (b->by == at || at == BEFORE));
+}
+
+static bool is_before_failure(const struct footprint *a, const struct footprint *b) {
+    if (!is_failure(b)) return false;
+    bool pends = a->kind == TESTS && a->answer == ULFM_PENDING, has_found = a->kind == PROBES && !(a->flags & IN_VAIN);
+    return (is_call(a) && a->fails & b->fails && !pends && !has_found) || has_silent(a, -1, b->source);
+}
+
+static bool is_after_failure(const struct footprint *a, int at, const struct footprint *b) {
+    if (!is_failure(a) || !is_call(b)) return false;
+    bool made_possible = is_poll(b) && !((b->listed | b->by_entries) & a->fails);
+    return b->fails & a->fails || made_possible || (is_end_of_receive(b) && (b->by == at || (at == BEFORE && b->source == a->source)));
+}
+
+static bool is_before_message(const struct footprint *a, const struct footprint *b) {
+    if (!is_message(b)) return false;
+    int use = wildcards->use[b->rank][b->comm], tag = wildcards->tag[b->rank][b->comm];
+    bool is_look = a->kind == TESTS || a->kind == CANCELS || a->kind == PROBES, is_same = a->comm == b->comm;
+    if (is_look && a->flags & IN_VAIN && is_same && covers(a->source, b->source) && has_tag(a->tag, b->tag)) return true;
+    if (has_silent(a, b->comm, b->source)) return true;
+    if (use && is_message(a) && is_same && (use == MANY_ANY || (has_tag(tag, a->tag) && has_tag(tag, b->tag)))) return true;
+    return use == MANY_ANY && uses_messages(a) && is_same;
+}
+
+static bool is_after_message(const struct footprint *a, int at, const struct footprint *b) {
+    if (!is_message(a) || !is_call(b) || a->comm != b->comm) return false;
+    if (is_end_of_receive(b) && (b->by == at || (at == BEFORE && covers(b->source, a->source)))) return true;
+    if (b->kind == PROBES && covers(b->source, a->source) && has_tag(b->tag, a->tag)) return true;
+    return wildcards->use[a->rank][a->comm] == MANY_ANY && uses_messages(b);
+}
+
+static bool are_entry_and_poll(const struct footprint *a, const struct footprint *b) {
+    return a->topic == b->topic && ((is_entry(a) && is_poll(b)) || (is_entry(b) && is_poll(a)));
+}
+
+/* Whether a, of the number `at`, and a later event of another process don't commute. */
+bool is_dependent(const struct footprint *a, int at, const struct footprint *b) {
+    bool have_found = a->flags & b->flags & FOUND;
+    if (a->kind == LOSES || b->kind == LOSES) return false;   /* these are no races: see keep_nodes */
+    if (a->rank != b->rank) return is_poll(a) && is_poll(b) && a->topic == b->topic && have_found && a->proposal != b->proposal;
+    if (is_silent_before(a, b)) return true;
+    if (a->comm == b->comm && is_revoker(a) && is_revoker(b) && (is_revocation(a) || is_revocation(b))) return (a->flags | b->flags) & REVOKED_FIRST;
+    return is_before_revocation(a, b) || is_after_revocation(a, at, b) || is_before_failure(a, b) || is_after_failure(a, at, b) ||
+           is_before_message(a, b) || is_after_message(a, at, b) || are_entry_and_poll(a, b);
+}
+
+/* Whether both are of one ring: an item is taken, and what is behind is lost. */
+static bool are_of_ring(const struct footprint *a, const struct footprint *b) {
+    return ((a->kind == LOSES && b->kind == TAKES) || (a->kind == TAKES && b->kind == LOSES)) && a->rank == b->rank && a->source == b->source;
+}
+
+bool do_commute(const struct footprint *a, const struct footprint *b) {
+    return !are_of_ring(a, b) && a->process != b->process && !is_dependent(a, BEFORE, b) && !is_dependent(b, BEFORE, a);
+}
+
+/* Whether b couldn't be without a: then they are no race. */
+bool is_needed(const struct footprint *a, const struct footprint *b) {
+    if (b->kind == ASKS_REVOKED && b->waits && is_revoker(a)) return true;
+    if (!is_poll(b) || !(b->flags & FOUND) || a->rank != b->rank) return false;
+    if (is_entry(a) && a->topic == b->topic) return !(b->excluded >> a->source & 1);
+    return is_failure(a) && !((b->listed | b->by_entries) & a->fails);
+}
+
+/* A rank receives or probes twice otherwise than by one receive from any source: with a tag of its own, by name, or by probes. */
+static bool differs(const struct footprint *e, const struct footprint *other, int tag) {
+    bool is_same = (other->kind == POSTS || other->kind == PROBES) && other->rank == e->rank && other->comm == e->comm;
+    return is_same && (!(other->flags & OF_ANY) || other->tag != tag || other->kind == PROBES);
+}
+
+/* Learns which receives name no source, from the events that were run. Whether it learnt something: then the search begins anew. */
+bool learn_wildcards(int count) {
+    bool has_learnt = false;
+    for (int j = 0; j < count; j++) {
+        const struct footprint *e = &footprints[j];
+        if (e->kind != POSTS && e->kind != PROBES) continue;
+        int *use = &wildcards->use[e->rank][e->comm], *tag = &wildcards->tag[e->rank][e->comm];
+        if (e->flags & OF_ANY && *use == NAMED_ALONE) {
+            *use = ONE_ANY;
+            *tag = e->tag;
+            has_learnt = true;
+            for (int k = 0; k < count; k++)
+                if (differs(e, &footprints[k], e->tag)) *use = MANY_ANY;
+        } else if (*use == ONE_ANY && differs(e, e, *tag)) {
+            *use = MANY_ANY;
+            has_learnt = true;
+        }
+    }
+    return has_learnt;
+}

@@ -1,0 +1,58 @@
+/* Which event pushed what is in the ring from each rank to each. */
+#include "search/search.h"
+
+/* The events that pushed what is in a ring. */
+struct ring {
+    int16_t *at;
+    int first, count;
+    int taken_at_stop, count_at_stop;   /* where its sender stopped */
+};
+static struct ring rings[MAX_RANKS][MAX_RANKS];
+
+void note_push(int from, int to) {
+    struct ring *ring = &rings[from][to];
+    if (grow(&ring->at, ring->count, sizeof *ring->at)) ring->at[ring->count++] = (int16_t)step;
+}
+
+int count_of_pushed(int from, int to) { return rings[from][to].count; }
+
+/* How much a rank had sent to another one when it stopped, and how much of it was taken. */
+int count_at_stop(int from, int to, int *taken) {
+    *taken = rings[from][to].taken_at_stop;
+    return rings[from][to].count_at_stop;
+}
+
+/* To all but those that are known to have failed. */
+void push_to_all(int from, uint32_t members) {
+    for (int k = 0; k < options.ranks; k++)
+        if (k != from && members >> k & 1 && !knows_failed(from, k)) note_push(from, k);
+}
+
+/* An item is taken: the event that pushed it. */
+int16_t pull(int from, int to) {
+    struct ring *ring = &rings[from][to];
+    return ring->first < ring->count ? ring->at[ring->first++] : NO_STEP;
+}
+
+/* The event that sent the first item that is lost; NO_STEP: none is. */
+int first_lost(int from, int to) {
+    const struct ring *ring = &rings[from][to];
+    return ring->first < ring->count - 1 ? ring->at[ring->first] : NO_STEP;
+}
+
+/* All is lost but word of the failure: the event that pushed that. */
+int16_t lose(int from, int to) {
+    struct ring *ring = &rings[from][to];
+    if (ring->count) ring->first = ring->count - 1;
+    return ring->count ? ring->at[ring->first] : NO_STEP;
+}
+
+void end_stop(void) {
+    int rank = footprints[step].rank;
+    for (int to = 0; to < options.ranks; to++) {
+        struct ring *ring = &rings[rank][to];
+        ring->taken_at_stop = ring->first;
+        ring->count_at_stop = ring->count;
+    }
+    push_to_all(rank, UINT32_MAX);
+}

@@ -1,0 +1,110 @@
+/* All schedules of a played run, up to the order of events that commute: what an event reads and changes, which events commute, and the search. */
+#ifndef ULFM_MPI_SEARCH_H
+#define ULFM_MPI_SEARCH_H
+
+#include "play/play.h"
+
+/* Who may go on next: a rank, by its number, the ring from one rank to another one, by 8 + 8 times the one + the other, or the loss of what is in it. */
+typedef unsigned __int128 processes;
+enum { LOSSES = MAX_RANKS + MAX_RANKS * MAX_RANKS, PROCESSES = LOSSES + MAX_RANKS * (MAX_RANKS - 1), MOST_STEPS = 12000, ANYBODY = -1, NO_STEP = -1, SILENT = 4, TOO_MANY = 255 };
+static inline processes bit_of(int process) { return (processes)1 << process; }
+static inline bool is_in(processes set, int process) { return set >> process & 1; }
+
+/* What an event saw or did. */
+enum {
+    SAW_NO_REVOCATION = 1,   /* the communicator wasn't known to be revoked */
+    REVOKED_FIRST = 2,       /* the revocation wasn't known */
+    ASKED = 4,               /* a look outside of a wait */
+    IN_VAIN = 8,
+    OF_ANY = 16,             /* a receive or a probe from any source */
+    FOUND = 32
+};
+
+/* A look in vain. */
+struct silence {
+    int8_t comm, source;
+    bool is_message;
+};
+
+/* What an event reads and changes. */
+struct footprint {
+    uint8_t process, rank, kind, item, flags;
+    uint8_t fails;           /* bits of ranks: whose failure it reads, or of word of a failure whose it is */
+    uint8_t excluded, listed, by_entries;   /* of a poll that finds: who is left out, who entered, who failed by what entries say; bits */
+    uint8_t other;           /* the other rank */
+    int8_t comm, source;     /* source: the named one, or the sender; ANYBODY */
+    uint8_t silent_count;
+    bool waits;              /* a look in a wait */
+    int16_t pushed, by, found;   /* the events that pushed its item, that ended its request, by which the message came that its probe found */
+    int32_t tag;
+    struct silence silent[SILENT];   /* looks in vain of the wait that it ends */
+    uint32_t topic, answer;  /* topic: of shrinks and agreements */
+    uint64_t proposal;       /* of a poll: what tells its own proposal from others */
+};
+
+/* A decision as a rank would propose it. */
+struct proposal {
+    uint8_t all, listed, excluded, by_entries;
+    uint32_t value;
+    int round;
+    bool is_possible;
+};
+
+/* Why a schedule isn't played to its end. */
+enum cut { NOT_CUT, ASLEEP, MEETS_LOSS, NOT_THE_SAME };
+enum search_step { SEARCH_GOES_ON, SEARCH_IS_OVER, SEARCH_BEGINS_ANEW, SEARCH_FAILED };
+
+/* search.c */
+bool begin_search(void);
+void begin_searched(void);
+int choose_by_search(const struct event *choices, int count);
+bool note_step(void);
+enum cut cut_of_search(void);
+void tell_not_same(void);
+enum search_step end_searched(void);
+
+/* heard.c */
+struct proposal proposal_of(int rank, uint32_t comm, bool agrees);
+
+/* rings.c */
+void note_push(int from, int to);
+void push_to_all(int from, uint32_t members);
+int16_t pull(int from, int to);
+int16_t lose(int from, int to);
+int first_lost(int from, int to);
+int count_of_pushed(int from, int to);
+int count_at_stop(int from, int to, int *taken);
+
+/* footprint.c: each `end_` after the call of its kind; `footprints` is null where none are kept. */
+extern struct footprint *footprints;   /* of the present schedule's events */
+extern int step;                       /* the number of the present event */
+static inline int ring_of(int from, int to) { return MAX_RANKS + MAX_RANKS * from + to; }
+static inline int loss_of(int from, int to) { return LOSSES + (MAX_RANKS - 1) * from + to - (to > from); }
+static inline int process_of(const struct event *event) {
+    if (event->kind == LOSES) return loss_of(event->peer, event->rank);
+    return event->kind == TAKES ? ring_of(event->peer, event->rank) : event->rank;
+}
+uint32_t topic_of(uint32_t comm, bool agrees, int round);
+void begin_footprint(const struct event *event);
+void note_taken(const struct event *event, bool was_revoked);
+void forget_silent(int rank);
+void note_silent(const struct event *call);
+void begin_call(const struct event *call);
+void end_send(uint32_t dest, uint32_t code);
+void end_post(uint32_t source, uint64_t id, uint32_t code);
+void end_look(uint64_t id, uint32_t code, const ulfm_status *status);
+void end_probe(uint32_t source, uint32_t code, bool takes);
+void end_revoke(bool was_revoked);
+void end_question(uint32_t answer);
+void end_entry(bool agrees, uint32_t flag, uint32_t code);
+void end_poll(bool agrees, const struct proposal *proposal, uint32_t answer);
+void end_stop(void);
+
+/* commute.c */
+bool do_commute(const struct footprint *a, const struct footprint *b);
+bool is_dependent(const struct footprint *a, int at, const struct footprint *b);
+bool is_needed(const struct footprint *a, const struct footprint *b);
+bool learn_wildcards(int count);
+bool begin_commute(void);
+
+#endif

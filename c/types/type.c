@@ -1,0 +1,255 @@
+/* Datatypes (MPI 4.0, 3.2.2 and 5.1): what a type is, its handle, sizes and counts. derived.c makes new ones, pack.c moves their data. */
+#include "types/type.h"
+#include <limits.h>
+#include <stdlib.h>
+#include <string.h>
+#include <wchar.h>
+
+enum { FIRST_OWN = 64, FIRST_PAIR = 30, FIRST_COMPLEX = 36, LOWER_MARK = 39, UPPER_MARK = 40, BASIC = BASIC_TYPES };
+
+#define PAIR(first) {sizeof(first), sizeof(struct { first value; int place; })}
+static const size_t sizes[FIRST_PAIR] = {0, 1, 1, 1, 1, 1, sizeof(short), sizeof(short), sizeof(int), sizeof(int), sizeof(long), sizeof(long),
+                                         sizeof(long long), sizeof(long long), sizeof(float), sizeof(double), sizeof(long double), sizeof(wchar_t),
+                                         sizeof(_Bool), 1, 2, 4, 8, 1, 2, 4, 8, sizeof(MPI_Aint), sizeof(MPI_Offset), sizeof(MPI_Count)};
+/* Of pairs (6.9.4): the bytes of the value, and of the pair in memory. */
+static const size_t pairs[FIRST_COMPLEX - FIRST_PAIR][2] = {PAIR(float), PAIR(double), PAIR(long), PAIR(int), PAIR(short), PAIR(long double)};
+static const size_t parts_of_complex[LOWER_MARK - FIRST_COMPLEX] = {sizeof(float), sizeof(double), sizeof(long double)};
+static struct type basics[BASIC];
+static struct block basic_blocks[BASIC][2];
+static pthread_once_t once = PTHREAD_ONCE_INIT;
+
+static struct block block_at(size_t at, size_t element, size_t alignment, enum external external) {
+    return (struct block){(ptrdiff_t)at, 1, 0, 0, element, (uint32_t)element, (uint32_t)alignment, external};
+}
+
+/* Of the value of a type (14.5.2). */
+static enum external external_of(uintptr_t number) {
+    MPI_Datatype type = (MPI_Datatype)number;
+    if (type == MPI_LONG || type == MPI_LONG_INT) return sizeof(long) == 8 ? HALF : SAME;
+    if (type == MPI_UNSIGNED_LONG) return sizeof(long) == 8 ? UNSIGNED_HALF : SAME;
+    if (type == MPI_WCHAR) return sizeof(wchar_t) == 4 ? UNSIGNED_HALF : SAME;
+    return type == MPI_LONG_DOUBLE || type == MPI_LONG_DOUBLE_INT || type == MPI_C_LONG_DOUBLE_COMPLEX ? QUAD : SAME;
+}
+
+static void make_basics(void) {
+    for (int k = 1; k < LOWER_MARK; k++) {
+        struct block *block = basic_blocks[k];
+        bool is_complex = k >= FIRST_COMPLEX, is_pair = k >= FIRST_PAIR && !is_complex;
+        size_t part = is_complex ? parts_of_complex[k - FIRST_COMPLEX] : is_pair ? pairs[k - FIRST_PAIR][0] : sizes[k];
+        size_t first = is_complex ? 2 * part : part, whole = is_pair ? pairs[k - FIRST_PAIR][1] : first;
+        enum external external = external_of((uintptr_t)k);
+        block[0] = block_at(0, first, part, external);
+        block[1] = block_at(first < sizeof(int) ? sizeof(int) : first, sizeof(int), sizeof(int), SAME);
+        basics[k] = (struct type){.users = 1, .is_committed = true, .is_basic = true, .size = is_pair ? first + sizeof(int) : first,
+                                  .upper = (ptrdiff_t)whole, .blocks = is_pair ? 2 : 1, .block = block,
+                                  .base = (MPI_Datatype)(uintptr_t)k};
+        basics[k].is_plain = basics[k].size == whole;
+        basics[k].elements = basics[k].blocks;
+        basics[k].most = is_pair ? block[1].at + (ptrdiff_t)block[1].length : (ptrdiff_t)first;
+        basics[k].alignment = (uint32_t)(is_pair && part < sizeof(int) ? sizeof(int) : part);
+        basics[k].external = (external == HALF || external == UNSIGNED_HALF ? first / 2 : external == QUAD ? first / part * 16 : first) + (is_pair ? sizeof(int) : 0);
+    }
+    for (int k = LOWER_MARK; k <= UPPER_MARK; k++)
+        basics[k] = (struct type){.users = 1, .is_committed = true, .is_basic = true, .is_plain = true, .alignment = 1,
+                                  .has_lower = k == LOWER_MARK, .has_upper = k == UPPER_MARK};
+}
+
+struct type *type_at(MPI_Datatype handle) {
+    uintptr_t number = (uintptr_t)handle;
+    pthread_once(&once, make_basics);
+    if (number < BASIC) return number ? &basics[number] : 0;
+    return number >= FIRST_OWN && number - FIRST_OWN < (uintptr_t)me->type_count ? me->types[number - FIRST_OWN] : 0;
+}
+
+void free_type(struct type *type) {
+    if (type->is_basic || --type->users > 0) return;
+    for (size_t k = 0; k < type->blocks; k++)
+        if (type->block[k].of) free_type(type->block[k].of);
+    free(type->block);
+    free_recipe(type->recipe);
+    free_attributes(type->attributes);
+    free(type);
+}
+
+MPI_Datatype handle_of_basic(const struct type *type) { return (MPI_Datatype)(uintptr_t)(type - basics); }
+
+int add_type(struct type *type, MPI_Datatype *made) {
+    int place = 0;
+    if (!type) return MPI_ERR_NO_MEM;
+    while (place < me->type_count && me->types[place]) place++;
+    if (place == me->type_count) {
+        if (!grow(&me->types, place, sizeof *me->types)) {
+            free_type(type);
+            return MPI_ERR_NO_MEM;
+        }
+        me->type_count++;
+    }
+    me->types[place] = type;
+    *made = (MPI_Datatype)(uintptr_t)(FIRST_OWN + place);
+    if (!type->handle) type->handle = *made;
+    return MPI_SUCCESS;
+}
+
+/* Another handle of a type, which stays when the program frees its own; MPI_DATATYPE_NULL where there is no memory. */
+MPI_Datatype keep_type(MPI_Datatype handle) {
+    struct type *type = type_at(handle);
+    MPI_Datatype kept = MPI_DATATYPE_NULL;
+    if (type->is_basic) return handle;
+    type->users++;
+    return add_type(type, &kept) == MPI_SUCCESS ? kept : MPI_DATATYPE_NULL;
+}
+
+void drop_type(MPI_Datatype handle) {
+    struct type *type = type_at(handle);
+    if (!type || type->is_basic) return;
+    me->types[(uintptr_t)handle - FIRST_OWN] = 0;
+    free_type(type);
+}
+
+bool is_basic_type(MPI_Datatype handle) {
+    const struct type *type = type_at(handle);
+    return type && type->is_basic;
+}
+
+/* The type of messages of so many elements, and their bytes; or null, and why they can't be. */
+const struct type *check_type(int count, MPI_Datatype handle, size_t *bytes, int *code) {
+    const struct type *type = type_at(handle);
+    *bytes = 0;
+    *code = count < 0 ? MPI_ERR_COUNT : !type || !type->is_committed ? MPI_ERR_TYPE : MPI_SUCCESS;
+    if (*code != MPI_SUCCESS) return 0;
+    *bytes = (size_t)count * type->size;
+    return type;
+}
+
+bool check_buffer(int count, MPI_Datatype type, size_t *bytes, int *code) { return check_type(count, type, bytes, code) != 0; }
+
+int MPI_Type_size(MPI_Datatype type, int *size) {
+    ENTER_LOOK(0, MPI_UNDEFINED, MPI_UNDEFINED);
+    const struct type *of = type_at(type);
+    if (!of) return fail(0, MPI_ERR_TYPE);
+    WRITES(0, size);
+    *size = of->size > INT_MAX ? MPI_UNDEFINED : (int)of->size;
+    return MPI_SUCCESS;
+}
+
+/* Where what a type takes begins, and how many bytes that is: of its extent, or of its data alone (5.1.7, 5.1.8). */
+static int tell_extent(MPI_Datatype type, bool is_true, bool has_room, MPI_Count *lower, MPI_Count *extent) {
+    const struct type *of = type_at(type);
+    if (!of) return fail(0, MPI_ERR_TYPE);
+    WRITES(0, has_room);
+    ptrdiff_t least = of->lower, most = least + extent_of(of);
+    if (is_true) least = of->least, most = of->most;
+    *lower = least;
+    *extent = most - least;
+    return MPI_SUCCESS;
+}
+
+int MPI_Type_get_extent(MPI_Datatype type, MPI_Aint *lower, MPI_Aint *extent) {
+    ENTER_LOOK(0, MPI_UNDEFINED, MPI_UNDEFINED);
+    MPI_Count from = 0, bytes = 0;
+    int code = tell_extent(type, false, lower && extent, &from, &bytes);
+    if (code != MPI_SUCCESS) return code;
+    *lower = (MPI_Aint)from;
+    *extent = (MPI_Aint)bytes;
+    return MPI_SUCCESS;
+}
+
+int MPI_Type_get_true_extent(MPI_Datatype type, MPI_Aint *lower, MPI_Aint *extent) {
+    ENTER_LOOK(0, MPI_UNDEFINED, MPI_UNDEFINED);
+    MPI_Count from = 0, bytes = 0;
+    int code = tell_extent(type, true, lower && extent, &from, &bytes);
+    if (code != MPI_SUCCESS) return code;
+    *lower = (MPI_Aint)from;
+    *extent = (MPI_Aint)bytes;
+    return MPI_SUCCESS;
+}
+
+int MPI_Type_size_x(MPI_Datatype type, MPI_Count *size) {
+    ENTER_LOOK(0, MPI_UNDEFINED, MPI_UNDEFINED);
+    const struct type *of = type_at(type);
+    if (!of) return fail(0, MPI_ERR_TYPE);
+    WRITES(0, size);
+    *size = (MPI_Count)of->size;
+    return MPI_SUCCESS;
+}
+
+int MPI_Type_get_extent_x(MPI_Datatype type, MPI_Count *lower, MPI_Count *extent) {
+    ENTER_LOOK(0, MPI_UNDEFINED, MPI_UNDEFINED);
+    return tell_extent(type, false, lower && extent, lower, extent);
+}
+
+int MPI_Type_get_true_extent_x(MPI_Datatype type, MPI_Count *lower, MPI_Count *extent) {
+    ENTER_LOOK(0, MPI_UNDEFINED, MPI_UNDEFINED);
+    return tell_extent(type, true, lower && extent, lower, extent);
+}
+
+/* Of MPI-1 (17.1). */
+int MPI_Type_extent(MPI_Datatype type, MPI_Aint *extent) {
+    ENTER_LOOK(0, MPI_UNDEFINED, MPI_UNDEFINED);
+    MPI_Count lower = 0, bytes = 0;
+    int code = tell_extent(type, false, extent, &lower, &bytes);
+    if (code == MPI_SUCCESS) *extent = (MPI_Aint)bytes;
+    return code;
+}
+
+int MPI_Type_lb(MPI_Datatype type, MPI_Aint *lower) {
+    ENTER_LOOK(0, MPI_UNDEFINED, MPI_UNDEFINED);
+    MPI_Count from = 0, bytes = 0;
+    int code = tell_extent(type, false, lower, &from, &bytes);
+    if (code == MPI_SUCCESS) *lower = (MPI_Aint)from;
+    return code;
+}
+
+int MPI_Type_ub(MPI_Datatype type, MPI_Aint *upper) {
+    ENTER_LOOK(0, MPI_UNDEFINED, MPI_UNDEFINED);
+    MPI_Count from = 0, bytes = 0;
+    int code = tell_extent(type, false, upper, &from, &bytes);
+    if (code == MPI_SUCCESS) *upper = (MPI_Aint)(from + bytes);
+    return code;
+}
+
+int MPI_Type_commit(MPI_Datatype *type) {
+    ENTER_LOOK(0, MPI_UNDEFINED, MPI_UNDEFINED);
+    struct type *of = type ? type_at(*type) : 0;
+    if (!of) return fail(0, MPI_ERR_TYPE);
+    if (!of->is_basic) of->is_committed = true;
+    return MPI_SUCCESS;
+}
+
+/* Receives that are open keep what they need of it (5.1.9). */
+int MPI_Type_free(MPI_Datatype *type) {
+    ENTER_LOOK(0, MPI_UNDEFINED, MPI_UNDEFINED);
+    struct type *of = type ? type_at(*type) : 0;
+    if (!of || of->is_basic) return fail(0, MPI_ERR_TYPE);
+    int code = of->handle == *type ? delete_type_attributes(*type) : MPI_SUCCESS;
+    if (code != MPI_SUCCESS) return fail(0, code);
+    drop_type(*type);
+    *type = MPI_DATATYPE_NULL;
+    return MPI_SUCCESS;
+}
+
+int MPI_Get_count(const MPI_Status *status, MPI_Datatype type, int *count) {
+    ENTER_LOOK(0, MPI_UNDEFINED, MPI_UNDEFINED);
+    const struct type *of = type_at(type);
+    if (!of) return fail(0, MPI_ERR_TYPE);
+    WRITES(0, status && count);
+    size_t bytes = status->bytes, whole = of->size ? bytes / of->size : 0;
+    *count = whole * of->size == bytes && whole <= INT_MAX ? (int)whole : MPI_UNDEFINED;
+    return MPI_SUCCESS;
+}
+
+void clear_types(void) {
+    for (int k = 0; k < me->type_count; k++)
+        if (me->types[k]) free_type(me->types[k]);
+    clear_basic_attributes();
+    free(me->types);
+    free(me->type_names);
+    me->types = 0;
+    me->type_names = 0;
+    me->type_count = 0;
+}
+
+/* By the names of MPI 4.0. */
+ALSO(MPI_Type_size_c, MPI_Type_size_x);
+ALSO(MPI_Type_get_extent_c, MPI_Type_get_extent_x);
+ALSO(MPI_Type_get_true_extent_c, MPI_Type_get_true_extent_x);

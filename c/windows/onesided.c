@@ -1,0 +1,193 @@
+/* What is asked of windows (MPI 4.0, 12.3): it is written down, with its data, and goes out in the next fence. Whether it can be is known here, by the sizes
+   of all windows. */
+#include "windows/window.h"
+#include <stdlib.h>
+#include <string.h>
+
+/* Data of the caller, or of the target's window. */
+struct data {
+    const void *buffer;
+    int count;
+    MPI_Datatype type;
+};
+
+struct target {
+    int rank;
+    MPI_Aint disp;
+    struct data data;
+};
+
+/* Writes runs of bytes down. */
+struct writing {
+    struct pile *pile;
+    size_t first;      /* where the runs begin in it */
+    size_t runs, limit;
+    const struct type *element;   /* where each is a run of its own, whatever blocks it has */
+    size_t blocks;                /* of elements that were seen */
+    int code;
+};
+
+static bool write_run(void *of, ptrdiff_t at, const struct block *block) {
+    struct writing *writing = of;
+    const struct type *element = writing->element;
+    size_t length = element ? element->size : block->length, reach = element ? (size_t)element->most : length;
+    if (element && writing->blocks++ % element->blocks) return true;
+    if (at < 0 || (size_t)at > writing->limit || reach > writing->limit - (size_t)at) writing->code = MPI_ERR_RMA_RANGE;
+    struct run *runs = (struct run *)(writing->pile->bytes + writing->first), *last = writing->runs && !element ? runs + writing->runs - 1 : 0;
+    if (last && last->at + last->length == (size_t)at) {
+        last->length += length;
+        return writing->code == MPI_SUCCESS;
+    }
+    struct run *run = extend(writing->pile, sizeof *run);
+    if (!run) writing->code = MPI_ERR_NO_MEM;
+    else *run = (struct run){(size_t)at, length}, writing->runs++;
+    return writing->code == MPI_SUCCESS;
+}
+
+/* Writes down the bytes of a window that data take there. */
+static int write_runs(const struct window *window, const struct target *target, struct writing *writing) {
+    const struct type *type = type_at(target->data.type);
+    ptrdiff_t at, extent = extent_of(type);
+    if (__builtin_mul_overflow(target->disp, window->units[target->rank], &at)) return MPI_ERR_DISP;
+    writing->limit = (size_t)window->sizes[target->rank];
+    for (int k = 0; k < target->data.count && writing->code == MPI_SUCCESS; k++) each_run(type, at + k * extent, write_run, writing);
+    return writing->code;
+}
+
+/* Writes data down: in one piece, or as elements lie in memory. */
+static int write_data(struct pile *pile, const struct data *data, const struct type *element, size_t *written) {
+    struct type *type = type_at(data->type);
+    size_t bytes = (size_t)data->count * type->size, count = element ? bytes / element->size : 0;
+    *written = element ? count * (size_t)extent_of(element) : bytes;
+    char *place = extend(pile, *written), *packed = element ? malloc(bytes + 1) : place;
+    int code = place && packed ? MPI_SUCCESS : MPI_ERR_NO_MEM;
+    if (code == MPI_SUCCESS) move_data(type, data->count, (void *)(uintptr_t)data->buffer, packed, bytes, true);
+    if (code == MPI_SUCCESS && element) move_data(element, (int)count, place, packed, bytes, false);
+    if (element) free(packed);
+    return code;
+}
+
+/* Notes where what is got goes. */
+static int add_result(struct window *window, int from, const struct data *data, size_t bytes) {
+    struct result *results = realloc(window->results, ((size_t)window->result_count + 1) * sizeof *results);
+    if (!results) return MPI_ERR_NO_MEM;
+    window->results = results;
+    MPI_Datatype kept = keep_type(data->type);
+    if (kept == MPI_DATATYPE_NULL) return MPI_ERR_NO_MEM;
+    results[window->result_count++] = (struct result){from, (void *)(uintptr_t)data->buffer, data->count, kept, bytes};
+    return MPI_SUCCESS;
+}
+
+/* Why data can't be asked for or given, or MPI_SUCCESS; and their bytes. */
+static int check_data(const struct data *data, bool has_buffer, size_t *bytes) {
+    int code;
+    if (!check_buffer(data->count, data->type, bytes, &code)) return code;
+    return has_buffer && !is_buffer(data->buffer, *bytes, data->type) ? MPI_ERR_BUFFER : MPI_SUCCESS;
+}
+
+/* Why it can't be done, or MPI_SUCCESS; and the bytes. `given` and `got` may be null. */
+static int check(const struct window *window, const struct data *given, const struct data *got, const struct target *target, size_t *bytes) {
+    size_t other;
+    if (target->rank != MPI_PROC_NULL && (target->rank < 0 || target->rank >= window->comm->size)) return MPI_ERR_RANK;
+    if (!window->is_open) return MPI_ERR_RMA_SYNC;
+    int code = check_data(&target->data, false, bytes);
+    for (int k = 0; k < 2 && code == MPI_SUCCESS; k++) {
+        const struct data *data = k ? got : given;
+        if (!data) continue;
+        code = check_data(data, true, &other);
+        if (code == MPI_SUCCESS && other != *bytes) code = MPI_ERR_TRUNCATE;
+    }
+    if (code == MPI_SUCCESS && target->rank != MPI_PROC_NULL && target->disp < 0) code = MPI_ERR_DISP;
+    return code;
+}
+
+/* Writes all down, or nothing. */
+static int write_down(struct window *window, struct deed deed, const struct data *given, const struct data *got, const struct target *target, size_t bytes) {
+    struct pile *pile = &window->asked[target->rank];
+    size_t before = pile->length;
+    const struct type *base = type_at((MPI_Datatype)(uintptr_t)deed.base);
+    const struct type *element = base && !base->is_plain ? base : 0;
+    int code = extend(pile, sizeof deed) ? MPI_SUCCESS : MPI_ERR_NO_MEM;
+    struct writing writing = {.pile = pile, .first = pile->length, .element = element};
+    if (code == MPI_SUCCESS) code = write_runs(window, target, &writing);
+    if (code == MPI_SUCCESS && given) code = write_data(pile, given, element, &deed.bytes);
+    if (code == MPI_SUCCESS && got) code = add_result(window, target->rank, got, bytes);
+    deed.runs = writing.runs;
+    deed.by_element = element != 0;
+    if (code == MPI_SUCCESS) memcpy(pile->bytes + before, &deed, sizeof deed);
+    else pile->length = before;
+    return code;
+}
+
+/* Asks for it in the next fence. Of a swap two values are given. */
+static int ask(MPI_Win win, struct window *window, struct deed deed, const struct data *given, const struct data *got, const struct target *target) {
+    size_t bytes = 0;
+    me->place.peer = target->rank;
+    int code = check(window, deed.what == SWAP ? 0 : given, got, target, &bytes);
+    if (code == MPI_SUCCESS && bytes && target->rank != MPI_PROC_NULL) code = write_down(window, deed, given, got, target, bytes);
+    return fail_window(window, win, code);
+}
+
+/* The basic type that a fold is of, in `deed`: one for all data (12.3.4), and an operation of MPI for it. */
+static int base_of(MPI_Op op, MPI_Datatype type, struct deed *deed) {
+    if (!type_at(type)) return MPI_ERR_TYPE;
+    deed->base = (uint32_t)(uintptr_t)type_at(type)->base;
+    deed->op = (uint32_t)(uintptr_t)op;
+    if (!deed->base) return MPI_ERR_TYPE;
+    if (op == MPI_REPLACE || op == MPI_NO_OP) return MPI_SUCCESS;
+    return is_basic_op(op) ? check_op(op, (MPI_Datatype)(uintptr_t)deed->base) : MPI_ERR_OP;
+}
+
+int MPI_Put(const void *buf, int count, MPI_Datatype type, int target, MPI_Aint disp, int targetcount, MPI_Datatype targettype, MPI_Win win) {
+    WINDOW(win, true);
+    struct target there = {target, disp, {0, targetcount, targettype}};
+    return ask(win, of, (struct deed){.what = PUT}, &(struct data){buf, count, type}, 0, &there);
+}
+
+int MPI_Get(void *buf, int count, MPI_Datatype type, int target, MPI_Aint disp, int targetcount, MPI_Datatype targettype, MPI_Win win) {
+    WINDOW(win, true);
+    struct target there = {target, disp, {0, targetcount, targettype}};
+    return ask(win, of, (struct deed){.what = GET}, 0, &(struct data){buf, count, type}, &there);
+}
+
+int MPI_Accumulate(const void *buf, int count, MPI_Datatype type, int target, MPI_Aint disp, int targetcount, MPI_Datatype targettype, MPI_Op op,
+                   MPI_Win win) {
+    WINDOW(win, true);
+    struct target there = {target, disp, {0, targetcount, targettype}};
+    struct deed deed = {.what = FOLD};
+    int code = base_of(op, targettype, &deed);
+    return code != MPI_SUCCESS ? fail_window(of, win, code) : ask(win, of, deed, &(struct data){buf, count, type}, 0, &there);
+}
+
+int MPI_Get_accumulate(const void *buf, int count, MPI_Datatype type, void *result, int resultcount, MPI_Datatype resulttype, int target, MPI_Aint disp,
+                       int targetcount, MPI_Datatype targettype, MPI_Op op, MPI_Win win) {
+    WINDOW(win, true);
+    struct target there = {target, disp, {0, targetcount, targettype}};
+    struct deed deed = {.what = GET_AND_FOLD};
+    int code = base_of(op, targettype, &deed);
+    if (code != MPI_SUCCESS) return fail_window(of, win, code);
+    return ask(win, of, deed, op == MPI_NO_OP ? 0 : &(struct data){buf, count, type}, &(struct data){result, resultcount, resulttype}, &there);
+}
+
+int MPI_Fetch_and_op(const void *buf, void *result, MPI_Datatype type, int target, MPI_Aint disp, MPI_Op op, MPI_Win win) {
+    WINDOW(win, true);
+    struct target there = {target, disp, {0, 1, type}};
+    struct deed deed = {.what = GET_AND_FOLD};
+    int code = is_basic_type(type) ? base_of(op, type, &deed) : MPI_ERR_TYPE;
+    if (code != MPI_SUCCESS) return fail_window(of, win, code);
+    return ask(win, of, deed, op == MPI_NO_OP ? 0 : &(struct data){buf, 1, type}, &(struct data){result, 1, type}, &there);
+}
+
+/* Its data are the new value, and behind it the one that has to be there. */
+int MPI_Compare_and_swap(const void *buf, const void *compare, void *result, MPI_Datatype type, int target, MPI_Aint disp, MPI_Win win) {
+    WINDOW(win, true);
+    enum { MOST = 2 * ALIGNED };
+    char both[MOST];
+    struct target there = {target, disp, {0, 1, type}};
+    if (!is_basic_type(type) || type_at(type)->size > ALIGNED) return fail_window(of, win, MPI_ERR_TYPE);
+    if (!buf || !compare) return fail_window(of, win, MPI_ERR_BUFFER);
+    size_t size = type_at(type)->size;
+    memcpy(both, buf, size);
+    memcpy(both + size, compare, size);
+    return ask(win, of, (struct deed){.what = SWAP}, &(struct data){both, (int)(2 * size), MPI_BYTE}, &(struct data){result, 1, type}, &there);
+}
