@@ -147,7 +147,7 @@ def main(folder):
     declared, code = made()
     (folder / "include").mkdir(parents=True, exist_ok=True)
     (folder / "include/ulfm_mpi_made.h").write_text(f"{HEADER}{declared}\n#endif\n")
-    (folder / "made.c").write_text(f'/* Written by c/calls.py, of the calls that these repeat. */\n#include "mpi/graph.h"\n#include "mpi/large.h"\n#include "collective/repeated.h"\n\n{code}')
+    (folder / "made.c").write_text(f'/* Written by c/calls.py, of the calls that these repeat. */\n#include "collective/collective.h"\n#include "collective/repeated.h"\n#include "mpi/graph.h"\n#include "mpi/large.h"\n\n{code}')
 
 
 main(pathlib.Path(sys.argv[1]))

@@ -1,7 +1,10 @@
 /* What collectives are made of: messages on the hidden context, each with the number of its collective in its tag. A rank waits for a message of
    another one until it comes, or that rank is known to have failed, or the program's communicator is known to be revoked. So a collective in which
    a member failed ends at each member that makes it: at some by success, at others by MPIX_ERR_PROC_FAILED (ULFM). */
+#include "collective/collective.h"
 #include "engine/body.h"
+#include "progress/progress.h"
+#include "types/types.h"
 #include <stdlib.h>
 #include <string.h>
 
@@ -25,11 +28,6 @@ int begin_collective(struct comm *comm) {
 int refuse_collective(struct comm *comm, int code) {
     if (comm && !comm->repeats) comm->begun++;
     return code;
-}
-
-/* Whether so many bytes of a type can stand there. With displacements from MPI_BOTTOM they can at a null pointer. */
-bool is_buffer(const void *buffer, size_t bytes, MPI_Datatype type) {
-    return bytes == 0 || ((buffer || !is_basic_type(type)) && buffer != MPI_IN_PLACE);
 }
 
 int collect_send(struct comm *comm, int to, const void *bytes, size_t length) {

@@ -1,4 +1,5 @@
 /* Collectives that gather (MPI 4.0, 6.5, 6.7, 6.12.3, 6.12.5): each sends its data to the root, or to all others. */
+#include "collective/collective.h"
 #include "collective/layout.h"
 #include <stdlib.h>
 #include <string.h>

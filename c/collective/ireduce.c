@@ -1,7 +1,8 @@
 /* Reductions that don't block (MPI 4.0, 6.12.7 to 6.12.11). Each rank that gets a result gets all parts of it, and folds them in the order of positions
    when they are there, so all results have the same bits, as those of reductions that block. */
+#include "collective/collective.h"
 #include "collective/reduce.h"
-#include "types/type.h"
+#include "types/types.h"
 #include <stdlib.h>
 #include <string.h>
 

@@ -1,8 +1,8 @@
 /* Where the parts of a collective stand in a buffer. */
-#ifndef ULFM_MPI_LAYOUT_H
-#define ULFM_MPI_LAYOUT_H
+#ifndef UM_LAYOUT_H
+#define UM_LAYOUT_H
 
-#include "types/type.h"
+#include "types/types.h"
 
 /* Where each position's part stands in a buffer: all alike, or by counts and displacements, in extents of the type; or with types of their own, by
    displacements in bytes. */

@@ -1,7 +1,8 @@
 /* Collectives among neighbours (MPI 4.0, 8.6 and 8.7). All that goes from one rank to another is one message, in the order of the edges between them. In a
    grid what goes down along a dimension comes from above, also where that is the same rank. */
-#include "mpi/graph.h"
+#include "collective/collective.h"
 #include "collective/layout.h"
+#include "mpi/graph.h"
 #include <stdlib.h>
 
 /* The data of each neighbour in a buffer: all alike, or by counts and displacements, in extents or in bytes. */

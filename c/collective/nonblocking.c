@@ -1,7 +1,10 @@
 /* Collectives as requests (MPI 4.0, 6.12). In the call that begins one, each rank sends what others get of it, and posts a receive for what it gets of each
    other one. So nobody waits for another one's progress, and the request is over when its receives are; a reduction is folded then. Where all send to all,
    a rank that fails between two of its sends gives an error at some and success at others. */
-#include "run.h"
+#include "collective/collective.h"
+#include "engine/engine.h"
+#include "recovery/recovery.h"
+#include "types/types.h"
 #include <stdlib.h>
 
 /* Gives the receives back. The first error of those that are over. */

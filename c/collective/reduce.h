@@ -1,8 +1,8 @@
 /* What reductions share, those that block and those that don't. */
-#ifndef ULFM_MPI_REDUCE_H
-#define ULFM_MPI_REDUCE_H
+#ifndef UM_REDUCE_H
+#define UM_REDUCE_H
 
-#include "run.h"
+#include "progress/rank.h"
 
 enum { SHORT = 512 };
 /* Who gets a position's part of a reduction that doesn't block, where it isn't one root: all others, or those above. */

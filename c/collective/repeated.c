@@ -2,6 +2,7 @@
    order in which they were made says which belong together, and not that of their starts: each has a number of its own for its messages. c/calls.py writes
    the calls that make them. */
 #include "collective/repeated.h"
+#include "mpi/calls.h"
 #include <stdlib.h>
 
 void free_repeated(struct repeated *of) {

@@ -1,8 +1,8 @@
 /* What a collective is that is started as often as wanted. */
-#ifndef ULFM_MPI_REPEATED_CALLS_H
-#define ULFM_MPI_REPEATED_CALLS_H
+#ifndef UM_REPEATED_H
+#define UM_REPEATED_H
 
-#include "types/type.h"
+#include "types/types.h"
 
 /* The arguments of a collective, those that it has, by the names of its parameters. */
 struct repeated {

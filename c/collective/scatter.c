@@ -1,4 +1,5 @@
 /* Collectives that scatter (MPI 4.0, 6.6, 6.8, 6.12.4, 6.12.6): the root sends each its part, or each sends each its part. */
+#include "collective/collective.h"
 #include "collective/layout.h"
 
 static int begin_scatter(const struct layout *from, void *recvbuf, int recvcount, MPI_Datatype recvtype, int root, struct comm *comm,

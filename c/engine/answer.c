@@ -1,5 +1,5 @@
 /* What the engine answers, as MPI has it: error codes, and which members failed or revoked. */
-#include "run.h"
+#include "engine/engine.h"
 
 /* The error code of a refusal of the engine. */
 int class_of(uint32_t code) {

@@ -2,6 +2,7 @@
    says where. A probe is told how long a body is, and can't look into it. So no message makes a body as long as one that refers to a parcel: a
    message that would goes by a parcel too. */
 #include "engine/body.h"
+#include "progress/progress.h"
 #include <string.h>
 
 enum { REFERRING = sizeof(struct reference), AMBIGUOUS = REFERRING - 1 };

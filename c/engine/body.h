@@ -1,8 +1,8 @@
 /* What a body of the engine holds: a message, or where the parcel of one stands. Who sends or receives goes by these calls, and looks into no body. */
-#ifndef ULFM_MPI_BODY_H
-#define ULFM_MPI_BODY_H
+#ifndef UM_BODY_H
+#define UM_BODY_H
 
-#include "run.h"
+#include "engine/engine.h"
 
 enum { BODY = 1024, AT_ONCE = BODY - 1 };   /* the longest body, and the longest message in one */
 

@@ -1,6 +1,6 @@
 /* Parcels: messages that stand beside their bodies, since they are long, or since their senders wait for the match. A receiver reads the parcel in the
    memory that ranks share, and lets it go. */
-#include "run.h"
+#include "engine/engine.h"
 #include <sched.h>
 #include <stdlib.h>
 #include <string.h>

@@ -1,6 +1,7 @@
 /* A program that is started by itself, without ulfm-mpirun. It is the only rank of a run, in the thread that it begins with, and in all else a process as
    any: its streams, signals and ends are its own. */
-#include "run.h"
+#include "launcher/launcher.h"
+#include "progress/progress.h"
 #include <stdlib.h>
 
 /* The main of a program that was started by itself (entry.c). The launcher has none: it loads its programs later, where this name isn't seen. */

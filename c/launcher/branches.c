@@ -2,6 +2,9 @@
    played once for all. The process that plays on takes what came of each, and hands it to the table. */
 #define _GNU_SOURCE
 #include "launcher/every.h"
+#include "launcher/launcher.h"
+#include "play/play.h"
+#include "progress/progress.h"
 #include <stdlib.h>
 #include <string.h>
 #include <sys/mman.h>

@@ -2,6 +2,7 @@
    are buffered and with sends that wait; and prints what came out. */
 #define _GNU_SOURCE
 #include "launcher/every.h"
+#include "launcher/launcher.h"
 #include <signal.h>
 #include <stdlib.h>
 #include <string.h>

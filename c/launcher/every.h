@@ -1,8 +1,8 @@
 /* What the files of --every-stop share. */
-#ifndef ULFM_MPI_EVERY_H
-#define ULFM_MPI_EVERY_H
+#ifndef UM_EVERY_H
+#define UM_EVERY_H
 
-#include "run.h"
+#include "progress/rank.h"
 #include <sys/types.h>
 
 enum outcome { RIGHT, NOT_REACHED, OTHER_STATUS, OTHER_OUTPUT, FAILED, STUCK, LOOPS, LATE, LONG, FATAL, ABORTED, CRASHED, OUTCOMES };

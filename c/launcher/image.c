@@ -2,7 +2,7 @@
    loads none into a process: so each rank's copy is made one that it loads. Its own functions and variables are the rank's own then. Two things of an
    executable can't be so: variables of a thread, and those variables of libraries that a program has a copy of. */
 #define _GNU_SOURCE
-#include "run.h"
+#include "launcher/launcher.h"
 #include <dlfcn.h>
 #include <elf.h>
 #include <string.h>

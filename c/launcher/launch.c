@@ -1,6 +1,11 @@
 /* The launcher's main, and the threads of the ranks. */
 #define _GNU_SOURCE
-#include "windows/window.h"
+#include "engine/engine.h"
+#include "launcher/launcher.h"
+#include "mpi/calls.h"
+#include "play/play.h"
+#include "progress/progress.h"
+#include "windows/windows.h"
 #include <errno.h>
 #include <limits.h>
 #include <malloc.h>
@@ -17,31 +22,6 @@ __thread struct rank *me;
 static pthread_mutex_t end_lock = PTHREAD_MUTEX_INITIALIZER;
 static pthread_cond_t end_came = PTHREAD_COND_INITIALIZER;
 static int ended_count;
-
-/* Room for one more in an array of `count`; it doubles. False where there is no memory. */
-bool grow(void *array, int count, size_t size) {
-    void **at = array;
-    if (count & (count - 1)) return true;
-    void *larger = realloc(*at, (count ? 2 * (size_t)count : 1) * size);
-    if (!larger) return false;
-    *at = larger;
-    return true;
-}
-
-/* A line for --every-stop. */
-void report(const char *format, ...) {
-    static pthread_mutex_t lock = PTHREAD_MUTEX_INITIALIZER;
-    char line[160];
-    va_list words;
-    if (options.report < 0 && !options.seeds && !options.limit) return;
-    va_start(words, format);
-    int length = vsnprintf(line, sizeof line, format, words);
-    va_end(words);
-    if (note_report(line, (size_t)length) || note_past(line, (size_t)length)) return;
-    pthread_mutex_lock(&lock);
-    if (write(options.report, line, (size_t)length) != length) options.report = -1;
-    pthread_mutex_unlock(&lock);
-}
 
 static void clear_rank(void) {
     clear_windows();

@@ -1,7 +1,8 @@
 /* A program is a shared object. Each rank loads a copy of its own, so that it has globals of its own. The copies stand in a folder for
    temporary files until the run ends, for debuggers. */
 #define _GNU_SOURCE
-#include "run.h"
+#include "launcher/launcher.h"
+#include "progress/progress.h"
 #include <dlfcn.h>
 #include <fcntl.h>
 #include <stdlib.h>

@@ -1,6 +1,6 @@
 /* What ulfm-mpirun is asked for. */
-#ifndef ULFM_MPI_OPTIONS_H
-#define ULFM_MPI_OPTIONS_H
+#ifndef UM_OPTIONS_H
+#define UM_OPTIONS_H
 
 #include <stdbool.h>
 #include <stdint.h>

@@ -1,6 +1,7 @@
 /* The table of --every-schedule: what the searches of all places found. */
 #define _GNU_SOURCE
 #include "launcher/every.h"
+#include "progress/progress.h"
 #include <stdlib.h>
 #include <string.h>
 

@@ -1,5 +1,6 @@
 /* The places where a rank may stop, read off the report of a run without a stop. */
 #include "launcher/every.h"
+#include "progress/progress.h"
 #include <stdlib.h>
 #include <string.h>
 

@@ -1,5 +1,6 @@
 /* The table of --every-stop: what came out of each run, and the command that repeats it. */
 #include "launcher/every.h"
+#include "launcher/launcher.h"
 #include <stdlib.h>
 #include <string.h>
 

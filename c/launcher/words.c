@@ -1,6 +1,6 @@
 /* The words of ulfm-mpirun's command line. */
 #define _GNU_SOURCE
-#include "run.h"
+#include "launcher/launcher.h"
 #include <stdlib.h>
 #include <string.h>
 #include <unistd.h>

@@ -1,5 +1,6 @@
 /* Classes, codes and texts of errors that a program adds (MPI 4.0, 9.5). */
-#include "run.h"
+#include "mpi/calls.h"
+#include "progress/progress.h"
 #include <stdlib.h>
 
 /* A class is what MPI_Error_class takes of a code, its last eight bits. Codes have details above those of the layer's own. */

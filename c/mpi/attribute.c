@@ -1,5 +1,7 @@
 /* Attributes of communicators (MPI 4.0, 7.7 and 9.1): those that are there, and a program's own, with what copies and deletes them. */
 #include "mpi/attribute.h"
+#include "mpi/calls.h"
+#include "progress/progress.h"
 #include <stdlib.h>
 
 enum { FIRST_OWN = 64 };

@@ -1,8 +1,8 @@
 /* Attributes, of communicators, of datatypes and of windows. */
-#ifndef ULFM_MPI_ATTRIBUTE_H
-#define ULFM_MPI_ATTRIBUTE_H
+#ifndef UM_ATTRIBUTE_H
+#define UM_ATTRIBUTE_H
 
-#include "run.h"
+#include "progress/rank.h"
 
 enum kind_of_bearer { OF_COMMS, OF_TYPES, OF_WINDOWS };
 

@@ -1,6 +1,7 @@
 /* Buffered sends (MPI 4.0, 3.4 and 3.6). A message is copied in its call, so the buffer that a program attaches is never written to; it has to be
    large enough all the same. */
-#include "run.h"
+#include "mpi/calls.h"
+#include "types/types.h"
 #include <limits.h>
 
 static int attach(void *buffer, MPI_Count size) {

@@ -1,5 +1,6 @@
 /* Requests that are given up (MPI 4.0, 3.7.3 and 3.8.4). */
-#include "run.h"
+#include "mpi/calls.h"
+#include "progress/progress.h"
 
 /* A request without a handle goes when it is over. */
 static void give_up(struct request *request) {

@@ -1,4 +1,5 @@
 /* Cartesian topologies (MPI 4.0, 8.5): a grid of the first ranks of a communicator, the last dimension varies the fastest. Ranks keep their order. */
+#include "collective/collective.h"
 #include "mpi/graph.h"
 #include <limits.h>
 #include <stdlib.h>

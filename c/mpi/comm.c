@@ -1,5 +1,7 @@
 /* Communicators (MPI 4.0, 7.4). Each has a context of the engine for its messages. */
+#include "mpi/calls.h"
 #include "mpi/graph.h"
+#include "progress/progress.h"
 #include <stdlib.h>
 #include <string.h>
 

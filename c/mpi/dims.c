@@ -1,5 +1,6 @@
 /* MPI_Dims_create (MPI 4.0, 8.5.2): nodes are divided among the dimensions that are 0, the largest first, so that the largest and the smallest one differ by
    as little as can be. Where several divisions do, it is the one whose smallest is the largest, then the next one. */
+#include "mpi/calls.h"
 #include "mpi/graph.h"
 #include <stdlib.h>
 #include <string.h>

@@ -1,5 +1,6 @@
 /* Graphs of which each member knows its own edges (MPI 4.0, 8.5.4): it tells all edges that end or begin at it, or some edges of any members, which tell each
    other then. */
+#include "collective/collective.h"
 #include "mpi/graph.h"
 #include <stdlib.h>
 #include <string.h>

@@ -1,8 +1,8 @@
 /* What the members of a new communicator tell each other (dup.c, idup.c). */
-#ifndef ULFM_MPI_DUP_H
-#define ULFM_MPI_DUP_H
+#ifndef UM_DUP_H
+#define UM_DUP_H
 
-#include "run.h"
+#include "progress/rank.h"
 
 struct wish {
     unsigned free, old;      /* the planes that can be used, and those that were made here before, as bits */

@@ -1,5 +1,8 @@
 /* Errors: classes, texts, and handlers (MPI 4.0, 9.3 and 9.4). */
-#include "windows/window.h"
+#include "mpi/calls.h"
+#include "play/play.h"
+#include "progress/progress.h"
+#include "windows/windows.h"
 #include <stdlib.h>
 #include <string.h>
 

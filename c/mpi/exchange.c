@@ -1,5 +1,5 @@
 /* A send and a receive as one request (MPI 4.0, 3.10). It is over when both are, and has the status of the receive, whose error is told before the send's. */
-#include "run.h"
+#include "mpi/calls.h"
 #include <stdlib.h>
 
 enum { RECEIVED, GIVEN };

@@ -1,5 +1,5 @@
 /* Handles as numbers, as Fortran has them (MPI 4.0, 19.3.4). */
-#include "run.h"
+#include "mpi.h"
 #include <string.h>
 
 #define NUMBERS(name, type) \

@@ -1,4 +1,5 @@
 /* Graphs that all members know (MPI 4.0, 8.5.3): the neighbours of node k stand in `edges` from index[k - 1] to index[k]. Ranks keep their order. */
+#include "collective/collective.h"
 #include "mpi/graph.h"
 #include <stdlib.h>
 #include <string.h>

@@ -1,8 +1,8 @@
 /* Topologies of graphs (MPI 4.0, 8.5.3 and 8.5.4): one that all members know, or one of which each knows its own edges. */
-#ifndef ULFM_MPI_GRAPH_H
-#define ULFM_MPI_GRAPH_H
+#ifndef UM_GRAPH_H
+#define UM_GRAPH_H
 
-#include "run.h"
+#include "progress/rank.h"
 
 struct graph {
     int kind;               /* MPI_GRAPH or MPI_DIST_GRAPH */

@@ -1,5 +1,6 @@
 /* Groups (MPI 4.0, 7.3): lists of world ranks. */
-#include "run.h"
+#include "mpi/calls.h"
+#include "progress/progress.h"
 #include <stdlib.h>
 #include <string.h>
 

@@ -1,7 +1,10 @@
 /* Duplicates that don't block (MPI 4.0, 7.4.2). Each member tells each other one what it wishes, and decides the same. Where the plane was used before,
    each takes away what is left on it, and tells the others so. Those of one chain are made one after the other, since each takes a plane. */
+#include "collective/collective.h"
 #include "mpi/dup.h"
 #include "mpi/graph.h"
+#include "progress/progress.h"
+#include "recovery/recovery.h"
 #include <stdlib.h>
 
 /* A duplicate that is being made. */

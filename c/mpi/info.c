@@ -1,5 +1,6 @@
 /* Info objects (MPI 4.0, 10): pairs of a key and a value, in the order in which they were set. No call here heeds one. */
-#include "run.h"
+#include "mpi/calls.h"
+#include "progress/progress.h"
 #include <stdlib.h>
 #include <string.h>
 

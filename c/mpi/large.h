@@ -1,8 +1,8 @@
 /* Counts that an int doesn't hold: so many elements are handed on as one of a type of their own, and lists as those that hold ints. */
-#ifndef ULFM_MPI_LARGE_H
-#define ULFM_MPI_LARGE_H
+#ifndef UM_LARGE_H
+#define UM_LARGE_H
 
-#include "types/type.h"
+#include "types/types.h"
 
 struct large {
     MPI_Datatype made[2];

@@ -1,5 +1,7 @@
 /* Operations of reductions (MPI 4.0, 6.9). */
-#include "run.h"
+#include "mpi/calls.h"
+#include "progress/progress.h"
+#include "windows/windows.h"
 #include <stdlib.h>
 #include <string.h>
 #include <wchar.h>

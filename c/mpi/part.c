@@ -1,7 +1,8 @@
 /* Communicators of parts of a group (MPI 4.0, 7.4.2): MPI_Comm_split, MPI_Comm_create, MPI_Comm_create_group. Their messages go through a context of the
    whole group, where parts that have no member in common may share one. A part is revoked by a mark that its members share. Shrink and agree are the
    engine's, of whole groups, so they refuse a part. */
-#include "run.h"
+#include "collective/collective.h"
+#include "engine/engine.h"
 #include <stdlib.h>
 #include <string.h>
 

@@ -1,6 +1,7 @@
 /* Persistent requests (MPI 4.0, 3.9): the arguments of a send or a receive, which is started as often as wanted. Its handle stays when what it
    started is over. */
 #include "collective/repeated.h"
+#include "mpi/calls.h"
 #include <stdlib.h>
 
 struct start {

@@ -1,6 +1,7 @@
 /* Sends and receives (MPI 4.0, 3.2, 3.4, 3.7, 3.10). A failure or a revocation that a send or a receive which doesn't block meets is told where
    its request ends; wrong arguments are told at once. A standard send is buffered; with --sends wait it ends at its match. */
-#include "run.h"
+#include "mpi/calls.h"
+#include "types/types.h"
 #include <limits.h>
 #include <stdlib.h>
 #include <string.h>

@@ -1,5 +1,8 @@
 /* Probes (MPI 4.0, 3.8). A message that MPI_Mprobe found is taken from the engine at once, and kept here for MPI_Mrecv. */
 #include "engine/body.h"
+#include "mpi/calls.h"
+#include "progress/progress.h"
+#include "types/types.h"
 #include <stdlib.h>
 #include <string.h>
 

@@ -1,6 +1,8 @@
 /* Requests: what was begun and isn't over, and what is over and wasn't told. */
-#include "engine/body.h"
+#include "collective/collective.h"
 #include "collective/repeated.h"
+#include "engine/body.h"
+#include "progress/progress.h"
 #include <stddef.h>
 #include <stdlib.h>
 #include <string.h>

@@ -1,6 +1,8 @@
 /* Start and end of a rank's use of MPI (MPI 4.0, 11.2), and what it asks of its environment (9). */
 #define _GNU_SOURCE
-#include "run.h"
+#include "launcher/launcher.h"
+#include "mpi/calls.h"
+#include "progress/progress.h"
 #include <stdlib.h>
 #include <string.h>
 #include <time.h>

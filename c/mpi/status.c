@@ -1,5 +1,6 @@
 /* What a status says in elements of a type (MPI 4.0, 3.2.5 and 5.1.11), and what a program writes into one (13.3). */
-#include "types/type.h"
+#include "mpi/calls.h"
+#include "types/types.h"
 #include <limits.h>
 
 /* The basic elements of one of a block. */

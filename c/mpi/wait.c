@@ -1,7 +1,8 @@
 /* Waits and tests (MPI 4.0, 3.7.3 and 3.7.5). A request that is over is released, and its handle becomes MPI_REQUEST_NULL. A receive from any
    source that pends stays open: MPIX_ERR_PROC_FAILED_PENDING. MPI_Waitall ends as soon as a request has an error, MPI_Testall as soon as one may keep
    others from their end: a failure or a revocation. Those that aren't over then have MPI_ERR_PENDING. */
-#include "run.h"
+#include "collective/collective.h"
+#include "progress/progress.h"
 #include <stdlib.h>
 
 /* The status of no request (3.7.3), with its error. */

@@ -1,5 +1,6 @@
 /* The calls of the engine as the layer makes them (the linker's --wrap). Where a run is played, each one that others may see, or whose answer depends on
    what came, is an event: the rank gives the processor to the controller, which chooses when it goes on. What it sends goes out at once. */
+#include "progress/progress.h"
 #include "search/search.h"
 
 struct player players[MAX_RANKS];

@@ -1,6 +1,7 @@
 /* Contexts: each rank of a played run has a stack of its own, and the controller has that of the process. What belongs to the kernel's thread and a program
    may change is each rank's own: errno, the modes of rounding, and the exceptions of C++ that are caught and not over. */
 #define _GNU_SOURCE
+#include "launcher/launcher.h"
 #include "play/play.h"
 #include <dlfcn.h>
 #include <errno.h>

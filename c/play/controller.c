@@ -1,5 +1,6 @@
 /* The controller of a played run: what may happen next, and that it happens. */
 #define _GNU_SOURCE
+#include "progress/progress.h"
 #include "search/search.h"
 #include <setjmp.h>
 

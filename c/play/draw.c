@@ -1,5 +1,6 @@
 /* A picture of a schedule, as `ulfm draw` draws jobs: a line down for each rank, its calls with their lines of the program, what was taken and what was lost,
    and at the end what each waits for. */
+#include "progress/progress.h"
 #include "search/search.h"
 #include <stdlib.h>
 #include <string.h>

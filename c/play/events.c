@@ -1,6 +1,7 @@
 /* The events of a schedule in words, one a line: `rank 0 takes of 3: word of revocation on 0`. A file of them is played again line by line. */
 #define _GNU_SOURCE
 #include "launcher/every.h"
+#include "progress/progress.h"
 #include "search/search.h"
 #include <stdlib.h>
 #include <string.h>

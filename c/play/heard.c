@@ -1,6 +1,7 @@
 /* What each rank heard of failures, revocations, shrinks and agreements: so the controller knows whether a poll would be answered, which the engine tells
    by answering it. A shrink or an agreement can be decided at a rank where it has heard of each member that it entered, or that it failed: itself, or
    by who entered. */
+#include "progress/progress.h"
 #include "search/search.h"
 #include <stdlib.h>
 

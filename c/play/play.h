@@ -1,9 +1,9 @@
 /* Runs that are played: the ranks are contexts of one thread, and a controller chooses what happens next. A rank goes on with its next call of the
    engine, or it takes the first item that came from another one. So the run is known by these choices, and can be played again. */
-#ifndef ULFM_MPI_PLAY_H
-#define ULFM_MPI_PLAY_H
+#ifndef UM_PLAY_H
+#define UM_PLAY_H
 
-#include "run.h"
+#include "progress/rank.h"
 
 /* What happens at a rank: a call of the engine that others may see or whose answer depends on what came, or an item is taken. */
 enum kind_of_event {
@@ -43,6 +43,16 @@ struct player {
     int look_count;
 };
 extern struct player players[MAX_RANKS];
+
+/* played.c */
+int play(void);
+void fix_addresses(char **words);
+void set_alarm(void);
+void end_schedule(int status);
+
+/* controller.c */
+void wait_as_played(bool (*is_done)(void *, bool is_settled), void *of);
+void look_as_played(void);
 
 /* context.c */
 bool make_context(int rank);
@@ -108,6 +118,8 @@ int explore(void);
 bool is_searching(void);
 
 /* seeds.c */
+bool note_report(const char *line, size_t length);
+bool stop_soon(void);
 int play_seeds(void);
 void refuse_seeds(const char *why) __attribute__((noreturn));
 
@@ -125,6 +137,7 @@ void note_drawn(const struct event *event);
 bool draw_schedule(const char *path);
 
 /* unfollowed.c */
+void meet_thread(const void *from);
 struct call_of {
     const void *from;   /* an address in the program; null: not known */
     int rank;

@@ -1,5 +1,7 @@
 /* A run that is played: by chance from a seed, or again by a file. */
 #define _GNU_SOURCE
+#include "launcher/launcher.h"
+#include "progress/progress.h"
 #include "search/search.h"
 #include <setjmp.h>
 #include <signal.h>

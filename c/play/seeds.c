@@ -1,6 +1,8 @@
 /* Many schedules of a program by chance: what came out of how many, and a seed for each. */
 #define _GNU_SOURCE
+#include "launcher/launcher.h"
 #include "play/tally.h"
+#include "progress/progress.h"
 #include <stdlib.h>
 #include <string.h>
 

@@ -1,7 +1,8 @@
 /* Many schedules of a program in one process: its memory is put back after each. Under AddressSanitizer and memcheck each is a process of its own. */
 #define _GNU_SOURCE
-#include "search/search.h"
 #include "play/tally.h"
+#include "progress/progress.h"
+#include "search/search.h"
 #include <fcntl.h>
 #include <string.h>
 #include <sys/wait.h>

@@ -1,6 +1,6 @@
 /* What came out of many schedules that one process plays, in memory that stays when all other memory is put back. */
-#ifndef ULFM_MPI_TALLY_H
-#define ULFM_MPI_TALLY_H
+#ifndef UM_TALLY_H
+#define UM_TALLY_H
 
 #include "launcher/every.h"
 #include "play/play.h"

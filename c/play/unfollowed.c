@@ -2,6 +2,7 @@
    The calls do what they do else. */
 #define _GNU_SOURCE
 #include "play/play.h"
+#include "progress/progress.h"
 #include <dlfcn.h>
 #include <stdarg.h>
 #include <stdlib.h>

@@ -1,6 +1,8 @@
 /* Signals that end the run: a crash of a rank, told with its line, and what comes from outside. */
 #define _GNU_SOURCE
-#include "run.h"
+#include "launcher/launcher.h"
+#include "play/play.h"
+#include "progress/progress.h"
 #include <dlfcn.h>
 #include <execinfo.h>
 #include <string.h>

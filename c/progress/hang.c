@@ -1,6 +1,6 @@
 /* What is told where a run can't go on: what each rank waits for, and where in the program. */
 #define _GNU_SOURCE
-#include "run.h"
+#include "progress/progress.h"
 #include <stdlib.h>
 #include <string.h>
 #include <unistd.h>

@@ -1,6 +1,6 @@
 /* Where an address of the program is, as `addr2line` (binutils) says it. Nothing here takes memory of the C library: it is asked where a rank crashed too. */
 #define _GNU_SOURCE
-#include "run.h"
+#include "progress/progress.h"
 #include <dlfcn.h>
 #include <fcntl.h>
 #include <poll.h>

@@ -1,7 +1,7 @@
 /* Standard output of ranks. They share one process, so each rank has a stream of its own, which hands whole lines on to descriptor 1, and what a
    program flushes. What a program writes to `stdout` by the calls below goes to the stream of its rank. */
 #define _GNU_SOURCE
-#include "run.h"
+#include "progress/progress.h"
 #include <dlfcn.h>
 #include <stdarg.h>
 #include <stdlib.h>

@@ -2,7 +2,8 @@
    waits; a test counts where it finds something. Places inside a call are counted too: behind each message of a collective, and behind the
    entrance of a shrink or an agreement. */
 #define _GNU_SOURCE
-#include "run.h"
+#include "launcher/launcher.h"
+#include "progress/progress.h"
 #include <sched.h>
 #include <string.h>
 #include <time.h>

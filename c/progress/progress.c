@@ -3,7 +3,10 @@
    looks again some times, then yields, then sleeps until a count rises. Where each rank found nothing since the counts' last rise, nobody can move any
    more. */
 #define _GNU_SOURCE
-#include "run.h"
+#include "mpi/calls.h"
+#include "play/play.h"
+#include "progress/progress.h"
+#include "recovery/recovery.h"
 #include <linux/futex.h>
 #include <sched.h>
 #include <sys/syscall.h>

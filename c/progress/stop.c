@@ -1,7 +1,9 @@
 /* The ends of a rank. A rank is a thread, so what ends a process elsewhere ends the rank here: `exit`, `_exit`, `abort`, `raise`,
    `kill(getpid(), ..)`, a failed assertion, and a return from main without MPI_Finalize. Before MPI_Finalize that is its failure, as others see it. */
 #define _GNU_SOURCE
-#include "run.h"
+#include "launcher/launcher.h"
+#include "play/play.h"
+#include "progress/progress.h"
 #include <dlfcn.h>
 #include <err.h>
 #include <errno.h>

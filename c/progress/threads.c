@@ -1,6 +1,6 @@
 /* Further threads of ranks: whose each one is, for what is told where it crashes, ends the process or makes a call of MPI. */
 #define _GNU_SOURCE
-#include "run.h"
+#include "play/play.h"
 #include <dlfcn.h>
 #include <stdlib.h>
 

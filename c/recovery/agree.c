@@ -1,5 +1,8 @@
 /* Agreements (ULFM), and the requests of recoveries that don't block. All members that run have to enter an agreement, and none ends before that. */
-#include "run.h"
+#include "engine/engine.h"
+#include "mpi/calls.h"
+#include "progress/progress.h"
+#include "recovery/recovery.h"
 #include <stdlib.h>
 
 /* An agreement, which takes one or two of the engine's, and what the last one of those gave. */

@@ -1,6 +1,9 @@
 /* Recovery from failures (ULFM): revocations, shrinks, and failures that are known. Shrinks are the engine's, as agreements in agree.c: all members that run have
    to call them, and none ends before that. */
-#include "run.h"
+#include "engine/engine.h"
+#include "mpi/calls.h"
+#include "progress/progress.h"
+#include "recovery/recovery.h"
 #include <stdlib.h>
 #include <string.h>
 

@@ -1,5 +1,6 @@
 /* What each event of a schedule reads and changes. The engine doesn't tell by which event a request ended or which message a receive got, so it is
    followed here: which event pushed what is in each ring, which receives are open, and which messages were kept for receives to come. */
+#include "progress/progress.h"
 #include "search/search.h"
 #include <stdlib.h>
 #include <string.h>

@@ -1,6 +1,6 @@
 /* What the files of the search share: the present schedule, and what is to be tried in the place of each of its events. */
-#ifndef ULFM_MPI_NODES_H
-#define ULFM_MPI_NODES_H
+#ifndef UM_NODES_H
+#define UM_NODES_H
 
 #include "search/search.h"
 

@@ -1,4 +1,5 @@
 /* Which event pushed what is in the ring from each rank to each. */
+#include "progress/progress.h"
 #include "search/search.h"
 
 /* The events that pushed what is in a ring. */

@@ -1,6 +1,6 @@
 /* All schedules of a played run, up to the order of events that commute: what an event reads and changes, which events commute, and the search. */
-#ifndef ULFM_MPI_SEARCH_H
-#define ULFM_MPI_SEARCH_H
+#ifndef UM_SEARCH_H
+#define UM_SEARCH_H
 
 #include "play/play.h"
 

@@ -5,8 +5,10 @@
    JOB is in the plain form of tools/explorer/front.py. It writes what the search reports, and each answer that a step has in some schedule: `RANK STEP:
    ANSWER`. A step that is open at the end never ends. */
 #include "race.h"
-#include "search/search.h"
+#include "launcher/launcher.h"
 #include "play/tally.h"
+#include "progress/progress.h"
+#include "search/search.h"
 #include <stdlib.h>
 #include <string.h>
 #include <unistd.h>

@@ -1,5 +1,6 @@
 /* Datatypes of parts of arrays (MPI 4.0, 5.1.3 and 5.1.4): one part, or what is a process's of an array that is divided among all. */
-#include "types/type.h"
+#include "mpi/calls.h"
+#include "types/types.h"
 #include <stdlib.h>
 
 /* A list of ints, or of large counts. */

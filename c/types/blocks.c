@@ -1,6 +1,6 @@
 /* What datatypes are made of (MPI 4.0, 5.1): blocks of bytes, each at one place or at several, and other types at several places. So a type takes memory
    by how it is described, and not by its data. */
-#include "types/type.h"
+#include "types/types.h"
 #include <stdlib.h>
 #include <string.h>
 

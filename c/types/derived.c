@@ -1,5 +1,6 @@
 /* Derived datatypes (MPI 4.0, 5.1.2): each is made of pieces, several elements of another type in a row at a displacement. */
-#include "types/type.h"
+#include "mpi/calls.h"
+#include "types/types.h"
 #include <limits.h>
 #include <stdlib.h>
 #include <string.h>

@@ -1,5 +1,6 @@
 /* What a datatype is called (MPI 4.0, 7.8) and how it was made (5.1.13). */
-#include "types/type.h"
+#include "mpi/calls.h"
+#include "types/types.h"
 #include <stdlib.h>
 #include <string.h>
 

@@ -1,4 +1,5 @@
 /* Data in the form "external32" (MPI 4.0, 5.3 and 14.5.2): the highest byte first, integers and numbers of fixed lengths, whatever the machine. */
+#include "mpi/calls.h"
 #include "mpi/large.h"
 #include <limits.h>
 #include <string.h>

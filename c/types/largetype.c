@@ -1,5 +1,6 @@
 /* Datatypes by counts that an int doesn't hold (MPI 4.0, 2.5.8 and 5.1). */
-#include "types/type.h"
+#include "mpi/calls.h"
+#include "types/types.h"
 #include <stdlib.h>
 
 /* Makes a type of pieces, and frees them. `aligns`: as a structure is. */

@@ -1,8 +1,14 @@
 /* Data between memory, where a datatype lays them out, and one piece of bytes, which goes into messages (MPI 4.0, 5.1 and 5.2). */
+#include "mpi/calls.h"
 #include "mpi/large.h"
 #include <limits.h>
 #include <stdlib.h>
 #include <string.h>
+
+/* Whether so many bytes of a type can stand there. With displacements from MPI_BOTTOM they can at a null pointer. */
+bool is_buffer(const void *buffer, size_t bytes, MPI_Datatype type) {
+    return bytes == 0 || ((buffer || !is_basic_type(type)) && buffer != MPI_IN_PLACE);
+}
 
 struct motion {
     char *packed;

@@ -1,5 +1,7 @@
 /* Datatypes (MPI 4.0, 3.2.2 and 5.1): what a type is, its handle, sizes and counts. derived.c makes new ones, pack.c moves their data. */
-#include "types/type.h"
+#include "mpi/calls.h"
+#include "progress/progress.h"
+#include "types/types.h"
 #include <limits.h>
 #include <stdlib.h>
 #include <string.h>

@@ -1,6 +1,7 @@
 /* Attributes of datatypes (MPI 4.0, 7.7.4). */
 #include "mpi/attribute.h"
-#include "types/type.h"
+#include "mpi/calls.h"
+#include "types/types.h"
 #include <stdlib.h>
 
 int MPI_TYPE_NULL_COPY_FN(MPI_Datatype type, int keyval, void *more, void *in, void *out, int *flag) {

@@ -1,6 +1,7 @@
 /* Fences (MPI 4.0, 12.5.1): the members tell each other how much they ask, then what, do it in their own windows in the order of ranks, and answer. They meet at the end,
    so that a failure is told as in a barrier. Who met one goes on all the same: the others wait for what it has for them. */
-#include "windows/window.h"
+#include "mpi/calls.h"
+#include "windows/windows.h"
 #include <stdlib.h>
 #include <string.h>
 

@@ -1,6 +1,7 @@
 /* What is asked of windows (MPI 4.0, 12.3): it is written down, with its data, and goes out in the next fence. Whether it can be is known here, by the sizes
    of all windows. */
-#include "windows/window.h"
+#include "mpi/calls.h"
+#include "windows/windows.h"
 #include <stdlib.h>
 #include <string.h>
 

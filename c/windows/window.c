@@ -1,6 +1,8 @@
 /* Windows (MPI 4.0, 12.2): memory of each member that others may put to and get from between fences. A window's messages have a number of their own, as
    those of a collective that is started, so its calls may stand in any order among the collectives of its communicator. */
-#include "windows/window.h"
+#include "collective/collective.h"
+#include "progress/progress.h"
+#include "windows/windows.h"
 #include <stdlib.h>
 #include <string.h>
 

@@ -1,6 +1,7 @@
 /* What windows have besides their memory: attributes (MPI 4.0, 7.7.3 and 12.2.6), names, groups and handlers of errors. */
 #include "mpi/attribute.h"
-#include "windows/window.h"
+#include "mpi/calls.h"
+#include "windows/windows.h"
 
 int MPI_WIN_NULL_COPY_FN(MPI_Win win, int keyval, void *more, void *in, void *out, int *flag) {
     (void)win, (void)keyval, (void)more, (void)in, (void)out;

@@ -1,8 +1,8 @@
 /* What a datatype is (MPI 4.0, 5.1): blocks of bytes, each of basic elements, at displacements from a buffer's address; and bounds. */
-#ifndef ULFM_MPI_TYPE_H
-#define ULFM_MPI_TYPE_H
+#ifndef UM_TYPES_H
+#define UM_TYPES_H
 
-#include "run.h"
+#include "progress/rank.h"
 
 /* What an element of a block is in the form "external32" (14.5.2): as long as here, an integer of half the
    bytes, one without sign, or a number of 16 bytes. */
@@ -95,5 +95,22 @@ int resize(struct type *of, ptrdiff_t lower, ptrdiff_t extent, struct type **mad
 
 /* pack.c */
 void move_data(const struct type *type, int count, void *memory, void *packed, size_t bytes, bool is_out);
+
+/* What calls ask of a handle of a type (type.c), and of data in memory (pack.c). */
+bool is_basic_type(MPI_Datatype type);
+MPI_Datatype keep_type(MPI_Datatype type);
+void drop_type(MPI_Datatype type);
+bool is_buffer(const void *buffer, size_t bytes, MPI_Datatype type);
+bool check_buffer(int count, MPI_Datatype type, size_t *bytes, int *code);
+int pack_data(const void *buffer, int count, MPI_Datatype type, const void **data, void **packed);
+void unpack_data(const void *data, size_t bytes, void *buffer, int count, MPI_Datatype type);
+void copy_data(const void *from, void *to, int count, MPI_Datatype type);
+bool reach_of_data(int count, MPI_Datatype type, size_t *bytes);
+bool is_plain_type(MPI_Datatype type);
+bool make_landing(void *buffer, int count, MPI_Datatype type, struct landing **made);
+void *bytes_of_landing(struct landing *landing);
+void land(struct landing *landing, size_t bytes);
+void free_landing(struct landing *landing);
+void clear_types(void);
 
 #endif

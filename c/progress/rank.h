@@ -1,6 +1,6 @@
 /* What a rank has: its communicators, requests, and what else it made; and what the launcher knows of it. */
-#ifndef ULFM_MPI_RANK_H
-#define ULFM_MPI_RANK_H
+#ifndef UM_RANK_H
+#define UM_RANK_H
 
 #include "mpi.h"
 #include "launcher/options.h"
@@ -196,5 +196,14 @@ struct rank {
     _Atomic int waited_for;   /* synchronous sends to it without a match */
     _Atomic uint32_t agreed[CONTEXTS];   /* how many agreements it entered */
 };
+
+/* A rank is a thread; `me` is the rank of the thread that runs, null outside of ranks. */
+extern struct rank ranks[MAX_RANKS];
+extern __thread struct rank *me __attribute__((tls_model("initial-exec")));
+/* Of a further thread of a rank: whose it is. */
+extern __thread struct rank *owner __attribute__((tls_model("initial-exec")));
+
+/* Whether a controller plays the run (play/play.h). */
+extern bool is_played;
 
 #endif

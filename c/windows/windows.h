@@ -1,8 +1,8 @@
 /* Windows (MPI 4.0, 12), and what is asked of them until the next fence. */
-#ifndef ULFM_MPI_WINDOW_H
-#define ULFM_MPI_WINDOW_H
+#ifndef UM_WINDOWS_H
+#define UM_WINDOWS_H
 
-#include "types/type.h"
+#include "types/types.h"
 
 /* Bytes that grow. */
 struct pile {
