@@ -80,7 +80,7 @@ def calls():
 def length_of(call, of):
     """How many a list has: by neighbours, at the root, or by members."""
     if "eighbor" in call.name:
-        return f"neighbors_of(on, {'false' if of.startswith('s') else 'true'})"
+        return f"um_neighbors_of(on, {'false' if of.startswith('s') else 'true'})"
     return "on && on->position == root ? on->size : 0" if "root" in call.names else "on ? on->size : 0"
 
 
@@ -89,21 +89,21 @@ def large_body(call, small):
     peer = next((it for it in ("source", "dest", "target") if it in call.names), "MPI_UNDEFINED")
     tag = next((it for it in ("recvtag", "tag") if it in call.names), "MPI_UNDEFINED")
     is_look = "_init" in call.name or "local" in call.name
-    lines = [f"struct comm *on = {'comm_at(comm)' if 'comm' in call.names else '0'};", f"ENTER{'_LOOK' if is_look else ''}(on, {peer}, {tag});",
+    lines = [f"struct comm *on = {'um_comm_at(comm)' if 'comm' in call.names else '0'};", f"ENTER{'_LOOK' if is_look else ''}(on, {peer}, {tag});",
              "struct large large = {0};"]
     given = []
     for (_, name, _), (was, _, _) in zip(call.parameters, small.parameters):
         if name in COUNTS:
-            lines.append(f"hold_count(&large, &{name}, {'0' if 'op' in call.names else '&' + COUNTS[name]});")
-            given.append(f"small({name})")
+            lines.append(f"um_hold_count(&large, &{name}, {'0' if 'op' in call.names else '&' + COUNTS[name]});")
+            given.append(f"um_small({name})")
         elif name in LISTS and was == "const int ":
-            lines.append(f"const int *{name}_here = hold_list(&large, {name}, {length_of(call, name)});")
+            lines.append(f"const int *{name}_here = um_hold_list(&large, {name}, {length_of(call, name)});")
             given.append(f"{name}_here")
         else:
             given.append(name)
-    refused = "large.code" if small.name in MESSAGES else "refuse_collective(on, large.code)"
-    lines.append(f"if (!begin_large(&large)) return fail(on, end_large(&large, {refused}));")
-    lines.append(f"return end_large(&large, MPI_{small.name}({', '.join(given)}));")
+    refused = "large.code" if small.name in MESSAGES else "um_refuse_collective(on, large.code)"
+    lines.append(f"if (!um_begin_large(&large)) return um_fail(on, um_end_large(&large, {refused}));")
+    lines.append(f"return um_end_large(&large, MPI_{small.name}({', '.join(given)}));")
     return call.declared(" {\n") + "".join(f"    {it}\n" for it in lines) + "}\n\n"
 
 
@@ -115,8 +115,8 @@ def persistent_body(call, begun, large):
     fields = "".join(f", .{it} = {it}" for it in kept)
     return (f"static int {begin}(const struct repeated *of, MPI_Comm comm, MPI_Request *request) {{\n" + ("    (void)of;\n" if not kept else "") +
             f"    return MPI_{without_blocking(begun)}{large}({given}comm, request);\n}}\n\n" + call.declared(" {\n") +
-            "    ENTER_LOOK(comm_at(comm), MPI_UNDEFINED, MPI_UNDEFINED);\n"
-            f"    return init_repeated(&(struct repeated){{.begin = {begin}{fields}}}, comm, info, request);\n}}\n\n")
+            "    ENTER_LOOK(um_comm_at(comm), MPI_UNDEFINED, MPI_UNDEFINED);\n"
+            f"    return um_init_repeated(&(struct repeated){{.begin = {begin}{fields}}}, comm, info, request);\n}}\n\n")
 
 
 def made():

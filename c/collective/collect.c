@@ -16,129 +16,129 @@ static int tag_of(const struct comm *comm) {
 }
 
 /* Begins a collective, with the next number. One that was shrunk has no hidden context either where it was revoked before it was adopted here. */
-int begin_collective(struct comm *comm) {
+int um_begin_collective(struct comm *comm) {
     if (!comm) return MPI_ERR_COMM;
     if (!comm->repeats) comm->begun++;
-    progress();
-    if (is_revoked(comm)) return MPIX_ERR_REVOKED;
+    um_progress();
+    if (um_is_revoked(comm)) return MPIX_ERR_REVOKED;
     return comm->size > 1 && comm->hidden == NO_CONTEXT_LEFT ? NO_COLLECTIVES : MPI_SUCCESS;
 }
 
 /* A collective whose arguments are wrong here has its number too: the next one then meets those of the others. */
-int refuse_collective(struct comm *comm, int code) {
+int um_refuse_collective(struct comm *comm, int code) {
     if (comm && !comm->repeats) comm->begun++;
     return code;
 }
 
-int collect_send(struct comm *comm, int to, const void *bytes, size_t length) {
-    int code = send_body(comm->hidden, comm->place[to], comm->members[to], tag_of(comm), bytes, length, 0);
-    plan_inside();
+int um_collect_send(struct comm *comm, int to, const void *bytes, size_t length) {
+    int code = um_send_body(comm->hidden, comm->place[to], comm->members[to], tag_of(comm), bytes, length, 0);
+    um_plan_inside();
     return code;
 }
 
 /* Posts the receive of a message, or null where there is no memory. */
-struct request *collect_post(struct comm *comm, int from, void *bytes, size_t room, struct landing *landing) {
-    struct request *request = new_request(RECEIVE, comm, from, tag_of(comm));
+struct request *um_collect_post(struct comm *comm, int from, void *bytes, size_t room, struct landing *landing) {
+    struct request *request = um_new_request(RECEIVE, comm, from, tag_of(comm));
     if (!request) return 0;
     request->context = comm->hidden;
     request->landing = landing;
-    start_receive(request, bytes, room);
+    um_start_receive(request, bytes, room);
     return request;
 }
 
 static bool has_come(void *of, bool is_settled) {
     struct request *request = of;
     (void)is_settled;
-    look_at(request);
-    return request->over || is_revoked(request->comm);
+    um_look_at(request);
+    return request->over || um_is_revoked(request->comm);
 }
 
 /* Waits for a message, and releases its request. */
-int collect_finish(struct request *request) {
+int um_collect_finish(struct request *request) {
     if (!request) return MPI_ERR_NO_MEM;
-    me->place.waits_for = 1u << request->comm->members[request->peer];
-    if (!request->over) wait_until(has_come, request, false);
-    me->place.waits_for = 0;
-    if (!request->over) withdraw(request);
+    um_me->place.waits_for = 1u << request->comm->members[request->peer];
+    if (!request->over) um_wait_until(has_come, request, false);
+    um_me->place.waits_for = 0;
+    if (!request->over) um_withdraw(request);
     int code = request->status.cancelled ? MPIX_ERR_REVOKED : request->code;
-    free_request(request);
+    um_free_request(request);
     return code;
 }
 
-int collect_receive(struct comm *comm, int from, void *bytes, size_t room) { return collect_finish(collect_post(comm, from, bytes, room, 0)); }
+int um_collect_receive(struct comm *comm, int from, void *bytes, size_t room) { return um_collect_finish(um_collect_post(comm, from, bytes, room, 0)); }
 
 /* Position 0 gets `length` bytes of each, by positions; the others send theirs. The first error, after all were asked. */
-int gather_all(struct comm *comm, const void *in, size_t length, void *all) {
-    if (comm->position) return collect_send(comm, 0, in, length);
+int um_gather_all(struct comm *comm, const void *in, size_t length, void *all) {
+    if (comm->position) return um_collect_send(comm, 0, in, length);
     int code = MPI_SUCCESS;
     if (length && all != in) memcpy(all, in, length);
     for (int k = 1; k < comm->size; k++) {
-        int one = collect_receive(comm, k, (char *)all + length * (size_t)k, length);
+        int one = um_collect_receive(comm, k, (char *)all + length * (size_t)k, length);
         if (code == MPI_SUCCESS) code = one;
     }
     return code;
 }
 
 /* All get the root's bytes. The first error, after all were told. */
-int spread(struct comm *comm, void *bytes, size_t length, int root) {
-    if (comm->position != root) return collect_receive(comm, root, bytes, length);
+int um_spread(struct comm *comm, void *bytes, size_t length, int root) {
+    if (comm->position != root) return um_collect_receive(comm, root, bytes, length);
     int code = MPI_SUCCESS;
     for (int k = 0; k < comm->size; k++) {
         if (k == root) continue;
-        int one = collect_send(comm, k, bytes, length);
+        int one = um_collect_send(comm, k, bytes, length);
         if (code == MPI_SUCCESS) code = one;
     }
     return code;
 }
 
 /* Position 0 tells all its code, and `length` bytes behind it: the buffer has room for both. What comes of it here. */
-int spread_verdict(struct comm *comm, int code, void *buffer, size_t length) {
+int um_spread_verdict(struct comm *comm, int code, void *buffer, size_t length) {
     int64_t verdict = code;
     memset(buffer, 0, VERDICT);
     memcpy(buffer, &verdict, sizeof verdict);
-    int told = spread(comm, buffer, VERDICT + length, 0);
+    int told = um_spread(comm, buffer, VERDICT + length, 0);
     memcpy(&verdict, buffer, sizeof verdict);
     if (comm->position == 0) return code != MPI_SUCCESS ? code : told;
     return told != MPI_SUCCESS ? told : (int)verdict;
 }
 
 int MPI_Barrier(MPI_Comm comm) {
-    struct comm *of = comm_at(comm);
+    struct comm *of = um_comm_at(comm);
     char verdict[VERDICT];
     ENTER(of, MPI_UNDEFINED, MPI_UNDEFINED);
-    int code = begin_collective(of);
-    if (code != MPI_SUCCESS) return fail(of, code);
-    code = gather_all(of, 0, 0, 0);
-    return fail(of, spread_verdict(of, code, verdict, 0));
+    int code = um_begin_collective(of);
+    if (code != MPI_SUCCESS) return um_fail(of, code);
+    code = um_gather_all(of, 0, 0, 0);
+    return um_fail(of, um_spread_verdict(of, code, verdict, 0));
 }
 
 /* All get the root's data, where their types lay it out. */
 static int broadcast(struct comm *comm, void *buf, int count, MPI_Datatype type, size_t bytes, int root) {
     const void *data;
     void *packed;
-    int code = pack_data(buf, count, type, &data, &packed);
+    int code = um_pack_data(buf, count, type, &data, &packed);
     if (code != MPI_SUCCESS) return code;
-    code = spread(comm, packed ? packed : buf, bytes, root);
-    if (packed && code == MPI_SUCCESS && comm->position != root) unpack_data(packed, bytes, buf, count, type);
+    code = um_spread(comm, packed ? packed : buf, bytes, root);
+    if (packed && code == MPI_SUCCESS && comm->position != root) um_unpack_data(packed, bytes, buf, count, type);
     free(packed);
     return code;
 }
 
 /* Why a broadcast can't be, or MPI_SUCCESS and its bytes. */
-int check_broadcast(struct comm *comm, const void *buf, int count, MPI_Datatype type, int root, size_t *bytes) {
+int um_check_broadcast(struct comm *comm, const void *buf, int count, MPI_Datatype type, int root, size_t *bytes) {
     int code;
     if (!comm) return MPI_ERR_COMM;
-    check_buffer(count, type, bytes, &code);
+    um_check_buffer(count, type, bytes, &code);
     if (root < 0 || root >= comm->size) code = MPI_ERR_ROOT;
-    if (code == MPI_SUCCESS && !is_buffer(buf, *bytes, type)) code = MPI_ERR_BUFFER;
-    return code == MPI_SUCCESS ? code : refuse_collective(comm, code);
+    if (code == MPI_SUCCESS && !um_is_buffer(buf, *bytes, type)) code = MPI_ERR_BUFFER;
+    return code == MPI_SUCCESS ? code : um_refuse_collective(comm, code);
 }
 
 int MPI_Bcast(void *buf, int count, MPI_Datatype type, int root, MPI_Comm comm) {
-    struct comm *of = comm_at(comm);
+    struct comm *of = um_comm_at(comm);
     size_t bytes;
     ENTER(of, MPI_UNDEFINED, MPI_UNDEFINED);
-    int code = check_broadcast(of, buf, count, type, root, &bytes);
-    if (code == MPI_SUCCESS) code = begin_collective(of);
-    return fail(of, code != MPI_SUCCESS ? code : broadcast(of, buf, count, type, bytes, root));
+    int code = um_check_broadcast(of, buf, count, type, root, &bytes);
+    if (code == MPI_SUCCESS) code = um_begin_collective(of);
+    return um_fail(of, code != MPI_SUCCESS ? code : broadcast(of, buf, count, type, bytes, root));
 }

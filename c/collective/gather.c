@@ -5,27 +5,27 @@
 #include <string.h>
 
 /* Why the data that a rank sends or gets can't be, or MPI_SUCCESS. */
-int check_own(const void *buffer, int count, MPI_Datatype type, bool may_be_in_place) {
+int um_check_own(const void *buffer, int count, MPI_Datatype type, bool may_be_in_place) {
     size_t bytes;
     int code;
     if (may_be_in_place && buffer == MPI_IN_PLACE) return MPI_SUCCESS;
-    if (!check_buffer(count, type, &bytes, &code)) return code;
-    return is_buffer(buffer, bytes, type) ? MPI_SUCCESS : MPI_ERR_BUFFER;
+    if (!um_check_buffer(count, type, &bytes, &code)) return code;
+    return um_is_buffer(buffer, bytes, type) ? MPI_SUCCESS : MPI_ERR_BUFFER;
 }
 
 /* Copies data that stay at this rank. An error is told where the request ends. */
-void copy_own(struct request *collective, const void *from, int sent, MPI_Datatype sendtype, void *to, int count, MPI_Datatype type) {
+void um_copy_own(struct request *collective, const void *from, int sent, MPI_Datatype sendtype, void *to, int count, MPI_Datatype type) {
     const void *data;
     void *packed;
     size_t bytes = 0, room = 0;
     int code;
     if (from == MPI_IN_PLACE || to == MPI_IN_PLACE || (sent == 0 && count == 0)) return;
-    check_buffer(sent, sendtype, &bytes, &code);
-    check_buffer(count, type, &room, &code);
-    code = pack_data(from, sent, sendtype, &data, &packed);
+    um_check_buffer(sent, sendtype, &bytes, &code);
+    um_check_buffer(count, type, &room, &code);
+    code = um_pack_data(from, sent, sendtype, &data, &packed);
     size_t length = bytes < room ? bytes : room;
-    if (code == MPI_SUCCESS && length && is_plain_type(type)) memmove(to, data, length);
-    else if (code == MPI_SUCCESS) unpack_data(data, length, to, count, type);
+    if (code == MPI_SUCCESS && length && um_is_plain_type(type)) memmove(to, data, length);
+    else if (code == MPI_SUCCESS) um_unpack_data(data, length, to, count, type);
     if (code == MPI_SUCCESS && bytes > room) code = MPI_ERR_TRUNCATE;
     if (collective->code == MPI_SUCCESS) collective->code = code;
     free(packed);
@@ -35,103 +35,103 @@ static int begin_gather(const void *sendbuf, int sendcount, MPI_Datatype sendtyp
                         struct request **made) {
     if (!comm) return MPI_ERR_COMM;
     bool is_root = comm->position == root;
-    int code = root < 0 || root >= comm->size ? MPI_ERR_ROOT : check_own(sendbuf, sendcount, sendtype, is_root);
-    if (code == MPI_SUCCESS && is_root) code = check_layout(to, comm);
-    if (code != MPI_SUCCESS) return refuse_collective(comm, code);
-    code = start_collective(comm, made);
+    int code = root < 0 || root >= comm->size ? MPI_ERR_ROOT : um_check_own(sendbuf, sendcount, sendtype, is_root);
+    if (code == MPI_SUCCESS && is_root) code = um_check_layout(to, comm);
+    if (code != MPI_SUCCESS) return um_refuse_collective(comm, code);
+    code = um_start_collective(comm, made);
     if (code != MPI_SUCCESS || (*made)->over) return code;
-    if (!is_root) send_data(*made, root, sendbuf, sendcount, sendtype);
-    else copy_own(*made, sendbuf, sendcount, sendtype, part_at(to, root), count_at(to, root), to->type);
-    for (int k = 0; k < comm->size && is_root; k++) post_data(*made, k, part_at(to, k), count_at(to, k), to->type);
+    if (!is_root) um_send_data(*made, root, sendbuf, sendcount, sendtype);
+    else um_copy_own(*made, sendbuf, sendcount, sendtype, um_part_at(to, root), um_count_at(to, root), to->type);
+    for (int k = 0; k < comm->size && is_root; k++) um_post_data(*made, k, um_part_at(to, k), um_count_at(to, k), to->type);
     return MPI_SUCCESS;
 }
 
 int MPI_Gather(const void *sendbuf, int sendcount, MPI_Datatype sendtype, void *recvbuf, int recvcount, MPI_Datatype recvtype, int root,
                MPI_Comm comm) {
-    struct comm *of = comm_at(comm);
+    struct comm *of = um_comm_at(comm);
     struct request *made;
     struct layout to = {.at = recvbuf, .count = recvcount, .type = recvtype};
     ENTER(of, MPI_UNDEFINED, MPI_UNDEFINED);
-    return wait_for_collective(of, begin_gather(sendbuf, sendcount, sendtype, &to, root, of, &made), &made);
+    return um_wait_for_collective(of, begin_gather(sendbuf, sendcount, sendtype, &to, root, of, &made), &made);
 }
 
 int MPI_Igather(const void *sendbuf, int sendcount, MPI_Datatype sendtype, void *recvbuf, int recvcount, MPI_Datatype recvtype, int root,
                 MPI_Comm comm, MPI_Request *handle) {
-    struct comm *of = comm_at(comm);
+    struct comm *of = um_comm_at(comm);
     struct request *made;
     struct layout to = {.at = recvbuf, .count = recvcount, .type = recvtype};
     ENTER(of, MPI_UNDEFINED, MPI_UNDEFINED);
     GIVES(of, handle);
-    return give_collective(of, begin_gather(sendbuf, sendcount, sendtype, &to, root, of, &made), &made, handle);
+    return um_give_collective(of, begin_gather(sendbuf, sendcount, sendtype, &to, root, of, &made), &made, handle);
 }
 
 int MPI_Gatherv(const void *sendbuf, int sendcount, MPI_Datatype sendtype, void *recvbuf, const int recvcounts[], const int displs[],
                 MPI_Datatype recvtype, int root, MPI_Comm comm) {
-    struct comm *of = comm_at(comm);
+    struct comm *of = um_comm_at(comm);
     struct request *made;
     struct layout to = {.at = recvbuf, .has_counts = true, .counts = recvcounts, .displs = displs, .type = recvtype};
     ENTER(of, MPI_UNDEFINED, MPI_UNDEFINED);
-    return wait_for_collective(of, begin_gather(sendbuf, sendcount, sendtype, &to, root, of, &made), &made);
+    return um_wait_for_collective(of, begin_gather(sendbuf, sendcount, sendtype, &to, root, of, &made), &made);
 }
 
 int MPI_Igatherv(const void *sendbuf, int sendcount, MPI_Datatype sendtype, void *recvbuf, const int recvcounts[], const int displs[],
                  MPI_Datatype recvtype, int root, MPI_Comm comm, MPI_Request *handle) {
-    struct comm *of = comm_at(comm);
+    struct comm *of = um_comm_at(comm);
     struct request *made;
     struct layout to = {.at = recvbuf, .has_counts = true, .counts = recvcounts, .displs = displs, .type = recvtype};
     ENTER(of, MPI_UNDEFINED, MPI_UNDEFINED);
     GIVES(of, handle);
-    return give_collective(of, begin_gather(sendbuf, sendcount, sendtype, &to, root, of, &made), &made, handle);
+    return um_give_collective(of, begin_gather(sendbuf, sendcount, sendtype, &to, root, of, &made), &made, handle);
 }
 
 static int begin_allgather(const void *sendbuf, int sendcount, MPI_Datatype sendtype, const struct layout *to, struct comm *comm,
                            struct request **made) {
     if (!comm) return MPI_ERR_COMM;
-    int code = check_own(sendbuf, sendcount, sendtype, true), at = comm->position;
-    if (code == MPI_SUCCESS) code = check_layout(to, comm);
-    if (code != MPI_SUCCESS) return refuse_collective(comm, code);
-    code = start_collective(comm, made);
+    int code = um_check_own(sendbuf, sendcount, sendtype, true), at = comm->position;
+    if (code == MPI_SUCCESS) code = um_check_layout(to, comm);
+    if (code != MPI_SUCCESS) return um_refuse_collective(comm, code);
+    code = um_start_collective(comm, made);
     if (code != MPI_SUCCESS || (*made)->over) return code;
-    copy_own(*made, sendbuf, sendcount, sendtype, part_at(to, at), count_at(to, at), to->type);
-    if (sendbuf == MPI_IN_PLACE) send_data(*made, MPI_UNDEFINED, part_at(to, at), count_at(to, at), to->type);
-    else send_data(*made, MPI_UNDEFINED, sendbuf, sendcount, sendtype);
-    for (int k = 0; k < comm->size; k++) post_data(*made, k, part_at(to, k), count_at(to, k), to->type);
+    um_copy_own(*made, sendbuf, sendcount, sendtype, um_part_at(to, at), um_count_at(to, at), to->type);
+    if (sendbuf == MPI_IN_PLACE) um_send_data(*made, MPI_UNDEFINED, um_part_at(to, at), um_count_at(to, at), to->type);
+    else um_send_data(*made, MPI_UNDEFINED, sendbuf, sendcount, sendtype);
+    for (int k = 0; k < comm->size; k++) um_post_data(*made, k, um_part_at(to, k), um_count_at(to, k), to->type);
     return MPI_SUCCESS;
 }
 
 int MPI_Allgather(const void *sendbuf, int sendcount, MPI_Datatype sendtype, void *recvbuf, int recvcount, MPI_Datatype recvtype, MPI_Comm comm) {
-    struct comm *of = comm_at(comm);
+    struct comm *of = um_comm_at(comm);
     struct request *made;
     struct layout to = {.at = recvbuf, .count = recvcount, .type = recvtype};
     ENTER(of, MPI_UNDEFINED, MPI_UNDEFINED);
-    return wait_for_collective(of, begin_allgather(sendbuf, sendcount, sendtype, &to, of, &made), &made);
+    return um_wait_for_collective(of, begin_allgather(sendbuf, sendcount, sendtype, &to, of, &made), &made);
 }
 
 int MPI_Iallgather(const void *sendbuf, int sendcount, MPI_Datatype sendtype, void *recvbuf, int recvcount, MPI_Datatype recvtype, MPI_Comm comm,
                    MPI_Request *handle) {
-    struct comm *of = comm_at(comm);
+    struct comm *of = um_comm_at(comm);
     struct request *made;
     struct layout to = {.at = recvbuf, .count = recvcount, .type = recvtype};
     ENTER(of, MPI_UNDEFINED, MPI_UNDEFINED);
     GIVES(of, handle);
-    return give_collective(of, begin_allgather(sendbuf, sendcount, sendtype, &to, of, &made), &made, handle);
+    return um_give_collective(of, begin_allgather(sendbuf, sendcount, sendtype, &to, of, &made), &made, handle);
 }
 
 int MPI_Allgatherv(const void *sendbuf, int sendcount, MPI_Datatype sendtype, void *recvbuf, const int recvcounts[], const int displs[],
                    MPI_Datatype recvtype, MPI_Comm comm) {
-    struct comm *of = comm_at(comm);
+    struct comm *of = um_comm_at(comm);
     struct request *made;
     struct layout to = {.at = recvbuf, .has_counts = true, .counts = recvcounts, .displs = displs, .type = recvtype};
     ENTER(of, MPI_UNDEFINED, MPI_UNDEFINED);
-    return wait_for_collective(of, begin_allgather(sendbuf, sendcount, sendtype, &to, of, &made), &made);
+    return um_wait_for_collective(of, begin_allgather(sendbuf, sendcount, sendtype, &to, of, &made), &made);
 }
 
 int MPI_Iallgatherv(const void *sendbuf, int sendcount, MPI_Datatype sendtype, void *recvbuf, const int recvcounts[], const int displs[],
                     MPI_Datatype recvtype, MPI_Comm comm, MPI_Request *handle) {
-    struct comm *of = comm_at(comm);
+    struct comm *of = um_comm_at(comm);
     struct request *made;
     struct layout to = {.at = recvbuf, .has_counts = true, .counts = recvcounts, .displs = displs, .type = recvtype};
     ENTER(of, MPI_UNDEFINED, MPI_UNDEFINED);
     GIVES(of, handle);
-    return give_collective(of, begin_allgather(sendbuf, sendcount, sendtype, &to, of, &made), &made, handle);
+    return um_give_collective(of, begin_allgather(sendbuf, sendcount, sendtype, &to, of, &made), &made, handle);
 }

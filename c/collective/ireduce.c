@@ -15,28 +15,28 @@ static bool goes(const struct reduction *of, int from, int to) {
 /* Keeps the type and the operation, which the program may free before the end. */
 static int keep(struct reduction *of) {
     of->given = of->type;
-    of->op = keep_op(of->op);
-    of->type = keep_type(of->type);
+    of->op = um_keep_op(of->op);
+    of->type = um_keep_type(of->type);
     return of->op != MPI_OP_NULL && of->type != MPI_DATATYPE_NULL ? MPI_SUCCESS : MPI_ERR_NO_MEM;
 }
 
-void free_reduction(struct reduction *of) {
+void um_free_reduction(struct reduction *of) {
     if (!of) return;
-    drop_op(of->op);
-    drop_type(of->type);
+    um_drop_op(of->op);
+    um_drop_type(of->type);
     free(of->room);
     free(of);
 }
 
 /* Sends this rank's part, and posts receives for those that it folds. */
 static void exchange_parts(struct request *made, struct reduction *of, const void *sendbuf) {
-    const void *own = own_part(of, sendbuf, of->recvbuf);
+    const void *own = um_own_part(of, sendbuf, of->recvbuf);
     int at = of->comm->position;
     if (of->bytes) memcpy(of->parts + of->bytes * (size_t)at, own, of->bytes);
     for (int k = 0; k < of->comm->size; k++)
-        if (goes(of, at, k)) send_bytes(made, k, own, of->bytes);
+        if (goes(of, at, k)) um_send_bytes(made, k, own, of->bytes);
     for (int k = 0; k < of->comm->size; k++)
-        if (goes(of, k, at)) post_bytes(made, k, of->parts + of->bytes * (size_t)k, of->bytes, 0);
+        if (goes(of, k, at)) um_post_bytes(made, k, of->parts + of->bytes * (size_t)k, of->bytes, 0);
 }
 
 /* Begins a reduction like this one. `receives`: this rank gets a result. */
@@ -44,39 +44,39 @@ static int start(const struct reduction *like, const void *sendbuf, bool receive
     struct request *made = 0;
     struct comm *comm = like->comm;
     struct reduction *of = malloc(sizeof *of);
-    if (!of) return fail(comm, MPI_ERR_NO_MEM);
+    if (!of) return um_fail(comm, MPI_ERR_NO_MEM);
     *of = *like;
-    int code = check_reduction(of, sendbuf, of->recvbuf, receives);
+    int code = um_check_reduction(of, sendbuf, of->recvbuf, receives);
     if (code != MPI_SUCCESS) {
         free(of);
-        return fail(comm, code);
+        return um_fail(comm, code);
     }
     code = keep(of);
-    if (code == MPI_SUCCESS) code = make_room(of);
-    if (code == MPI_SUCCESS) code = start_collective(comm, &made);
+    if (code == MPI_SUCCESS) code = um_make_room(of);
+    if (code == MPI_SUCCESS) code = um_start_collective(comm, &made);
     if (code == MPI_SUCCESS) made->reduction = of;
-    else free_reduction(of);
+    else um_free_reduction(of);
     if (code == MPI_SUCCESS && !made->over) exchange_parts(made, of, sendbuf);
-    return give_collective(comm, code, &made, handle);
+    return um_give_collective(comm, code, &made, handle);
 }
 
 /* All parts are there, or an error is. */
-int end_reduction(struct reduction *of, int code) {
+int um_end_reduction(struct reduction *of, int code) {
     if (code == MPI_SUCCESS && of->last >= 0) {
-        struct place place = me->place;   /* an operation of the program's may ask MPI something, and look at the type's handle */
+        struct place place = um_me->place;   /* an operation of the program's may ask MPI something, and look at the type's handle */
         MPI_Datatype kept = of->type;
-        if (type_at(of->given) == type_at(kept)) of->type = of->given;
-        code = fold_parts(of, of->last, of->result + VERDICT);
-        if (code == MPI_SUCCESS) deliver_own_elements(of, of->recvbuf);
+        if (um_type_at(of->given) == um_type_at(kept)) of->type = of->given;
+        code = um_fold_parts(of, of->last, of->result + VERDICT);
+        if (code == MPI_SUCCESS) um_deliver_own_elements(of, of->recvbuf);
         of->type = kept;
-        me->place = place;
+        um_me->place = place;
     }
-    free_reduction(of);
+    um_free_reduction(of);
     return code;
 }
 
 int MPI_Iallreduce(const void *sendbuf, void *recvbuf, int count, MPI_Datatype type, MPI_Op op, MPI_Comm comm, MPI_Request *handle) {
-    struct comm *in = comm_at(comm);
+    struct comm *in = um_comm_at(comm);
     struct reduction of = {.comm = in, .count = count, .type = type, .op = op, .recvbuf = recvbuf, .to = TO_ALL, .last = in ? in->size - 1 : 0};
     ENTER(in, MPI_UNDEFINED, MPI_UNDEFINED);
     GIVES(in, handle);
@@ -84,19 +84,19 @@ int MPI_Iallreduce(const void *sendbuf, void *recvbuf, int count, MPI_Datatype t
 }
 
 int MPI_Ireduce(const void *sendbuf, void *recvbuf, int count, MPI_Datatype type, MPI_Op op, int root, MPI_Comm comm, MPI_Request *handle) {
-    struct comm *in = comm_at(comm);
+    struct comm *in = um_comm_at(comm);
     struct reduction of = {.comm = in, .count = count, .type = type, .op = op, .recvbuf = recvbuf, .to = root};
     ENTER(in, MPI_UNDEFINED, MPI_UNDEFINED);
     GIVES(in, handle);
-    if (in && (root < 0 || root >= in->size)) return fail(in, refuse_collective(in, MPI_ERR_ROOT));
+    if (in && (root < 0 || root >= in->size)) return um_fail(in, um_refuse_collective(in, MPI_ERR_ROOT));
     bool is_root = in && in->position == root;
-    if (is_root && sendbuf == recvbuf && count > 0) return fail(in, refuse_collective(in, MPI_ERR_BUFFER));
+    if (is_root && sendbuf == recvbuf && count > 0) return um_fail(in, um_refuse_collective(in, MPI_ERR_BUFFER));
     of.last = is_root ? in->size - 1 : -1;
     return start(&of, sendbuf, is_root, handle);
 }
 
 int MPI_Iscan(const void *sendbuf, void *recvbuf, int count, MPI_Datatype type, MPI_Op op, MPI_Comm comm, MPI_Request *handle) {
-    struct comm *in = comm_at(comm);
+    struct comm *in = um_comm_at(comm);
     struct reduction of = {.comm = in, .count = count, .type = type, .op = op, .recvbuf = recvbuf, .to = UPWARD, .last = in ? in->position : 0};
     ENTER(in, MPI_UNDEFINED, MPI_UNDEFINED);
     GIVES(in, handle);
@@ -104,7 +104,7 @@ int MPI_Iscan(const void *sendbuf, void *recvbuf, int count, MPI_Datatype type, 
 }
 
 int MPI_Iexscan(const void *sendbuf, void *recvbuf, int count, MPI_Datatype type, MPI_Op op, MPI_Comm comm, MPI_Request *handle) {
-    struct comm *in = comm_at(comm);
+    struct comm *in = um_comm_at(comm);
     struct reduction of = {.comm = in, .count = count, .type = type, .op = op, .recvbuf = recvbuf, .to = UPWARD, .last = in ? in->position - 1 : 0};
     ENTER(in, MPI_UNDEFINED, MPI_UNDEFINED);
     GIVES(in, handle);
@@ -112,22 +112,22 @@ int MPI_Iexscan(const void *sendbuf, void *recvbuf, int count, MPI_Datatype type
 }
 
 int MPI_Ireduce_scatter_block(const void *sendbuf, void *recvbuf, int count, MPI_Datatype type, MPI_Op op, MPI_Comm comm, MPI_Request *handle) {
-    struct comm *in = comm_at(comm);
+    struct comm *in = um_comm_at(comm);
     struct reduction of = {.comm = in, .count = in && count > 0 ? count * in->size : count, .type = type, .op = op, .recvbuf = recvbuf, .to = TO_ALL};
     ENTER(in, MPI_UNDEFINED, MPI_UNDEFINED);
     GIVES(in, handle);
-    if (in) take_own_elements(&of, 0, count), of.last = in->size - 1;
+    if (in) um_take_own_elements(&of, 0, count), of.last = in->size - 1;
     return start(&of, sendbuf, true, handle);
 }
 
 int MPI_Ireduce_scatter(const void *sendbuf, void *recvbuf, const int counts[], MPI_Datatype type, MPI_Op op, MPI_Comm comm, MPI_Request *handle) {
-    struct comm *in = comm_at(comm);
+    struct comm *in = um_comm_at(comm);
     struct reduction of = {.comm = in, .type = type, .op = op, .recvbuf = recvbuf, .to = TO_ALL};
     ENTER(in, MPI_UNDEFINED, MPI_UNDEFINED);
     GIVES(in, handle);
-    int code = sum_of_counts(counts, in, &of.count);
-    if (code != MPI_SUCCESS) return fail(in, code);
-    take_own_elements(&of, counts, 0);
+    int code = um_sum_of_counts(counts, in, &of.count);
+    if (code != MPI_SUCCESS) return um_fail(in, code);
+    um_take_own_elements(&of, counts, 0);
     of.last = in->size - 1;
     return start(&of, sendbuf, counts[in->position] > 0 || sendbuf == MPI_IN_PLACE, handle);
 }

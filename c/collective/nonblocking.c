@@ -13,49 +13,49 @@ static int release_parts(struct request *collective) {
     for (int k = 0; k < MAX_RANKS; k++) {
         struct request *part = collective->parts[k];
         if (!part) continue;
-        if (!part->over) withdraw(part);
+        if (!part->over) um_withdraw(part);
         if (code == MPI_SUCCESS) code = part->code;
-        free_request(part);
+        um_free_request(part);
         collective->parts[k] = 0;
     }
     return code;
 }
 
 /* Looks once. It is over where all receives are, or the communicator is revoked. */
-void look_at_collective(struct request *collective) {
+void um_look_at_collective(struct request *collective) {
     bool is_open = false;
     for (int k = 0; k < MAX_RANKS; k++) {
         struct request *part = collective->parts[k];
-        if (part) look_at(part);
+        if (part) um_look_at(part);
         is_open = is_open || (part && !part->over);
     }
-    bool has_revoked = is_open && is_revoked(collective->comm);
+    bool has_revoked = is_open && um_is_revoked(collective->comm);
     if (is_open && !has_revoked) return;
     int code = release_parts(collective);
     if (has_revoked) code = MPIX_ERR_REVOKED;
     if (collective->code != MPI_SUCCESS) code = collective->code;
-    if (collective->reduction) code = end_reduction(collective->reduction, code);
+    if (collective->reduction) code = um_end_reduction(collective->reduction, code);
     collective->reduction = 0;
-    end_request(collective, code);
+    um_end_request(collective, code);
 }
 
 /* The world ranks that a collective, an agreement or a duplicate waits for, as bits. */
-uint32_t awaited_by(const struct request *request) {
+uint32_t um_awaited_by(const struct request *request) {
     uint32_t bits = 0;
-    if (request->kind == RECOVERY) return missing_from_agreement(request) | missing_from_copy(request);
+    if (request->kind == RECOVERY) return um_missing_from_agreement(request) | um_missing_from_copy(request);
     for (int k = 0; k < MAX_RANKS && request->kind == COLLECTIVE; k++)
         if (request->parts[k] && !request->parts[k]->over) bits |= 1u << request->comm->members[k];
     return bits;
 }
 
 /* Begins a collective whose arguments are right. A revocation is told where its request ends: it is over then. */
-int start_collective(struct comm *comm, struct request **made) {
-    int code = begin_collective(comm);
+int um_start_collective(struct comm *comm, struct request **made) {
+    int code = um_begin_collective(comm);
     if (code != MPI_SUCCESS && code != MPIX_ERR_REVOKED) return code;
-    *made = new_request(COLLECTIVE, comm, MPI_UNDEFINED, MPI_UNDEFINED);
+    *made = um_new_request(COLLECTIVE, comm, MPI_UNDEFINED, MPI_UNDEFINED);
     if (!*made) return MPI_ERR_NO_MEM;
     (*made)->status = (MPI_Status){0};
-    if (code != MPI_SUCCESS) end_request(*made, code);
+    if (code != MPI_SUCCESS) um_end_request(*made, code);
     return MPI_SUCCESS;
 }
 
@@ -64,89 +64,89 @@ static void note(struct request *collective, int code) {
 }
 
 /* Sends bytes to another member. An error is told where the request ends. */
-void send_bytes(struct request *collective, int to, const void *bytes, size_t length) {
-    if (to != collective->comm->position) note(collective, collect_send(collective->comm, to, bytes, length));
+void um_send_bytes(struct request *collective, int to, const void *bytes, size_t length) {
+    if (to != collective->comm->position) note(collective, um_collect_send(collective->comm, to, bytes, length));
 }
 
 /* Posts the receive of another member's bytes, which are laid out where there is a landing. */
-void post_bytes(struct request *collective, int from, void *bytes, size_t room, struct landing *landing) {
+void um_post_bytes(struct request *collective, int from, void *bytes, size_t room, struct landing *landing) {
     bool is_own = from == collective->comm->position;
-    if (!is_own) collective->parts[from] = collect_post(collective->comm, from, bytes, room, landing);
+    if (!is_own) collective->parts[from] = um_collect_post(collective->comm, from, bytes, room, landing);
     if (!is_own && !collective->parts[from]) note(collective, MPI_ERR_NO_MEM);
-    if (!collective->parts[from]) free_landing(landing);
+    if (!collective->parts[from]) um_free_landing(landing);
 }
 
 /* Sends data to a member, or to all others where `to` is MPI_UNDEFINED. */
-void send_data(struct request *collective, int to, const void *buf, int count, MPI_Datatype type) {
+void um_send_data(struct request *collective, int to, const void *buf, int count, MPI_Datatype type) {
     const void *data;
     void *packed;
     size_t bytes;
     int code;
     if (to == collective->comm->position) return;
-    check_buffer(count, type, &bytes, &code);
-    code = pack_data(buf, count, type, &data, &packed);
+    um_check_buffer(count, type, &bytes, &code);
+    code = um_pack_data(buf, count, type, &data, &packed);
     note(collective, code);
     for (int k = 0; k < collective->comm->size && code == MPI_SUCCESS; k++)
-        if (to == k || to == MPI_UNDEFINED) send_bytes(collective, k, data, bytes);
+        if (to == k || to == MPI_UNDEFINED) um_send_bytes(collective, k, data, bytes);
     free(packed);
 }
 
 /* Posts the receive of a member's data. */
-void post_data(struct request *collective, int from, void *buf, int count, MPI_Datatype type) {
+void um_post_data(struct request *collective, int from, void *buf, int count, MPI_Datatype type) {
     struct landing *landing;
     size_t bytes;
     int code;
-    check_buffer(count, type, &bytes, &code);
-    if (!make_landing(buf, count, type, &landing)) note(collective, MPI_ERR_NO_MEM);
-    else post_bytes(collective, from, landing ? bytes_of_landing(landing) : buf, bytes, landing);
+    um_check_buffer(count, type, &bytes, &code);
+    if (!um_make_landing(buf, count, type, &landing)) note(collective, MPI_ERR_NO_MEM);
+    else um_post_bytes(collective, from, landing ? um_bytes_of_landing(landing) : buf, bytes, landing);
 }
 
 /* Waits until a collective that was begun is over. What came of it. */
-int wait_for_collective(struct comm *comm, int code, struct request **made) {
-    if (code != MPI_SUCCESS) return fail(comm, code);
-    wait_for(*made);
+int um_wait_for_collective(struct comm *comm, int code, struct request **made) {
+    if (code != MPI_SUCCESS) return um_fail(comm, code);
+    um_wait_for(*made);
     code = (*made)->code;
-    free_request(*made);
-    return fail(comm, code);
+    um_free_request(*made);
+    return um_fail(comm, code);
 }
 
 /* Hands a collective that was begun to the program. Where its own data are longer than the room for them here, that is told at once. */
-int give_collective(struct comm *comm, int code, struct request **made, MPI_Request *handle) {
+int um_give_collective(struct comm *comm, int code, struct request **made, MPI_Request *handle) {
     if (code == MPI_SUCCESS && (*made)->code == MPI_ERR_TRUNCATE) {
         code = MPI_ERR_TRUNCATE;
         release_parts(*made);
-        free_request(*made);
+        um_free_request(*made);
     }
-    if (code != MPI_SUCCESS) return fail(comm, code);
+    if (code != MPI_SUCCESS) return um_fail(comm, code);
     *handle = (MPI_Request)(uintptr_t)(*made)->handle;
-    look_at(*made);
+    um_look_at(*made);
     return MPI_SUCCESS;
 }
 
 int MPI_Ibarrier(MPI_Comm comm, MPI_Request *handle) {
-    struct comm *of = comm_at(comm);
+    struct comm *of = um_comm_at(comm);
     struct request *made;
     ENTER(of, MPI_UNDEFINED, MPI_UNDEFINED);
     GIVES(of, handle);
-    int code = of ? start_collective(of, &made) : MPI_ERR_COMM;
+    int code = of ? um_start_collective(of, &made) : MPI_ERR_COMM;
     if (code == MPI_SUCCESS && !made->over) {
-        send_data(made, MPI_UNDEFINED, 0, 0, MPI_BYTE);
-        for (int k = 0; k < of->size; k++) post_data(made, k, 0, 0, MPI_BYTE);
+        um_send_data(made, MPI_UNDEFINED, 0, 0, MPI_BYTE);
+        for (int k = 0; k < of->size; k++) um_post_data(made, k, 0, 0, MPI_BYTE);
     }
-    return give_collective(of, code, &made, handle);
+    return um_give_collective(of, code, &made, handle);
 }
 
 int MPI_Ibcast(void *buf, int count, MPI_Datatype type, int root, MPI_Comm comm, MPI_Request *handle) {
-    struct comm *of = comm_at(comm);
+    struct comm *of = um_comm_at(comm);
     struct request *made;
     size_t bytes;
     ENTER(of, MPI_UNDEFINED, MPI_UNDEFINED);
     GIVES(of, handle);
-    int code = check_broadcast(of, buf, count, type, root, &bytes);
-    if (code == MPI_SUCCESS) code = start_collective(of, &made);
+    int code = um_check_broadcast(of, buf, count, type, root, &bytes);
+    if (code == MPI_SUCCESS) code = um_start_collective(of, &made);
     if (code == MPI_SUCCESS && !made->over) {
-        if (of->position == root) send_data(made, MPI_UNDEFINED, buf, count, type);
-        else post_data(made, root, buf, count, type);
+        if (of->position == root) um_send_data(made, MPI_UNDEFINED, buf, count, type);
+        else um_post_data(made, root, buf, count, type);
     }
-    return give_collective(of, code, &made, handle);
+    return um_give_collective(of, code, &made, handle);
 }

@@ -27,13 +27,13 @@ struct reduction {
     _Alignas(16) char short_room[SHORT];
 };
 
-int check_reduction(struct reduction *of, const void *sendbuf, const void *recvbuf, bool receives);
-int make_room(struct reduction *of);
-const void *own_part(const struct reduction *of, const void *sendbuf, const void *recvbuf);
-int fold_parts(const struct reduction *of, int last, char *into);
-void deliver(const struct reduction *of, const void *result, void *recvbuf);
-void take_own_elements(struct reduction *of, const int counts[], int count);
-void deliver_own_elements(struct reduction *of, void *recvbuf);
-int sum_of_counts(const int counts[], struct comm *comm, int *sum);
+int um_check_reduction(struct reduction *of, const void *sendbuf, const void *recvbuf, bool receives);
+int um_make_room(struct reduction *of);
+const void *um_own_part(const struct reduction *of, const void *sendbuf, const void *recvbuf);
+int um_fold_parts(const struct reduction *of, int last, char *into);
+void um_deliver(const struct reduction *of, const void *result, void *recvbuf);
+void um_take_own_elements(struct reduction *of, const int counts[], int count);
+void um_deliver_own_elements(struct reduction *of, void *recvbuf);
+int um_sum_of_counts(const int counts[], struct comm *comm, int *sum);
 
 #endif

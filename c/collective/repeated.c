@@ -5,51 +5,51 @@
 #include "mpi/calls.h"
 #include <stdlib.h>
 
-void free_repeated(struct repeated *of) {
+void um_free_repeated(struct repeated *of) {
     if (!of) return;
-    for (int k = 0; k < 3; k++) drop_type(of->kept[k]);
-    drop_op(of->op);
+    for (int k = 0; k < 3; k++) um_drop_type(of->kept[k]);
+    um_drop_op(of->op);
     free(of);
 }
 
 /* Begins a collective once more. */
-int start_repeated(const struct repeated *of, struct comm *comm, struct request **active) {
+int um_start_repeated(const struct repeated *of, struct comm *comm, struct request **active) {
     MPI_Request handle = MPI_REQUEST_NULL;
     comm->repeats = of->number;
-    me->is_starting = true;
-    int code = of->begin(of, handle_of(comm), &handle);
-    me->is_starting = false;
+    um_me->is_starting = true;
+    int code = of->begin(of, um_handle_of(comm), &handle);
+    um_me->is_starting = false;
     comm->repeats = 0;
-    *active = request_at(handle);
+    *active = um_request_at(handle);
     return code;
 }
 
 /* Keeps a type, which the program may free before the request. Where none is needed there may be anything. */
 static bool keep(MPI_Datatype *type, MPI_Datatype *kept) {
-    if (!type_at(*type)) return true;
-    *kept = keep_type(*type);
+    if (!um_type_at(*type)) return true;
+    *kept = um_keep_type(*type);
     if (*kept != MPI_DATATYPE_NULL) *type = *kept;
     return *kept != MPI_DATATYPE_NULL;
 }
 
-int init_repeated(const struct repeated *like, MPI_Comm comm, MPI_Info info, MPI_Request *handle) {
-    struct comm *at = comm_at(comm);
-    if (!at) return fail(0, MPI_ERR_COMM);
+int um_init_repeated(const struct repeated *like, MPI_Comm comm, MPI_Info info, MPI_Request *handle) {
+    struct comm *at = um_comm_at(comm);
+    if (!at) return um_fail(0, MPI_ERR_COMM);
     at->begun++;
     WRITES(at, handle);
     *handle = MPI_REQUEST_NULL;
-    if (!is_info(info)) return fail(at, MPI_ERR_INFO);
-    struct request *request = new_request(PERSISTENT, at, MPI_UNDEFINED, MPI_UNDEFINED);
+    if (!um_is_info(info)) return um_fail(at, MPI_ERR_INFO);
+    struct request *request = um_new_request(PERSISTENT, at, MPI_UNDEFINED, MPI_UNDEFINED);
     struct repeated *of = request ? malloc(sizeof *of) : 0;
     if (of) {
         *of = *like;
         of->number = at->begun;
-        of->op = keep_op(like->op);
+        of->op = um_keep_op(like->op);
         request->repeated = of;
     }
     if (!of || !keep(&of->type, &of->kept[0]) || !keep(&of->sendtype, &of->kept[1]) || !keep(&of->recvtype, &of->kept[2])) {
-        if (request) free_request(request);
-        return fail(at, MPI_ERR_NO_MEM);
+        if (request) um_free_request(request);
+        return um_fail(at, MPI_ERR_NO_MEM);
     }
     *handle = (MPI_Request)(uintptr_t)request->handle;
     return MPI_SUCCESS;

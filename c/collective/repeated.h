@@ -18,8 +18,8 @@ struct repeated {
     int root;
 };
 
-void free_repeated(struct repeated *of);
-int init_repeated(const struct repeated *like, MPI_Comm comm, MPI_Info info, MPI_Request *handle);
-int start_repeated(const struct repeated *of, struct comm *comm, struct request **active);
+void um_free_repeated(struct repeated *of);
+int um_init_repeated(const struct repeated *like, MPI_Comm comm, MPI_Info info, MPI_Request *handle);
+int um_start_repeated(const struct repeated *of, struct comm *comm, struct request **active);
 
 #endif

@@ -2,7 +2,7 @@
 #include "engine/engine.h"
 
 /* The error code of a refusal of the engine. */
-int class_of(uint32_t code) {
+int um_class_of(uint32_t code) {
     switch (code) {
     case ULFM_OK: return MPI_SUCCESS;
     case ULFM_NO_COMM: return MPI_ERR_COMM;
@@ -22,16 +22,16 @@ int class_of(uint32_t code) {
 }
 
 /* Whether the program's communicator is known to be revoked. */
-bool is_revoked(const struct comm *comm) {
+bool um_is_revoked(const struct comm *comm) {
     uint32_t revoked = 0;
     if (comm->is_part) return atomic_load(comm->revoked);
-    return ulfm_is_revoked(me->slot, comm->context, &revoked) == ULFM_OK && revoked;
+    return ulfm_is_revoked(um_me->slot, comm->context, &revoked) == ULFM_OK && revoked;
 }
 
 /* The members that are known to have failed, in the order in which this rank learned it. */
-int failed_of(const struct comm *comm, ulfm_group *failed) {
+int um_failed_of(const struct comm *comm, ulfm_group *failed) {
     ulfm_group all;
-    int code = class_of(ulfm_get_failed(me->slot, comm->context, &all));
+    int code = um_class_of(ulfm_get_failed(um_me->slot, comm->context, &all));
     *failed = (ulfm_group){0};
     for (uint32_t k = 0; code == MPI_SUCCESS && k < all.size; k++)
         for (int at = 0; at < comm->size; at++)
@@ -40,15 +40,15 @@ int failed_of(const struct comm *comm, ulfm_group *failed) {
 }
 
 /* Whether a member failed whose failure isn't acknowledged. */
-bool has_unacknowledged(const struct comm *comm) {
+bool um_has_unacknowledged(const struct comm *comm) {
     ulfm_group failed;
-    return failed_of(comm, &failed) == MPI_SUCCESS && failed.size > comm->acknowledged;
+    return um_failed_of(comm, &failed) == MPI_SUCCESS && failed.size > comm->acknowledged;
 }
 
 /* Whether the member at a position is known to have failed. */
-bool is_failed(const struct comm *comm, int position) {
+bool um_is_failed(const struct comm *comm, int position) {
     ulfm_group failed;
-    if (failed_of(comm, &failed) != MPI_SUCCESS) return false;
+    if (um_failed_of(comm, &failed) != MPI_SUCCESS) return false;
     for (uint32_t k = 0; k < failed.size; k++)
         if (failed.members[k] == comm->members[position]) return true;
     return false;

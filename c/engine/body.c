@@ -13,38 +13,38 @@ static int send_whole(uint32_t context, int dest, int tag, const void *bytes, si
     union body body;
     body.whole.content = MESSAGE;
     if (length) memcpy(body.whole.message, bytes, length);
-    return class_of(ulfm_isend(me->slot, context, (uint32_t)dest, (uint32_t)tag, &body.content, 1 + length));
+    return um_class_of(ulfm_isend(um_me->slot, context, (uint32_t)dest, (uint32_t)tag, &body.content, 1 + length));
 }
 
 static int send_reference(struct parcel *parcel, int dest) {
     struct reference reference = {.content = REFERENCE, .parcel = parcel};
-    return class_of(ulfm_isend(me->slot, parcel->context, (uint32_t)dest, (uint32_t)parcel->tag, &reference.content, sizeof reference));
+    return um_class_of(ulfm_isend(um_me->slot, parcel->context, (uint32_t)dest, (uint32_t)parcel->tag, &reference.content, sizeof reference));
 }
 
 static int send_parcel(const struct parcel *like, int dest, struct parcel **waits) {
-    struct parcel *parcel = new_parcel(like);
+    struct parcel *parcel = um_new_parcel(like);
     if (!parcel) return MPI_ERR_NO_MEM;
-    if (waits) atomic_fetch_add(&ranks[parcel->to].waited_for, 1);
+    if (waits) atomic_fetch_add(&um_ranks[parcel->to].waited_for, 1);
     int code = send_reference(parcel, dest);
     if (code != MPI_SUCCESS) {
-        if (waits) atomic_fetch_sub(&ranks[parcel->to].waited_for, 1);
+        if (waits) atomic_fetch_sub(&um_ranks[parcel->to].waited_for, 1);
         parcel->users = 1;
-        let_go(parcel);
+        um_let_go(parcel);
         return code;
     }
     if (waits) *waits = parcel;
-    move_once();
-    fill_parcel(parcel);
+    um_move_once();
+    um_fill_parcel(parcel);
     return MPI_SUCCESS;
 }
 
-int send_body(uint32_t context, int dest, int world, int tag, const void *bytes, size_t length, struct parcel **waits) {
+int um_send_body(uint32_t context, int dest, int world, int tag, const void *bytes, size_t length, struct parcel **waits) {
     if (waits || length > AT_ONCE || length == AMBIGUOUS)
-        return send_parcel(&(struct parcel){.users = waits ? 3 : 2, .is_waited_for = waits != 0, .from = me->number, .to = world, .context = context,
+        return send_parcel(&(struct parcel){.users = waits ? 3 : 2, .is_waited_for = waits != 0, .from = um_me->number, .to = world, .context = context,
                                             .tag = tag, .length = length, .source = bytes},
                            dest, waits);
     int code = send_whole(context, dest, tag, bytes, length);
-    if (code == MPI_SUCCESS) move_once();
+    if (code == MPI_SUCCESS) um_move_once();
     return code;
 }
 
@@ -55,15 +55,15 @@ static size_t length_in(const struct received *received) {
 /* Its receiver is done with a parcel. */
 static void release(struct parcel *parcel) {
     bool is_waited_for = parcel->is_waited_for;
-    if (is_waited_for) atomic_fetch_sub(&me->waited_for, 1);
-    let_go(parcel);
-    if (is_waited_for) marked();
+    if (is_waited_for) atomic_fetch_sub(&um_me->waited_for, 1);
+    um_let_go(parcel);
+    if (is_waited_for) um_marked();
 }
 
-void take_body(const struct received *received, void *buffer, size_t room, MPI_Status *status, int *code) {
+void um_take_body(const struct received *received, void *buffer, size_t room, MPI_Status *status, int *code) {
     struct parcel *parcel = is_reference(received) ? received->body.reference.parcel : 0;
     size_t whole = length_in(received), length = whole < room ? whole : room;
-    if (parcel) empty_parcel(parcel, buffer, length);
+    if (parcel) um_empty_parcel(parcel, buffer, length);
     else if (length) memcpy(buffer, received->body.whole.message, length);
     *code = whole > room ? MPI_ERR_TRUNCATE : MPI_SUCCESS;
     *status = (MPI_Status){.MPI_SOURCE = (int)received->told.source, .MPI_TAG = (int)received->told.tag, .bytes = length};
@@ -72,18 +72,18 @@ void take_body(const struct received *received, void *buffer, size_t room, MPI_S
     release(parcel);
 }
 
-void drop_body(const struct received *received) {
+void um_drop_body(const struct received *received) {
     if (!is_reference(received)) return;
     struct parcel *parcel = received->body.reference.parcel;
     parcel->is_found = true;
     release(parcel);
 }
 
-size_t set_body_aside(const struct received *received) {
+size_t um_set_body_aside(const struct received *received) {
     if (is_reference(received)) received->body.reference.parcel->is_found = true;
     return length_in(received);
 }
 
-size_t length_of_probed(const ulfm_status *told, uint32_t context, int from) {
-    return told->length == REFERRING ? length_of_first(context, from, (int)told->tag) : told->length - 1;
+size_t um_length_of_probed(const ulfm_status *told, uint32_t context, int from) {
+    return told->length == REFERRING ? um_length_of_first(context, from, (int)told->tag) : told->length - 1;
 }

@@ -27,18 +27,18 @@ struct received {
 };
 
 /* Sends a message to the position `dest`, the world rank `world`. Where `waits` isn't null, it gets a parcel whose flag tells the match. */
-int send_body(uint32_t context, int dest, int world, int tag, const void *bytes, size_t length, struct parcel **waits);
+int um_send_body(uint32_t context, int dest, int world, int tag, const void *bytes, size_t length, struct parcel **waits);
 
 /* Copies the message of a body that came into a buffer, and tells its sender that it was matched. The source in the status is the engine's. */
-void take_body(const struct received *received, void *buffer, size_t room, MPI_Status *status, int *code);
+void um_take_body(const struct received *received, void *buffer, size_t room, MPI_Status *status, int *code);
 
 /* Nobody wants the message of a body that came. */
-void drop_body(const struct received *received);
+void um_drop_body(const struct received *received);
 
 /* A matched probe took the body, whose message isn't received yet: other probes tell of those behind it (3.8.2). How long the message is. */
-size_t set_body_aside(const struct received *received);
+size_t um_set_body_aside(const struct received *received);
 
 /* How long the message is that a probe found, of the world rank `from`. Receives that have theirs were looked at before. */
-size_t length_of_probed(const ulfm_status *told, uint32_t context, int from);
+size_t um_length_of_probed(const ulfm_status *told, uint32_t context, int from);
 
 #endif

@@ -6,18 +6,18 @@
 #include "progress/rank.h"
 
 /* parcel.c */
-struct parcel *new_parcel(const struct parcel *like);
-void let_go(struct parcel *parcel);
-void free_parcels(void);
-void fill_parcel(struct parcel *parcel);
-void empty_parcel(struct parcel *parcel, void *buffer, size_t length);
-size_t length_of_first(uint32_t context, int from, int tag);
+struct parcel *um_new_parcel(const struct parcel *like);
+void um_let_go(struct parcel *parcel);
+void um_free_parcels(void);
+void um_fill_parcel(struct parcel *parcel);
+void um_empty_parcel(struct parcel *parcel, void *buffer, size_t length);
+size_t um_length_of_first(uint32_t context, int from, int tag);
 
 /* answer.c */
-int class_of(uint32_t code);
-bool is_revoked(const struct comm *comm);
-bool is_failed(const struct comm *comm, int position);
-int failed_of(const struct comm *comm, ulfm_group *failed);
-bool has_unacknowledged(const struct comm *comm);
+int um_class_of(uint32_t code);
+bool um_is_revoked(const struct comm *comm);
+bool um_is_failed(const struct comm *comm, int position);
+int um_failed_of(const struct comm *comm, ulfm_group *failed);
+bool um_has_unacknowledged(const struct comm *comm);
 
 #endif

@@ -8,23 +8,23 @@
 enum { PART = 8192, SPINS = 10000 };
 
 /* A parcel like `like`, with room for its bytes, or null where there is no memory. */
-struct parcel *new_parcel(const struct parcel *like) {
+struct parcel *um_new_parcel(const struct parcel *like) {
     struct parcel *parcel = malloc(sizeof *parcel + like->length);
     if (!parcel) return 0;
     *parcel = *like;
-    pthread_mutex_lock(&me->parcels_lock);
-    parcel->previous = me->last_parcel;
-    if (me->last_parcel) me->last_parcel->next = parcel;
-    else me->parcels = parcel;
-    me->last_parcel = parcel;
-    pthread_mutex_unlock(&me->parcels_lock);
+    pthread_mutex_lock(&um_me->parcels_lock);
+    parcel->previous = um_me->last_parcel;
+    if (um_me->last_parcel) um_me->last_parcel->next = parcel;
+    else um_me->parcels = parcel;
+    um_me->last_parcel = parcel;
+    pthread_mutex_unlock(&um_me->parcels_lock);
     return parcel;
 }
 
 /* One that used a parcel needs it no more; the last one frees it. */
-void let_go(struct parcel *parcel) {
+void um_let_go(struct parcel *parcel) {
     if (atomic_fetch_sub(&parcel->users, 1) > 1) return;
-    struct rank *from = &ranks[parcel->from];
+    struct rank *from = &um_ranks[parcel->from];
     pthread_mutex_lock(&from->parcels_lock);
     if (parcel->previous) parcel->previous->next = parcel->next;
     else from->parcels = parcel->next;
@@ -35,8 +35,8 @@ void let_go(struct parcel *parcel) {
 }
 
 /* Frees what nobody received. */
-void free_parcels(void) {
-    for (struct rank *rank = ranks; rank < ranks + MAX_RANKS; rank++)
+void um_free_parcels(void) {
+    for (struct rank *rank = um_ranks; rank < um_ranks + MAX_RANKS; rank++)
         while (rank->parcels) {
             struct parcel *next = rank->parcels->next;
             free(rank->parcels);
@@ -46,7 +46,7 @@ void free_parcels(void) {
 
 /* Copies a message, whose body is on its way, into its parcel, unless the receiver comes before and copies it from the sender: then it waits until
    that is done. */
-void fill_parcel(struct parcel *parcel) {
+void um_fill_parcel(struct parcel *parcel) {
     const char *source = parcel->source;
     for (size_t at = 0; at < parcel->length && atomic_load(&parcel->filling) == LIVE; at += PART)
         memcpy(parcel->bytes + at, source + at, parcel->length - at < PART ? parcel->length - at : PART);
@@ -54,11 +54,11 @@ void fill_parcel(struct parcel *parcel) {
     if (!atomic_compare_exchange_strong(&parcel->filling, &live, FILLED))
         for (size_t spins = 0; atomic_load(&parcel->filling) != TAKEN; spins++)
             if (spins > SPINS + parcel->length) sched_yield();   /* the copy takes less, unless its rank doesn't run */
-    let_go(parcel);
+    um_let_go(parcel);
 }
 
 /* Copies the bytes of a message from where they stand now. */
-void empty_parcel(struct parcel *parcel, void *buffer, size_t length) {
+void um_empty_parcel(struct parcel *parcel, void *buffer, size_t length) {
     int live = LIVE;
     bool is_live = atomic_compare_exchange_strong(&parcel->filling, &live, CLAIMED);
     if (length) memcpy(buffer, is_live ? parcel->source : parcel->bytes, length);
@@ -66,14 +66,14 @@ void empty_parcel(struct parcel *parcel, void *buffer, size_t length) {
 }
 
 /* How long the first message is that a rank sent here by a parcel with this tag, and that nobody took or set aside. */
-size_t length_of_first(uint32_t context, int from, int tag) {
+size_t um_length_of_first(uint32_t context, int from, int tag) {
     size_t length = 0;
-    pthread_mutex_lock(&ranks[from].parcels_lock);
-    for (struct parcel *parcel = ranks[from].parcels; parcel; parcel = parcel->next)
-        if (parcel->to == me->number && parcel->context == context && parcel->tag == tag && !parcel->is_found && !atomic_load(&parcel->matched)) {
+    pthread_mutex_lock(&um_ranks[from].parcels_lock);
+    for (struct parcel *parcel = um_ranks[from].parcels; parcel; parcel = parcel->next)
+        if (parcel->to == um_me->number && parcel->context == context && parcel->tag == tag && !parcel->is_found && !atomic_load(&parcel->matched)) {
             length = parcel->length;
             break;
         }
-    pthread_mutex_unlock(&ranks[from].parcels_lock);
+    pthread_mutex_unlock(&um_ranks[from].parcels_lock);
     return length;
 }

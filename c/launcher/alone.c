@@ -10,17 +10,17 @@ extern int (*const ulfm_program_entry)() __attribute__((weak));
 /* Before the program's own constructors, which may ask whether MPI has begun. */
 static void __attribute__((constructor)) be_only_rank(void) {
     if (!&ulfm_program_entry) return;
-    options.is_alone = true;
-    be_launcher();
-    prepare_rank(&ranks[0], 0);
-    me = &ranks[0];
+    um_options.is_alone = true;
+    um_be_launcher();
+    um_prepare_rank(&um_ranks[0], 0);
+    um_me = &um_ranks[0];
 }
 
 static void tell_end(int status, void *unused) {
     (void)unused;
-    if (is_launcher() && !ranks[0].has_finalized)
+    if (um_is_launcher() && !um_ranks[0].has_finalized)
         fprintf(stderr, "ulfm-mpirun: rank 0 ended with status %d without MPI_Finalize: it failed\n", status);
 }
 
 /* The world of one, made where the program begins to use it: many that build systems start never do. */
-bool begin_alone(void) { return make_ranks() == ULFM_OK && on_exit(tell_end, 0) == 0; }
+bool um_begin_alone(void) { return um_make_ranks() == ULFM_OK && on_exit(tell_end, 0) == 0; }

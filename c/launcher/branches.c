@@ -29,8 +29,8 @@ static size_t past_length;
 /* ---- In the process that plays ---- */
 
 /* Keeps a line of the run itself for those that go on from it. Whether it is that run. */
-bool note_past(const char *line, size_t length) {
-    if (options.branches < 0) return false;
+bool um_note_past(const char *line, size_t length) {
+    if (um_options.branches < 0) return false;
     if (past_length + length <= sizeof past) {
         memcpy(past + past_length, line, length);
         past_length += length;
@@ -38,10 +38,10 @@ bool note_past(const char *line, size_t length) {
     return true;
 }
 
-bool begin_branches(void) {
-    wanted = (struct spot *)read_all(options.branches);
-    wanted_count = wanted ? (size_t)lseek(options.branches, 0, SEEK_END) / sizeof *wanted : 0;
-    branches = calloc((size_t)options.jobs, sizeof *branches);
+bool um_begin_branches(void) {
+    wanted = (struct spot *)um_read_all(um_options.branches);
+    wanted_count = wanted ? (size_t)lseek(um_options.branches, 0, SEEK_END) / sizeof *wanted : 0;
+    branches = calloc((size_t)um_options.jobs, sizeof *branches);
     return wanted && branches;
 }
 
@@ -55,11 +55,11 @@ static void append(int from, int to) {
 
 /* Hands on what came of one: its report, and its output where that is compared. */
 static void hand_on(const struct branch *of) {
-    off_t length = options.same_output ? lseek(of->output, 0, SEEK_END) : 0;
-    dprintf(options.report, "branch %d %d %d\n", of->spot.rank, of->spot.call, of->spot.inside);
-    append(of->report, options.report);
-    dprintf(options.report, "done %ld\n", (long)length);
-    if (length) append(of->output, options.report);
+    off_t length = um_options.same_output ? lseek(of->output, 0, SEEK_END) : 0;
+    dprintf(um_options.report, "branch %d %d %d\n", of->spot.rank, of->spot.call, of->spot.inside);
+    append(of->report, um_options.report);
+    dprintf(um_options.report, "done %ld\n", (long)length);
+    if (length) append(of->output, um_options.report);
     close(of->report);
     close(of->output);
 }
@@ -78,29 +78,29 @@ static void end_one(void) {
     }
 }
 
-void end_branches(void) {
+void um_end_branches(void) {
     while (branch_count) end_one();
 }
 
 /* In the new process: its own files, with what the run wrote before. */
 static void become(const struct branch *of) {
     prctl(PR_SET_PDEATHSIG, SIGKILL);
-    leave_copies();
-    be_launcher();
+    um_leave_copies();
+    um_be_launcher();
     append(1, of->output);
     dup2(of->output, 1);
-    if (write(of->report, past, past_length) < 0) leave_process(STATUS_USAGE);
-    options.report = of->report;
-    options.branches = -1;
+    if (write(of->report, past, past_length) < 0) um_leave_process(STATUS_USAGE);
+    um_options.report = of->report;
+    um_options.branches = -1;
     branch_count = 0;
-    set_alarm();
+    um_set_alarm();
 }
 
 /* The run is at a place: whether this is the process in which the rank stops here. */
-bool is_branch(void) {
-    struct branch made = {.spot = {.rank = me->number, .call = me->calls, .inside = me->insides}};
-    if (!bsearch(&made.spot, wanted, wanted_count, sizeof *wanted, compare_spots)) return false;
-    while (branch_count == options.jobs) end_one();
+bool um_is_branch(void) {
+    struct branch made = {.spot = {.rank = um_me->number, .call = um_me->calls, .inside = um_me->insides}};
+    if (!bsearch(&made.spot, wanted, wanted_count, sizeof *wanted, um_compare_spots)) return false;
+    while (branch_count == um_options.jobs) end_one();
     made.report = memfd_create("ulfm-branch", MFD_CLOEXEC);
     made.output = memfd_create("ulfm-branch", MFD_CLOEXEC);
     made.pid = made.report < 0 || made.output < 0 ? -1 : _Fork();   /* the program's fork is another one */
@@ -112,7 +112,7 @@ bool is_branch(void) {
 /* ---- In the process of the table ---- */
 
 /* A file with the places, or 0. */
-int write_wanted(const struct spot *spots, int count) {
+int um_write_wanted(const struct spot *spots, int count) {
     int file = memfd_create("ulfm-places", MFD_CLOEXEC);
     size_t length = (size_t)count * sizeof *spots;
     return file > 0 && write(file, spots, length) == (ssize_t)length ? file : 0;
@@ -123,22 +123,22 @@ static char *read_branch(char *at, const char *end, const struct spot *spots, in
     struct spot spot = {0};
     char *done = strstr(at, "\ndone "), *output = done ? strchr(done + 1, '\n') : 0;
     if (!output || sscanf(at, "branch %d %d %d", &spot.rank, &spot.call, &spot.inside) != 3) return 0;
-    const struct spot *known = bsearch(&spot, spots, (size_t)count, sizeof *spots, compare_spots);
+    const struct spot *known = bsearch(&spot, spots, (size_t)count, sizeof *spots, um_compare_spots);
     long length = atol(done + 6);
     if (!known || length > end - output - 1) return 0;
     char *next = ++output + length, kept = *next;
     *done = 0;
     *next = 0;
     char *lines = strchr(at, '\n');
-    read_report(lines ? lines + 1 : 0, &results[known - spots]);
-    read_output(output, &results[known - spots]);
+    um_read_report(lines ? lines + 1 : 0, &results[known - spots]);
+    um_read_output(output, &results[known - spots]);
     *next = kept;
     return next;
 }
 
 /* Reads what came of all places. */
-bool read_branches(const struct job *job, const struct spot *spots, int count, struct result *results) {
-    char *text = read_all(job->files[2]);
+bool um_read_branches(const struct job *job, const struct spot *spots, int count, struct result *results) {
+    char *text = um_read_all(job->files[2]);
     const char *end = text ? text + lseek(job->files[2], 0, SEEK_END) : 0;
     for (char *at = text; at && at < end;) at = read_branch(at, end, spots, count, results);
     free(text);

@@ -26,7 +26,7 @@ static struct job *jobs;
 static int job_count, counts[2][OUTCOMES];
 
 static bool make_jobs(void) {
-    job_count = options.jobs ? options.jobs : processors();
+    job_count = um_options.jobs ? um_options.jobs : um_processors();
     jobs = calloc((size_t)job_count, sizeof *jobs);
     return jobs != 0;
 }
@@ -51,44 +51,44 @@ static bool run_base(struct kind_of_sends *kind, const char *launcher) {
     struct job *job = &jobs[0];
     *job = (struct job){.spot = -1, .sends_wait = kind->sends_wait};
     double begun = seconds();
-    if (!start_job(job, launcher, 0)) return false;
+    if (!um_start_job(job, launcher, 0)) return false;
     while (wait_for_job() != 0) {}
-    read_result(job, &kind->base);
-    kind->spots = read_spots(job, &kind->count);
+    um_read_result(job, &kind->base);
+    kind->spots = um_read_spots(job, &kind->count);
     kind->seconds = seconds() - begun;
     bool is_well = kind->base.end == RIGHT && kind->count > 0;
-    for (int k = 0; k < options.ranks; k++) is_well = is_well && (kind->base.fate[k] == ENDED || kind->base.fate[k] == STOPPED);
+    for (int k = 0; k < um_options.ranks; k++) is_well = is_well && (kind->base.fate[k] == ENDED || kind->base.fate[k] == STOPPED);
     if (!is_well) {
-        char *errors = read_all(job->files[1]);
+        char *errors = um_read_all(job->files[1]);
         printf("without a further stop, %s: the run doesn't end well, so no places are tried:\n", kind->sends_wait ? "sends that wait" : "buffered sends");
         fputs(errors ? errors : "", stdout);
-        tell_command(stdout, 0, kind->sends_wait);
+        um_tell_command(stdout, 0, kind->sends_wait);
         free(errors);
     }
-    close_job(job);
+    um_close_job(job);
     job->pid = 0;
     return is_well;
 }
 
 static void tell_result(const struct kind_of_sends *kind, const struct spot *spot, struct result *result) {
     char why[600];
-    enum outcome outcome = judge(&kind->base, result, spot, why, sizeof why);
+    enum outcome outcome = um_judge(&kind->base, result, spot, why, sizeof why);
     counts[kind->sends_wait][outcome]++;
-    tell_outcome(spot, kind->sends_wait, outcome, why);
+    um_tell_outcome(spot, kind->sends_wait, outcome, why);
     free(result->output);
 }
 
 static void end_job(struct job *job, const struct kind_of_sends *kind) {
     struct result result;
     if (kind->found) {
-        read_found(job, &kind->found[job->spot]);
-        close_job(job);
+        um_read_found(job, &kind->found[job->spot]);
+        um_close_job(job);
         job->pid = 0;
         return;
     }
-    read_result(job, &result);
+    um_read_result(job, &result);
     tell_result(kind, &kind->spots[job->spot], &result);
-    close_job(job);
+    um_close_job(job);
     job->pid = 0;
 }
 
@@ -121,7 +121,7 @@ static bool add_no_stop(struct kind_of_sends *kind) {
     if (kind->count) memcpy(&spots[1], kind->spots, (size_t)kind->count * sizeof *spots);
     free(kind->spots);
     kind->spots = spots;
-    kind->count = options.search_stops ? kind->count + 1 : 1;
+    kind->count = um_options.search_stops ? kind->count + 1 : 1;
     kind->found = calloc((size_t)kind->count, sizeof *kind->found);
     return kind->found != 0;
 }
@@ -135,7 +135,7 @@ static bool run_spots(const struct kind_of_sends *kind, const char *launcher) {
         tell_progress(next - running, kind->count);
         if (next < kind->count && free_job < job_count && !is_interrupted) {
             jobs[free_job] = (struct job){.spot = next, .sends_wait = kind->sends_wait};
-            if (!start_job(&jobs[free_job], launcher, &kind->spots[next])) return false;
+            if (!um_start_job(&jobs[free_job], launcher, &kind->spots[next])) return false;
             next++;
             running++;
             continue;
@@ -150,20 +150,20 @@ static bool run_spots(const struct kind_of_sends *kind, const char *launcher) {
 }
 
 /* Searches all schedules of the program, and at each place of a stop. */
-int every_schedule(const char *launcher) {
-    struct kind_of_sends kind = {.sends_wait = options.sends_wait};
+int um_every_schedule(const char *launcher) {
+    struct kind_of_sends kind = {.sends_wait = um_options.sends_wait};
     struct sigaction action = {.sa_handler = interrupt};   /* it ends a wait */
-    if (!options.limit) options.limit = LIMIT;
+    if (!um_options.limit) um_options.limit = LIMIT;
     if (!make_jobs()) return STATUS_USAGE;
-    if (!options.search_stops || !run_base(&kind, launcher)) kind.count = 0;
+    if (!um_options.search_stops || !run_base(&kind, launcher)) kind.count = 0;
     if (!add_no_stop(&kind)) return STATUS_USAGE;
     sigaction(SIGINT, &action, 0);
     begun = time(0);
-    printf(kind.count == 1 ? "%d place, at most %ld schedules\n" : "%d places, at most %ld schedules at each\n", kind.count, options.limit);
+    printf(kind.count == 1 ? "%d place, at most %ld schedules\n" : "%d places, at most %ld schedules at each\n", kind.count, um_options.limit);
     fflush(stdout);
     if (!run_spots(&kind, launcher)) return STATUS_USAGE;
     tell_progress(kind.count, kind.count);
-    int status = tell_all_found(kind.spots, kind.found, kind.count);
+    int status = um_tell_all_found(kind.spots, kind.found, kind.count);
     for (int k = 0; k < kind.count; k++) free(kind.found[k].endings);
     free(kind.found);
     free(kind.spots);
@@ -175,40 +175,40 @@ int every_schedule(const char *launcher) {
 
 /* Of many places, how many there are and about how long they take, before they are tried. */
 static void tell_estimate(const struct kind_of_sends *kind) {
-    double whole = kind->seconds * kind->count / job_count, left = options.seed ? whole / 2 : whole;
+    double whole = kind->seconds * kind->count / job_count, left = um_options.seed ? whole / 2 : whole;
     if (kind->count < MANY) return;
     fprintf(stderr, "ulfm-mpirun: %d places with %s, about %.0f s; --sample N tries N of them%s\n", kind->count, kind->sends_wait ? "sends that wait" : "buffered sends", left,
-            options.seed ? "" : ", and by --seed 1 each is gone on from where the run comes to it");
+            um_options.seed ? "" : ", and by --seed 1 each is gone on from where the run comes to it");
 }
 
 /* Plays the program once by its seed, and goes on from each place in a process of its own. */
 static bool run_branches(const struct kind_of_sends *kind, const char *launcher) {
     struct job *job = &jobs[0];
-    *job = (struct job){.spot = -1, .sends_wait = kind->sends_wait, .branches = write_wanted(kind->spots, kind->count)};
+    *job = (struct job){.spot = -1, .sends_wait = kind->sends_wait, .branches = um_write_wanted(kind->spots, kind->count)};
     struct result *results = calloc((size_t)kind->count, sizeof *results);
-    bool is_well = results && job->branches > 0 && start_job(job, launcher, 0);
+    bool is_well = results && job->branches > 0 && um_start_job(job, launcher, 0);
     while (is_well && wait_for_job() != 0) {}
-    if (is_well) is_well = read_branches(job, kind->spots, kind->count, results);
+    if (is_well) is_well = um_read_branches(job, kind->spots, kind->count, results);
     for (int k = 0; k < kind->count && is_well; k++) tell_result(kind, &kind->spots[k], &results[k]);
     if (!is_well) fprintf(stderr, "ulfm-mpirun: the places can't be gone on from\n");
     close(job->branches);
-    close_job(job);
+    um_close_job(job);
     job->pid = 0;
     free(results);
     return is_well;
 }
 
 static bool try_places(struct kind_of_sends *kind, const char *launcher) {
-    kind->count = choose_spots(kind->spots, kind->count);
+    kind->count = um_choose_spots(kind->spots, kind->count);
     tell_estimate(kind);
     begun = time(0);
-    bool is_well = options.seed ? run_branches(kind, launcher) : run_spots(kind, launcher);
+    bool is_well = um_options.seed ? run_branches(kind, launcher) : run_spots(kind, launcher);
     tell_progress(kind->count, kind->count);
     return is_well;
 }
 
 /* 0: each stop that was reached came out right. 1: not so. 2: it couldn't be tried. */
-int every_stop(const char *launcher) {
+int um_every_stop(const char *launcher) {
     bool is_well = true;
     if (!make_jobs()) return STATUS_USAGE;
     printf("%-10s %-22s %-7s %s\n", "stop", "call", "sends", "what came out");
@@ -219,7 +219,7 @@ int every_stop(const char *launcher) {
         free(kind.spots);
         free(kind.base.output);
     }
-    tell_counts(counts);
+    um_tell_counts(counts);
     for (int k = 0; k < 2; k++)
         for (int outcome = OTHER_STATUS; outcome < OUTCOMES; outcome++) is_well = is_well && counts[k][outcome] == 0;
     free(jobs);

@@ -52,35 +52,35 @@ struct found {
 static inline bool is_place(const struct spot *spot) { return spot && spot->rank >= 0; }
 
 /* places.c */
-void path_of_schedule(const struct spot *spot, int number, char *path, size_t room);
-void read_found(const struct job *job, struct found *found);
-bool is_right(const struct found *found);
-int tell_all_found(const struct spot *spots, const struct found *found, int count);
+void um_path_of_schedule(const struct spot *spot, int number, char *path, size_t room);
+void um_read_found(const struct job *job, struct found *found);
+bool um_is_right(const struct found *found);
+int um_tell_all_found(const struct spot *spots, const struct found *found, int count);
 
 /* jobs.c */
-int processors(void);
-bool start_job(struct job *job, const char *launcher, const struct spot *spot);
-void read_report(char *text, struct result *result);
-void read_result(const struct job *job, struct result *result);
-void read_output(char *text, struct result *result);
-void close_job(struct job *job);
-char *read_all(int file);
+int um_processors(void);
+bool um_start_job(struct job *job, const char *launcher, const struct spot *spot);
+void um_read_report(char *text, struct result *result);
+void um_read_result(const struct job *job, struct result *result);
+void um_read_output(char *text, struct result *result);
+void um_close_job(struct job *job);
+char *um_read_all(int file);
 
 /* spots.c */
-struct spot *read_spots(const struct job *job, int *count);
-int compare_spots(const void *a, const void *b);
-int choose_spots(struct spot *spots, int count);
+struct spot *um_read_spots(const struct job *job, int *count);
+int um_compare_spots(const void *a, const void *b);
+int um_choose_spots(struct spot *spots, int count);
 
 /* branches.c */
-int write_wanted(const struct spot *spots, int count);
-bool read_branches(const struct job *job, const struct spot *spots, int count, struct result *results);
+int um_write_wanted(const struct spot *spots, int count);
+bool um_read_branches(const struct job *job, const struct spot *spots, int count, struct result *results);
 
 /* table.c */
-const char *words_of_outcome(enum outcome outcome);
-void text_of_stop(const struct stop *stop, char *text, size_t room);
-void tell_command(FILE *to, const struct spot *spot, bool sends_wait);
-enum outcome judge(const struct result *base, const struct result *result, const struct spot *spot, char *why, size_t room);
-void tell_outcome(const struct spot *spot, bool sends_wait, enum outcome outcome, const char *why);
-void tell_counts(int counts[2][OUTCOMES]);
+const char *um_words_of_outcome(enum outcome outcome);
+void um_text_of_stop(const struct stop *stop, char *text, size_t room);
+void um_tell_command(FILE *to, const struct spot *spot, bool sends_wait);
+enum outcome um_judge(const struct result *base, const struct result *result, const struct spot *spot, char *why, size_t room);
+void um_tell_outcome(const struct spot *spot, bool sends_wait, enum outcome outcome, const char *why);
+void um_tell_counts(int counts[2][OUTCOMES]);
 
 #endif

@@ -106,17 +106,17 @@ static void begin_streams(const struct image *image) {
 
 static bool refuse(const char *what, const char *name) {
     fprintf(stderr, "ulfm-mpirun: %s was linked by a plain compiler, and has %s%s: build it by ulfm-mpicc (CMake: -DCMAKE_C_COMPILER=ulfm-mpicc)\n",
-            options.program, what, name);
+            um_options.program, what, name);
     return false;
 }
 
 /* Makes a program in memory one that can be loaded; false, and says why, where it can't be. */
-bool mend_program(char *bytes, size_t size) {
+bool um_mend_program(char *bytes, size_t size) {
     struct image image = {.at = bytes, .size = size};
     Elf64_Dyn *flags = read_head(&image) ? entry_of(&image, DT_FLAGS_1) : 0;
     if (!flags || !(flags->d_un.d_val & DF_1_PIE)) return true;
     if (!needs(&image, "libulfm_mpi.so")) {
-        fprintf(stderr, "ulfm-mpirun: %s wasn't linked by ulfm-mpicc\n", options.program);
+        fprintf(stderr, "ulfm-mpirun: %s wasn't linked by ulfm-mpicc\n", um_options.program);
         return false;
     }
     if (part_of(&image, PT_TLS)) return refuse("variables of a thread", "");

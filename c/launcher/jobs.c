@@ -11,7 +11,7 @@
 
 enum { MOST_WORDS = 32 + 2 * MAX_STOPS, TEXTS = 8 + MAX_STOPS, SECONDS = 60 };
 
-int processors(void) {
+int um_processors(void) {
     cpu_set_t set;
     return sched_getaffinity(0, sizeof set, &set) == 0 ? CPU_COUNT(&set) : 1;
 }
@@ -25,15 +25,15 @@ static int words_of_search(char *words[], char texts[][64], const struct spot *s
         words[count++] = "1";
         return count;
     }
-    path_of_schedule(spot, 1, path, sizeof path);
-    snprintf(texts[0], 64, "%ld", options.limit);
-    snprintf(texts[1], 64, "%ld", options.checks);
+    um_path_of_schedule(spot, 1, path, sizeof path);
+    snprintf(texts[0], 64, "%ld", um_options.limit);
+    snprintf(texts[1], 64, "%ld", um_options.checks);
     words[count++] = "--search";
     words[count++] = texts[0];
     words[count++] = "--keep";
     words[count++] = path;
-    if (options.no_loss) words[count++] = "--no-loss";
-    if (options.checks) {
+    if (um_options.no_loss) words[count++] = "--no-loss";
+    if (um_options.checks) {
         words[count++] = "--checks";
         words[count++] = texts[1];
     }
@@ -44,12 +44,12 @@ static int words_of_search(char *words[], char texts[][64], const struct spot *s
 static int words_of_branches(char *words[], char texts[][64], const struct job *job) {
     int count = 0;
     snprintf(texts[0], 64, "%d", job->branches);
-    snprintf(texts[1], 64, "%d", options.jobs ? options.jobs : processors());
+    snprintf(texts[1], 64, "%d", um_options.jobs ? um_options.jobs : um_processors());
     words[count++] = "--branches";
     words[count++] = texts[0];
     words[count++] = "--jobs";
     words[count++] = texts[1];
-    if (options.same_output) words[count++] = "--same-output";
+    if (um_options.same_output) words[count++] = "--same-output";
     return count;
 }
 
@@ -65,43 +65,43 @@ static int words_of(char *words[], const char *launcher, char texts[][64], const
     words[count++] = texts[2];
     words[count++] = "--rounds";
     words[count++] = texts[3];
-    snprintf(texts[0], 64, "%d", options.ranks);
+    snprintf(texts[0], 64, "%d", um_options.ranks);
     snprintf(texts[1], 64, "%d", job->files[2]);
-    snprintf(texts[2], 64, "%g", options.timeout > 0 ? options.timeout : (double)SECONDS);
-    snprintf(texts[3], 64, "%d", options.rounds);
+    snprintf(texts[2], 64, "%g", um_options.timeout > 0 ? um_options.timeout : (double)SECONDS);
+    snprintf(texts[3], 64, "%d", um_options.rounds);
     if (is_place(spot)) {
         words[count++] = "--stop";
         words[count++] = texts[4];
         snprintf(texts[4], 64, spot->inside ? "%d@%d.%d" : "%d@%d", spot->rank, spot->call, spot->inside);
     }
-    for (int k = 0; k < options.stops; k++) {
+    for (int k = 0; k < um_options.stops; k++) {
         words[count++] = "--stop";
         words[count++] = texts[8 + k];
-        text_of_stop(&options.stop[k], texts[8 + k], 64);
+        um_text_of_stop(&um_options.stop[k], texts[8 + k], 64);
     }
-    if (options.every_schedule) count += words_of_search(&words[count], &texts[6], spot);
+    if (um_options.every_schedule) count += words_of_search(&words[count], &texts[6], spot);
     if (!spot && !job->branches) words[count++] = "--calls";
     if (job->branches) count += words_of_branches(&words[count], &texts[6], job);
-    if (options.seed) {
+    if (um_options.seed) {
         words[count++] = "--seed";
         words[count++] = texts[5];
-        snprintf(texts[5], 64, "%llu", (unsigned long long)options.seed);
+        snprintf(texts[5], 64, "%llu", (unsigned long long)um_options.seed);
     }
     words[count++] = "--sends";
     words[count++] = job->sends_wait ? "wait" : "buffer";
-    words[count++] = (char *)(uintptr_t)options.program;
+    words[count++] = (char *)(uintptr_t)um_options.program;
     return count;
 }
 
 /* In the process of a run: becomes the launcher. */
 static void become(pid_t parent, const struct job *job, const char *launcher, const struct spot *spot) {
     char texts[TEXTS][64];
-    char **words = calloc((size_t)(MOST_WORDS + options.count + 1), sizeof *words);
+    char **words = calloc((size_t)(MOST_WORDS + um_options.count + 1), sizeof *words);
     int none = open("/dev/null", O_RDONLY);
     prctl(PR_SET_PDEATHSIG, SIGTERM);   /* who ends the table ends its runs */
     if (!words || none < 0 || getppid() != parent) _exit(STATUS_USAGE);
     int count = words_of(words, launcher, texts, job, spot);
-    for (int k = 0; k < options.count; k++) words[count++] = options.words[k];
+    for (int k = 0; k < um_options.count; k++) words[count++] = um_options.words[k];
     dup2(none, 0);
     dup2(job->files[0], 1);
     dup2(job->files[1], 2);
@@ -112,7 +112,7 @@ static void become(pid_t parent, const struct job *job, const char *launcher, co
 }
 
 /* Starts a run with a stop, or with none. False where no process can be had. */
-bool start_job(struct job *job, const char *launcher, const struct spot *spot) {
+bool um_start_job(struct job *job, const char *launcher, const struct spot *spot) {
     for (int k = 0; k < 3; k++) {
         job->files[k] = memfd_create("ulfm-run", MFD_CLOEXEC);
         if (job->files[k] < 0) {
@@ -128,12 +128,12 @@ bool start_job(struct job *job, const char *launcher, const struct spot *spot) {
     return job->pid > 0;
 }
 
-void close_job(struct job *job) {
+void um_close_job(struct job *job) {
     for (int k = 0; k < 3; k++) close(job->files[k]);
 }
 
 /* All of a file, or null where there is no memory. */
-char *read_all(int file) {
+char *um_read_all(int file) {
     off_t length = lseek(file, 0, SEEK_END);
     char *text = malloc((size_t)length + 1);
     if (!text) return 0;
@@ -185,20 +185,20 @@ static void read_line(const char *line, struct result *result) {
 }
 
 /* Reads a report, which is cut into its lines. */
-void read_report(char *text, struct result *result) {
+void um_read_report(char *text, struct result *result) {
     char *rest;
     *result = (struct result){.end = RIGHT};
     for (char *line = text ? strtok_r(text, "\n", &rest) : 0; line; line = strtok_r(0, "\n", &rest)) read_line(line, result);
 }
 
 /* Reads what a run wrote, which is cut into its lines. */
-void read_output(char *text, struct result *result) { result->output = sorted(text); }
+void um_read_output(char *text, struct result *result) { result->output = sorted(text); }
 
-void read_result(const struct job *job, struct result *result) {
-    char *text = read_all(job->files[2]);
-    read_report(text, result);
+void um_read_result(const struct job *job, struct result *result) {
+    char *text = um_read_all(job->files[2]);
+    um_read_report(text, result);
     free(text);
-    text = read_all(job->files[0]);
-    read_output(text, result);
+    text = um_read_all(job->files[0]);
+    um_read_output(text, result);
     free(text);
 }

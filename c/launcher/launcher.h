@@ -7,35 +7,35 @@
 #include "progress/rank.h"
 
 /* alone.c */
-bool begin_alone(void);
+bool um_begin_alone(void);
 
 /* launch.c */
-void prepare_rank(struct rank *rank, int number);
-uint32_t make_ranks(void);
-void live(void);
-void tell_late(void) __attribute__((noreturn));
-int close_run(void);
+void um_prepare_rank(struct rank *rank, int number);
+uint32_t um_make_ranks(void);
+void um_live(void);
+void um_tell_late(void) __attribute__((noreturn));
+int um_close_run(void);
 int ulfm_mpirun(int count, char **words);
 
 /* words.c */
-int read_words(int count, char **words);
-char *quoted(const char *word);
+int um_read_words(int count, char **words);
+char *um_quoted(const char *word);
 
 /* load.c, image.c */
-bool copy_programs(void);
-bool mend_program(char *bytes, size_t size);
-void remove_copies(void);
-void leave_copies(void);
-int run_program(struct rank *rank);
+bool um_copy_programs(void);
+bool um_mend_program(char *bytes, size_t size);
+void um_remove_copies(void);
+void um_leave_copies(void);
+int um_run_program(struct rank *rank);
 
 /* every.c */
-int every_stop(const char *launcher);
-int every_schedule(const char *launcher);
+int um_every_stop(const char *launcher);
+int um_every_schedule(const char *launcher);
 
 /* branches.c */
-bool begin_branches(void);
-bool is_branch(void);
-bool note_past(const char *line, size_t length);
-void end_branches(void);
+bool um_begin_branches(void);
+bool um_is_branch(void);
+bool um_note_past(const char *line, size_t length);
+void um_end_branches(void);
 
 #endif

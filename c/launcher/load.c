@@ -27,7 +27,7 @@ static bool make_folder(void) {
 
 /* The program in memory, as each rank's copy has it, or null. */
 static char *read_program(size_t *size) {
-    int from = open(options.program, O_RDONLY | O_CLOEXEC);
+    int from = open(um_options.program, O_RDONLY | O_CLOEXEC);
     struct stat info;
     char *bytes = from >= 0 && fstat(from, &info) == 0 && S_ISREG(info.st_mode) ? malloc((size_t)info.st_size + 1) : 0;
     bool is_well = bytes != 0;
@@ -55,15 +55,15 @@ static bool write_copy(const char *path, const char *bytes, size_t size) {
 }
 
 /* Makes the copies for all ranks; false, and says why, where they can't be made. */
-bool copy_programs(void) {
-    const char *name = strrchr(options.program, '/');
+bool um_copy_programs(void) {
+    const char *name = strrchr(um_options.program, '/');
     size_t size;
     char *bytes = read_program(&size);
     bool is_well = bytes && make_folder();
-    if (is_well && !mend_program(bytes, size)) return false;
-    for (int k = 0; k < options.ranks && is_well; k++)
-        is_well = asprintf(&ranks[k].path, "%s/%s.rank%d", folder, name ? name + 1 : options.program, k) >= 0 && write_copy(ranks[k].path, bytes, size);
-    if (!is_well) fprintf(stderr, "ulfm-mpirun: %s can't be copied\n", options.program);
+    if (is_well && !um_mend_program(bytes, size)) return false;
+    for (int k = 0; k < um_options.ranks && is_well; k++)
+        is_well = asprintf(&um_ranks[k].path, "%s/%s.rank%d", folder, name ? name + 1 : um_options.program, k) >= 0 && write_copy(um_ranks[k].path, bytes, size);
+    if (!is_well) fprintf(stderr, "ulfm-mpirun: %s can't be copied\n", um_options.program);
     free(bytes);
     return is_well;
 }
@@ -71,21 +71,21 @@ bool copy_programs(void) {
 static bool are_left;
 
 /* Another process takes them away. */
-void leave_copies(void) { are_left = true; }
+void um_leave_copies(void) { are_left = true; }
 
-void remove_copies(void) {
-    if (!is_launcher() || are_left) return;
-    for (int k = 0; k < options.ranks; k++)
-        if (ranks[k].path) unlink(ranks[k].path);
+void um_remove_copies(void) {
+    if (!um_is_launcher() || are_left) return;
+    for (int k = 0; k < um_options.ranks; k++)
+        if (um_ranks[k].path) unlink(um_ranks[k].path);
     if (folder[0]) rmdir(folder);
 }
 
-static const char *word_at(int k) { return k ? options.words[k - 1] : options.program; }
+static const char *word_at(int k) { return k ? um_options.words[k - 1] : um_options.program; }
 
 /* The words that the rank's main gets: the program, and its arguments. They are one piece of memory with their array, since main may change what
    stands in that. False where there is no memory. */
 static bool copy_words(struct rank *rank) {
-    size_t count = (size_t)options.count + 1, bytes = (count + 1) * sizeof *rank->words;
+    size_t count = (size_t)um_options.count + 1, bytes = (count + 1) * sizeof *rank->words;
     for (size_t k = 0; k < count; k++) bytes += strlen(word_at((int)k)) + 1;
     rank->words = calloc(1, bytes);
     if (!rank->words) return false;
@@ -99,26 +99,26 @@ static bool copy_words(struct rank *rank) {
 
 /* Says why the program can't be loaded, once, and ends the run. */
 static void refuse_program(void) {
-    while (is_crashed) pause();
+    while (um_is_crashed) pause();
     static pthread_mutex_t lock = PTHREAD_MUTEX_INITIALIZER;
     char why[512];
     snprintf(why, sizeof why, "%s", dlerror());   /* the next call of the loader takes it away */
     pthread_mutex_lock(&lock);
-    fprintf(stderr, "ulfm-mpirun: %s can't be loaded: %s\n", options.program, why);
-    end_run(STATUS_USAGE);
+    fprintf(stderr, "ulfm-mpirun: %s can't be loaded: %s\n", um_options.program, why);
+    um_end_run(STATUS_USAGE);
 }
 
 /* Loads the copy of the rank that runs, and calls its main. Its status, or STATUS_USAGE where it can't be loaded. */
-int run_program(struct rank *rank) {
+int um_run_program(struct rank *rank) {
     extern char **environ;
     rank->program = dlopen(rank->path, RTLD_NOW | RTLD_LOCAL);
     if (!rank->program) refuse_program();
     typedef int starting(int, char **, char **);
     starting **start = (starting **)dlsym(rank->program, "ulfm_program_entry");
     if (!start) {
-        fprintf(stderr, "ulfm-mpirun: %s wasn't linked by ulfm-mpicc\n", options.program);
-        end_run(STATUS_USAGE);
+        fprintf(stderr, "ulfm-mpirun: %s wasn't linked by ulfm-mpicc\n", um_options.program);
+        um_end_run(STATUS_USAGE);
     }
-    if (!copy_words(rank)) end_run(STATUS_USAGE);
-    return (*start)(options.count + 1, rank->words, environ);
+    if (!copy_words(rank)) um_end_run(STATUS_USAGE);
+    return (*start)(um_options.count + 1, rank->words, environ);
 }

@@ -41,6 +41,6 @@ struct options {
     const char *draw;   /* where a schedule is drawn */
 };
 
-extern struct options options;
+extern struct options um_options;
 
 #endif

@@ -6,16 +6,16 @@
 #include <string.h>
 
 /* The file of a schedule at a place, by the name of the program; of the endings of a place that aren't right the first one has no number. */
-void path_of_schedule(const struct spot *spot, int number, char *path, size_t room) {
-    const char *name = strrchr(options.program, '/');
-    size_t used = (size_t)snprintf(path, room, "%s", name ? name + 1 : options.program);
+void um_path_of_schedule(const struct spot *spot, int number, char *path, size_t room) {
+    const char *name = strrchr(um_options.program, '/');
+    size_t used = (size_t)snprintf(path, room, "%s", name ? name + 1 : um_options.program);
     if (is_place(spot)) used += (size_t)snprintf(path + used, room - used, spot->inside ? ".%d@%d.%d" : ".%d@%d", spot->rank, spot->call, spot->inside);
-    for (int k = 0; k < options.stops && used + 90 < room; k++) {
+    for (int k = 0; k < um_options.stops && used + 90 < room; k++) {
         char text[80];
-        text_of_stop(&options.stop[k], text, sizeof text);
+        um_text_of_stop(&um_options.stop[k], text, sizeof text);
         used += (size_t)snprintf(path + used, room - used, ".%s", text);
     }
-    if (!is_place(spot) && !options.stops) used += (size_t)snprintf(path + used, room - used, ".no_stop");
+    if (!is_place(spot) && !um_options.stops) used += (size_t)snprintf(path + used, room - used, ".no_stop");
     if (number > 1) snprintf(path + used, room - used, ".%d", number);
 }
 
@@ -25,14 +25,14 @@ static bool add_ending(struct found *found, const char *line) {
     if (sscanf(line, "ending %ld %d %d%n", &ending.count, &outcome, &ending.number, &used) < 3 || outcome < 0 || outcome >= OUTCOMES) return false;
     ending.outcome = (enum outcome)outcome;
     snprintf(ending.why, sizeof ending.why, "%s", line + used);
-    if (!grow(&found->endings, found->count, sizeof ending)) return false;
+    if (!um_grow(&found->endings, found->count, sizeof ending)) return false;
     found->endings[found->count++] = ending;
     return true;
 }
 
 /* Reads what a search reported. */
-void read_found(const struct job *job, struct found *found) {
-    char *text = read_all(job->files[2]), *rest;
+void um_read_found(const struct job *job, struct found *found) {
+    char *text = um_read_all(job->files[2]), *rest;
     int is_whole;
     *found = (struct found){.is_there = false};
     for (char *line = text ? strtok_r(text, "\n", &rest) : 0; line; line = strtok_r(0, "\n", &rest)) {
@@ -49,7 +49,7 @@ void read_found(const struct job *job, struct found *found) {
 }
 
 /* A schedule that is too long is none that is known to be wrong. */
-bool is_right(const struct found *found) {
+bool um_is_right(const struct found *found) {
     bool is_well = found->is_there && !*found->other;
     for (int k = 0; k < found->count; k++) {
         enum outcome outcome = found->endings[k].outcome;
@@ -87,12 +87,12 @@ static void tell_found_ending(const struct spot *spot, const struct found *found
     text_of_spot(spot, stop, sizeof stop);
     snprintf(schedules, sizeof schedules, found->is_whole ? "all %ld" : "first %ld", found->searched);
     printf("%-10s %-22s %-12s %ld: %s%s\n", is_first ? stop : "", is_first ? spot->name : "", is_first ? schedules : "", ending->count,
-           words_of_outcome(ending->outcome), ending->why);
+           um_words_of_outcome(ending->outcome), ending->why);
     if (ending->outcome == RIGHT) return;
-    path_of_schedule(spot, ending->number, path, sizeof path);
-    options.schedule = path;
-    tell_command(stdout, spot, options.sends_wait);
-    options.schedule = 0;
+    um_path_of_schedule(spot, ending->number, path, sizeof path);
+    um_options.schedule = path;
+    um_tell_command(stdout, spot, um_options.sends_wait);
+    um_options.schedule = 0;
 }
 
 /* The lines of a place: each ending, with the command that plays a schedule of it. */
@@ -100,7 +100,7 @@ static void tell_place(const struct spot *spot, const struct found *found) {
     bool is_first = true;
     if (*found->other) printf("%-10s %-22s not the same again: rank %s\n", "", spot->name, found->other);
     for (int k = 0; k < found->count; k++)
-        if (found->endings[k].outcome != RIGHT || options.all) {
+        if (found->endings[k].outcome != RIGHT || um_options.all) {
             tell_found_ending(spot, found, &found->endings[k], is_first);
             is_first = false;
         }
@@ -108,7 +108,7 @@ static void tell_place(const struct spot *spot, const struct found *found) {
 
 /* Whether the lines of a place are to be told. */
 static bool is_told(const struct found *found) {
-    bool is_told = options.all || *found->other;
+    bool is_told = um_options.all || *found->other;
     for (int k = 0; k < found->count; k++) is_told = is_told || (found->endings[k].outcome != RIGHT && found->endings[k].outcome != NOT_REACHED);
     return is_told;
 }
@@ -118,11 +118,11 @@ static void tell_places_found(const struct spot *spots, const struct found *foun
     for (int k = 0; k < count; k++) {
         char text[32];
         bool is_first = is_told(&found[k]);
-        for (int other = 0; other < k && is_first && !options.all; other++) is_first = !are_alike(&found[other], &found[k]);
+        for (int other = 0; other < k && is_first && !um_options.all; other++) is_first = !are_alike(&found[other], &found[k]);
         if (!is_first) continue;
         tell_place(&spots[k], &found[k]);
         bool is_begun = false;
-        for (int other = k + 1; other < count && !options.all; other++)
+        for (int other = k + 1; other < count && !um_options.all; other++)
             if (is_told(&found[other]) && are_alike(&found[k], &found[other])) {
                 printf("%s %s", is_begun ? "," : "           so too at", text_of_spot(&spots[other], text, sizeof text));
                 is_begun = true;
@@ -141,7 +141,7 @@ static void tell_found_notes(const struct found *found, int count) {
 }
 
 /* 0: all was searched, and all is right. 1: not so. STATUS_LIMIT: what was searched is right, but that isn't all. */
-int tell_all_found(const struct spot *spots, const struct found *found, int count) {
+int um_tell_all_found(const struct spot *spots, const struct found *found, int count) {
     int tried = 0, right = 0, whole = 0;
     long schedules = 0, unseen = 0;
     printf("%-10s %-22s %-12s %s\n", "stop", "call", "schedules", "what came out");
@@ -149,7 +149,7 @@ int tell_all_found(const struct spot *spots, const struct found *found, int coun
     for (int k = 0; k < count; k++) {
         if (!found[k].is_there && !*found[k].other) continue;
         tried++;
-        right += is_right(&found[k]);
+        right += um_is_right(&found[k]);
         whole += found[k].is_whole;
         schedules += found[k].played;
         unseen += found[k].unseen;

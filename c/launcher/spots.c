@@ -6,12 +6,12 @@
 
 /* Adds a place; false where there is no memory. */
 static bool add_spot(struct spot **spots, int *count, struct spot spot) {
-    if (!grow(spots, *count, sizeof **spots)) return false;
+    if (!um_grow(spots, *count, sizeof **spots)) return false;
     (*spots)[(*count)++] = spot;
     return true;
 }
 
-int compare_spots(const void *a, const void *b) {
+int um_compare_spots(const void *a, const void *b) {
     const struct spot *one = a, *other = b;
     if (one->rank != other->rank) return one->rank < other->rank ? -1 : 1;
     if (one->call != other->call) return one->call < other->call ? -1 : 1;
@@ -19,8 +19,8 @@ int compare_spots(const void *a, const void *b) {
 }
 
 /* The places, by ranks and calls. */
-struct spot *read_spots(const struct job *job, int *count) {
-    char *text = read_all(job->files[2]), *rest, names[MAX_RANKS][40] = {{0}};
+struct spot *um_read_spots(const struct job *job, int *count) {
+    char *text = um_read_all(job->files[2]), *rest, names[MAX_RANKS][40] = {{0}};
     struct spot *spots = 0;
     *count = 0;
     for (char *line = text ? strtok_r(text, "\n", &rest) : 0; line; line = strtok_r(0, "\n", &rest)) {
@@ -33,15 +33,15 @@ struct spot *read_spots(const struct job *job, int *count) {
         if (!add_spot(&spots, count, spot)) break;
     }
     free(text);
-    qsort(spots, (size_t)*count, sizeof *spots, compare_spots);
+    qsort(spots, (size_t)*count, sizeof *spots, um_compare_spots);
     return spots;
 }
 
 /* Keeps those that are asked for, as far apart as can be where that is a number. How many. */
-int choose_spots(struct spot *spots, int count) {
-    int kept = 0, sample = options.sample;
+int um_choose_spots(struct spot *spots, int count) {
+    int kept = 0, sample = um_options.sample;
     for (int k = 0; k < count; k++)
-        if (spots[k].call >= options.first_call && (!options.last_call || spots[k].call <= options.last_call)) spots[kept++] = spots[k];
+        if (spots[k].call >= um_options.first_call && (!um_options.last_call || spots[k].call <= um_options.last_call)) spots[kept++] = spots[k];
     if (!sample || sample >= kept) return kept;
     for (int k = 0; k < sample; k++) spots[k] = spots[(long)k * kept / sample];
     return sample;

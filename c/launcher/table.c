@@ -9,38 +9,38 @@ static const char *const outcomes[OUTCOMES] = {
     "not played to its end: it has 12,000 events and more",
     "an error was fatal", "the run was aborted", "a crash"};
 
-const char *words_of_outcome(enum outcome outcome) { return outcomes[outcome]; }
+const char *um_words_of_outcome(enum outcome outcome) { return outcomes[outcome]; }
 
 /* A stop of the plan, as the command line has it. */
-void text_of_stop(const struct stop *stop, char *text, size_t room) {
+void um_text_of_stop(const struct stop *stop, char *text, size_t room) {
     int used = stop->call ? snprintf(text, room, "%d@%d", stop->rank, stop->call) : snprintf(text, room, "%d@%s:%d", stop->rank, stop->name, stop->nth);
     if (stop->inside) snprintf(text + used, room - (size_t)used, ".%d", stop->inside);
 }
 
 static void tell_word(FILE *to, const char *word) {
-    char *text = quoted(word);
+    char *text = um_quoted(word);
     fprintf(to, " %s", text ? text : word);
     free(text);
 }
 
 /* Writes the command that repeats a run. */
-void tell_command(FILE *to, const struct spot *spot, bool sends_wait) {
-    fprintf(to, "           ulfm-mpirun -n %d", options.ranks);
+void um_tell_command(FILE *to, const struct spot *spot, bool sends_wait) {
+    fprintf(to, "           ulfm-mpirun -n %d", um_options.ranks);
     if (is_place(spot)) fprintf(to, spot->inside ? " --stop %d@%d.%d" : " --stop %d@%d", spot->rank, spot->call, spot->inside);
-    for (int k = 0; k < options.stops; k++) {
+    for (int k = 0; k < um_options.stops; k++) {
         char text[80];
-        text_of_stop(&options.stop[k], text, sizeof text);
+        um_text_of_stop(&um_options.stop[k], text, sizeof text);
         fprintf(to, " --stop %s", text);
     }
     if (sends_wait) fprintf(to, " --sends wait");
-    if (options.seed) fprintf(to, " --seed %llu", (unsigned long long)options.seed);
-    if (options.schedule) {
+    if (um_options.seed) fprintf(to, " --seed %llu", (unsigned long long)um_options.seed);
+    if (um_options.schedule) {
         fputs(" --schedule", to);
-        tell_word(to, options.schedule);
+        tell_word(to, um_options.schedule);
     }
-    if (options.rounds != ROUNDS) fprintf(to, " --rounds %d", options.rounds);
-    tell_word(to, options.program);
-    for (int k = 0; k < options.count; k++) tell_word(to, options.words[k]);
+    if (um_options.rounds != ROUNDS) fprintf(to, " --rounds %d", um_options.rounds);
+    tell_word(to, um_options.program);
+    for (int k = 0; k < um_options.count; k++) tell_word(to, um_options.words[k]);
     fputc('\n', to);
 }
 
@@ -58,14 +58,14 @@ static void first_difference(const char *base, const char *output, char *why, si
 }
 
 /* How a run with a stop came out, or without one, compared with how it should, and why. */
-enum outcome judge(const struct result *base, const struct result *result, const struct spot *spot, char *why, size_t room) {
+enum outcome um_judge(const struct result *base, const struct result *result, const struct spot *spot, char *why, size_t room) {
     *why = 0;
     if (result->end != RIGHT) {
         snprintf(why, room, ":%s", result->detail);
         return result->end;
     }
     if (spot && result->fate[spot->rank] != STOPPED) return NOT_REACHED;
-    for (int k = 0; k < options.ranks; k++) {
+    for (int k = 0; k < um_options.ranks; k++) {
         if ((spot && k == spot->rank) || (base->fate[k] == STOPPED && result->fate[k] == STOPPED)) continue;
         if (result->fate[k] != ENDED) {
             snprintf(why, room, ": rank %d", k);
@@ -76,22 +76,22 @@ enum outcome judge(const struct result *base, const struct result *result, const
             return OTHER_STATUS;
         }
     }
-    if (!options.same_output || !strcmp(base->output, result->output)) return RIGHT;
+    if (!um_options.same_output || !strcmp(base->output, result->output)) return RIGHT;
     first_difference(base->output, result->output, why, room);
     return OTHER_OUTPUT;
 }
 
 /* A line for a run, where it came out wrong or all are wanted, and the command below. */
-void tell_outcome(const struct spot *spot, bool sends_wait, enum outcome outcome, const char *why) {
+void um_tell_outcome(const struct spot *spot, bool sends_wait, enum outcome outcome, const char *why) {
     char stop[32];
-    if ((outcome == RIGHT || outcome == NOT_REACHED) && !options.all) return;
+    if ((outcome == RIGHT || outcome == NOT_REACHED) && !um_options.all) return;
     snprintf(stop, sizeof stop, spot->inside ? "%d@%d.%d" : "%d@%d", spot->rank, spot->call, spot->inside);
     printf("%-10s %-22s %-7s %s%s\n", stop, spot->name, sends_wait ? "wait" : "buffer", outcomes[outcome], why);
-    tell_command(stdout, spot, sends_wait);
+    um_tell_command(stdout, spot, sends_wait);
 }
 
 /* How many places came out how. */
-void tell_counts(int counts[2][OUTCOMES]) {
+void um_tell_counts(int counts[2][OUTCOMES]) {
     for (int k = 0; k < 2; k++) {
         int total = 0;
         for (int outcome = 0; outcome < OUTCOMES; outcome++) total += counts[k][outcome];

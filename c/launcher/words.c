@@ -5,7 +5,7 @@
 #include <string.h>
 #include <unistd.h>
 
-struct options options = {.ranks = 1, .search_stops = true, .branches = -1, .report = -1, .capacity = 64, .rounds = ROUNDS};
+struct options um_options = {.ranks = 1, .search_stops = true, .branches = -1, .report = -1, .capacity = 64, .rounds = ROUNDS};
 
 static const char usage[] =
     "ulfm-mpirun -n N [options] PROGRAM [ARGUMENT..]\n"
@@ -43,7 +43,7 @@ static const char usage[] =
     "128 + S: a rank crashed by signal S. 2: a wrong command line.\n";
 
 /* A word as a shell takes it, in memory that the caller frees; null where there is none. */
-char *quoted(const char *word) {
+char *um_quoted(const char *word) {
     size_t plain = strspn(word, "ABCDEFGHIJKLMNOPQRSTUVWXYZabcdefghijklmnopqrstuvwxyz0123456789_-+=./,:@%");
     char *text = malloc(4 * strlen(word) + 3), *at = text;
     if (!text || (*word && !word[plain])) return text ? strcpy(text, word) : text;
@@ -81,7 +81,7 @@ static bool read_sign(const char **word, char sign) { return **word == sign && (
 /* R@K, R@K.J, R@NAME:K, R@NAME:K.J */
 static bool read_stop(const char *word) {
     struct stop stop = {0};
-    if (options.stops == MAX_STOPS || !read_digits(&word, 0, &stop.rank) || !read_sign(&word, '@')) return false;
+    if (um_options.stops == MAX_STOPS || !read_digits(&word, 0, &stop.rank) || !read_sign(&word, '@')) return false;
     size_t name = strspn(word, "ABCDEFGHIJKLMNOPQRSTUVWXYZabcdefghijklmnopqrstuvwxyz_");
     if (name >= sizeof stop.name) return false;
     memcpy(stop.name, word, name);
@@ -89,25 +89,25 @@ static bool read_stop(const char *word) {
     if (name && !read_sign(&word, ':')) return false;
     if (!read_digits(&word, 1, name ? &stop.nth : &stop.call)) return false;
     if (*word && (!read_sign(&word, '.') || !read_digits(&word, 0, &stop.inside) || *word)) return false;
-    options.stop[options.stops++] = stop;
+    um_options.stop[um_options.stops++] = stop;
     return true;
 }
 
 static bool read_seconds(const char *word) {
     char *end;
-    options.timeout = strtod(word, &end);
-    return !*end && options.timeout > 0 && options.timeout <= 1e9;
+    um_options.timeout = strtod(word, &end);
+    return !*end && um_options.timeout > 0 && um_options.timeout <= 1e9;
 }
 
 /* An option without a value; false where it isn't one. */
 static bool read_flag(const char *word) {
-    if (!strcmp(word, "--tag")) options.tag = true;
-    else if (!strcmp(word, "--every-stop")) options.every_stop = true;
-    else if (!strcmp(word, "--every-schedule")) options.every_schedule = true;
-    else if (!strcmp(word, "--no-loss")) options.no_loss = true;
-    else if (!strcmp(word, "--same-output")) options.same_output = true;
-    else if (!strcmp(word, "--all")) options.all = true;
-    else if (!strcmp(word, "--calls")) options.calls = true;
+    if (!strcmp(word, "--tag")) um_options.tag = true;
+    else if (!strcmp(word, "--every-stop")) um_options.every_stop = true;
+    else if (!strcmp(word, "--every-schedule")) um_options.every_schedule = true;
+    else if (!strcmp(word, "--no-loss")) um_options.no_loss = true;
+    else if (!strcmp(word, "--same-output")) um_options.same_output = true;
+    else if (!strcmp(word, "--all")) um_options.all = true;
+    else if (!strcmp(word, "--calls")) um_options.calls = true;
     else return false;
     return true;
 }
@@ -116,27 +116,27 @@ static bool read_flag(const char *word) {
 static bool read_value(const char *word, const char *value) {
     long number = 0;
     if (!value) return false;
-    if (!strcmp(word, "-n") || !strcmp(word, "-np")) return read_number(value, 1, MAX_RANKS, &number) && (options.ranks = (int)number);
+    if (!strcmp(word, "-n") || !strcmp(word, "-np")) return read_number(value, 1, MAX_RANKS, &number) && (um_options.ranks = (int)number);
     if (!strcmp(word, "--stop")) return read_stop(value);
-    if (!strcmp(word, "--sends")) return (options.sends_wait = !strcmp(value, "wait")) || !strcmp(value, "buffer");
+    if (!strcmp(word, "--sends")) return (um_options.sends_wait = !strcmp(value, "wait")) || !strcmp(value, "buffer");
     if (!strcmp(word, "--timeout")) return read_seconds(value);
-    if (!strcmp(word, "--seed")) return read_number(value, 1, 2000000000, &number) && (options.seed = (uint64_t)number) && (is_played = true);
-    if (!strcmp(word, "--seeds")) return read_number(value, 1, 1000000000, &options.seeds) && (is_played = true);
-    if (!strcmp(word, "--search")) return read_number(value, 1, 1000000000, &options.limit) && (is_played = true);
-    if (!strcmp(word, "--limit")) return read_number(value, 1, 1000000000, &options.limit);
-    if (!strcmp(word, "--stops")) return read_number(value, 0, 1, &number) && ((options.search_stops = number), true);
-    if (!strcmp(word, "--checks")) return read_number(value, 1, 1000000000, &options.checks);
-    if (!strcmp(word, "--yields")) return read_number(value, 1, 2000000000, &number) && (options.yields = (uint64_t)number);
-    if (!strcmp(word, "--schedule")) return (options.schedule = value) && (is_played = true);
-    if (!strcmp(word, "--keep")) return (options.keep = value) != 0;
-    if (!strcmp(word, "--from")) return read_number(value, 1, 1000000000, &number) && (options.first_call = (int)number);
-    if (!strcmp(word, "--to")) return read_number(value, 1, 1000000000, &number) && (options.last_call = (int)number);
-    if (!strcmp(word, "--sample")) return read_number(value, 1, 1000000000, &number) && (options.sample = (int)number);
-    if (!strcmp(word, "--branches")) return read_number(value, 0, 65535, &number) && (options.branches = (int)number) >= 0;
-    if (!strcmp(word, "--draw")) return (options.draw = value) != 0;
-    if (!strcmp(word, "--jobs")) return read_number(value, 1, 1024, &number) && (options.jobs = (int)number);
-    if (!strcmp(word, "--rounds")) return read_number(value, 1, 65535, &number) && (options.rounds = (int)number);
-    if (!strcmp(word, "--report")) return read_number(value, 0, 65535, &number) && (options.report = (int)number) >= 0;
+    if (!strcmp(word, "--seed")) return read_number(value, 1, 2000000000, &number) && (um_options.seed = (uint64_t)number) && (um_is_played = true);
+    if (!strcmp(word, "--seeds")) return read_number(value, 1, 1000000000, &um_options.seeds) && (um_is_played = true);
+    if (!strcmp(word, "--search")) return read_number(value, 1, 1000000000, &um_options.limit) && (um_is_played = true);
+    if (!strcmp(word, "--limit")) return read_number(value, 1, 1000000000, &um_options.limit);
+    if (!strcmp(word, "--stops")) return read_number(value, 0, 1, &number) && ((um_options.search_stops = number), true);
+    if (!strcmp(word, "--checks")) return read_number(value, 1, 1000000000, &um_options.checks);
+    if (!strcmp(word, "--yields")) return read_number(value, 1, 2000000000, &number) && (um_options.yields = (uint64_t)number);
+    if (!strcmp(word, "--schedule")) return (um_options.schedule = value) && (um_is_played = true);
+    if (!strcmp(word, "--keep")) return (um_options.keep = value) != 0;
+    if (!strcmp(word, "--from")) return read_number(value, 1, 1000000000, &number) && (um_options.first_call = (int)number);
+    if (!strcmp(word, "--to")) return read_number(value, 1, 1000000000, &number) && (um_options.last_call = (int)number);
+    if (!strcmp(word, "--sample")) return read_number(value, 1, 1000000000, &number) && (um_options.sample = (int)number);
+    if (!strcmp(word, "--branches")) return read_number(value, 0, 65535, &number) && (um_options.branches = (int)number) >= 0;
+    if (!strcmp(word, "--draw")) return (um_options.draw = value) != 0;
+    if (!strcmp(word, "--jobs")) return read_number(value, 1, 1024, &number) && (um_options.jobs = (int)number);
+    if (!strcmp(word, "--rounds")) return read_number(value, 1, 65535, &number) && (um_options.rounds = (int)number);
+    if (!strcmp(word, "--report")) return read_number(value, 0, 65535, &number) && (um_options.report = (int)number) >= 0;
     return false;
 }
 
@@ -151,21 +151,21 @@ static int refuse_option(const char *word, const char *value) {
 /* Refuses options that don't go together; 0 where they do. */
 static int refuse_clash(void) {
     const char *once = "--schedule plays one schedule again, which doesn't go with";
-    bool by_chance = options.seed || options.seeds;
-    if (options.schedule && by_chance) return refuse(once, options.seeds ? "--seeds" : "--seed");
-    if (options.schedule && options.every_stop) return refuse(once, "--every-stop");
-    if (options.schedule && options.every_schedule) return refuse(once, "--every-schedule");
-    if (options.every_schedule && by_chance) return refuse("--every-schedule doesn't go with", "--seed or --seeds");
-    if (options.every_schedule && options.every_stop) return refuse("--every-schedule doesn't go with", "--every-stop");
-    if (options.every_stop && options.seeds) return refuse("--every-stop plays each place once, which doesn't go with", "--seeds");
-    if (!options.every_stop && (options.first_call || options.last_call || options.sample)) return refuse("--sample, --from and --to go with", "--every-stop");
-    if (options.draw && (!is_played || options.seeds || options.every_stop || options.every_schedule)) return refuse("one schedule is drawn, by --seed or --schedule, and not by", "--draw");
-    if (options.keep && (!is_played || options.every_stop)) return refuse("one schedule by chance is kept, by --seed alone, and not by", "--keep");
+    bool by_chance = um_options.seed || um_options.seeds;
+    if (um_options.schedule && by_chance) return refuse(once, um_options.seeds ? "--seeds" : "--seed");
+    if (um_options.schedule && um_options.every_stop) return refuse(once, "--every-stop");
+    if (um_options.schedule && um_options.every_schedule) return refuse(once, "--every-schedule");
+    if (um_options.every_schedule && by_chance) return refuse("--every-schedule doesn't go with", "--seed or --seeds");
+    if (um_options.every_schedule && um_options.every_stop) return refuse("--every-schedule doesn't go with", "--every-stop");
+    if (um_options.every_stop && um_options.seeds) return refuse("--every-stop plays each place once, which doesn't go with", "--seeds");
+    if (!um_options.every_stop && (um_options.first_call || um_options.last_call || um_options.sample)) return refuse("--sample, --from and --to go with", "--every-stop");
+    if (um_options.draw && (!um_is_played || um_options.seeds || um_options.every_stop || um_options.every_schedule)) return refuse("one schedule is drawn, by --seed or --schedule, and not by", "--draw");
+    if (um_options.keep && (!um_is_played || um_options.every_stop)) return refuse("one schedule by chance is kept, by --seed alone, and not by", "--keep");
     return 0;
 }
 
-/* Reads the command line into `options`. 0, or the status with which the launcher ends; -1: it ends with 0. */
-int read_words(int count, char **words) {
+/* Reads the command line into `um_options`. 0, or the status with which the launcher ends; -1: it ends with 0. */
+int um_read_words(int count, char **words) {
     int k = 1;
     for (; k < count && words[k][0] == '-'; k++) {
         if (!strcmp(words[k], "--help") || !strcmp(words[k], "-h")) {
@@ -181,12 +181,12 @@ int read_words(int count, char **words) {
         k++;
     }
     if (k == count) return refuse("a program is missing after", words[count - 1]);
-    for (int stop = 0; stop < options.stops; stop++)
-        if (options.stop[stop].rank >= options.ranks) return refuse("there are too few ranks for the stops, by", "-n");
+    for (int stop = 0; stop < um_options.stops; stop++)
+        if (um_options.stop[stop].rank >= um_options.ranks) return refuse("there are too few ranks for the stops, by", "-n");
     if (refuse_clash()) return STATUS_USAGE;
-    options.program = words[k];
-    options.words = words + k + 1;
-    options.count = count - k - 1;
-    if (access(options.program, R_OK)) return refuse("there is no program", options.program);
+    um_options.program = words[k];
+    um_options.words = words + k + 1;
+    um_options.count = count - k - 1;
+    if (access(um_options.program, R_OK)) return refuse("there is no program", um_options.program);
     return 0;
 }

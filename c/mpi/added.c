@@ -12,29 +12,29 @@ struct added {
 };
 
 static struct added *added_at(int code) {
-    for (int k = 0; me && k < me->added_count; k++)
-        if (me->added[k].code == code) return &me->added[k];
+    for (int k = 0; um_me && k < um_me->added_count; k++)
+        if (um_me->added[k].code == code) return &um_me->added[k];
     return 0;
 }
 
 /* The text of a class or code that the program added, empty where it gave none; null where it didn't add it. */
-const char *text_of_added(int code) {
+const char *um_text_of_added(int code) {
     const struct added *added = added_at(code);
     return added ? added->text : 0;
 }
 
 static int add(int code, int *made) {
-    if (!grow(&me->added, me->added_count, sizeof *me->added)) return MPI_ERR_NO_MEM;
-    me->added[me->added_count++] = (struct added){.code = code};
-    if (code > me->last_code) me->last_code = code;
+    if (!um_grow(&um_me->added, um_me->added_count, sizeof *um_me->added)) return MPI_ERR_NO_MEM;
+    um_me->added[um_me->added_count++] = (struct added){.code = code};
+    if (code > um_me->last_code) um_me->last_code = code;
     *made = code;
     return MPI_SUCCESS;
 }
 
 /* The value of MPI_LASTUSEDCODE: it grows with what is added. */
-int *last_used_code(void) {
-    if (me->last_code < MPI_ERR_LASTCODE) me->last_code = MPI_ERR_LASTCODE;
-    return &me->last_code;
+int *um_last_used_code(void) {
+    if (um_me->last_code < MPI_ERR_LASTCODE) um_me->last_code = MPI_ERR_LASTCODE;
+    return &um_me->last_code;
 }
 
 int MPI_Add_error_class(int *errorclass) {
@@ -42,14 +42,14 @@ int MPI_Add_error_class(int *errorclass) {
     WRITES(0, errorclass);
     int class = FIRST_CLASS;
     while (class < END_OF_CLASSES && added_at(class)) class++;
-    return fail(0, class < END_OF_CLASSES ? add(class, errorclass) : MPI_ERR_OTHER);
+    return um_fail(0, class < END_OF_CLASSES ? add(class, errorclass) : MPI_ERR_OTHER);
 }
 
 int MPI_Add_error_code(int errorclass, int *errorcode) {
     ENTER_LOOK(0, MPI_UNDEFINED, MPI_UNDEFINED);
     WRITES(0, errorcode);
     bool is_class = errorclass >= 0 && (errorclass <= MPI_ERR_LASTCODE || (errorclass < END_OF_CLASSES && added_at(errorclass)));
-    return fail(0, is_class ? add(errorclass | (FIRST_DETAIL + me->added_count) << 8, errorcode) : MPI_ERR_ARG);
+    return um_fail(0, is_class ? add(errorclass | (FIRST_DETAIL + um_me->added_count) << 8, errorcode) : MPI_ERR_ARG);
 }
 
 int MPI_Add_error_string(int errorcode, const char *string) {
@@ -60,8 +60,8 @@ int MPI_Add_error_string(int errorcode, const char *string) {
     return MPI_SUCCESS;
 }
 
-void clear_added(void) {
-    free(me->added);
-    me->added = 0;
-    me->added_count = me->last_code = 0;
+void um_clear_added(void) {
+    free(um_me->added);
+    um_me->added = 0;
+    um_me->added_count = um_me->last_code = 0;
 }

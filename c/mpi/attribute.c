@@ -25,15 +25,15 @@ int MPI_COMM_NULL_DELETE_FN(MPI_Comm comm, int keyval, void *value, void *more) 
 }
 
 static struct keyval *keyval_at(int keyval, enum kind_of_bearer kind) {
-    struct keyval *at = keyval >= FIRST_OWN && keyval - FIRST_OWN < me->keyval_count ? &me->keyvals[keyval - FIRST_OWN] : 0;
+    struct keyval *at = keyval >= FIRST_OWN && keyval - FIRST_OWN < um_me->keyval_count ? &um_me->keyvals[keyval - FIRST_OWN] : 0;
     return at && at->kind == kind ? at : 0;
 }
 
-int create_keyval(const struct keyval *made, int *keyval) {
+int um_create_keyval(const struct keyval *made, int *keyval) {
     WRITES(0, keyval);
-    if (!grow(&me->keyvals, me->keyval_count, sizeof *me->keyvals)) return fail(0, MPI_ERR_NO_MEM);
-    me->keyvals[me->keyval_count] = *made;
-    *keyval = FIRST_OWN + me->keyval_count++;
+    if (!um_grow(&um_me->keyvals, um_me->keyval_count, sizeof *um_me->keyvals)) return um_fail(0, MPI_ERR_NO_MEM);
+    um_me->keyvals[um_me->keyval_count] = *made;
+    *keyval = FIRST_OWN + um_me->keyval_count++;
     return MPI_SUCCESS;
 }
 
@@ -43,20 +43,20 @@ int MPI_Comm_create_keyval(MPI_Comm_copy_attr_function *copies, MPI_Comm_delete_
     struct keyval made = {.more = more};
     made.comm.copies = copies ? copies : MPI_COMM_NULL_COPY_FN;
     made.comm.deletes = deletes ? deletes : MPI_COMM_NULL_DELETE_FN;
-    return create_keyval(&made, keyval);
+    return um_create_keyval(&made, keyval);
 }
 
 /* The handle goes; attributes with it stay (7.7.2). */
-int free_keyval(int *keyval, enum kind_of_bearer kind) {
+int um_free_keyval(int *keyval, enum kind_of_bearer kind) {
     WRITES(0, keyval);
-    if (!keyval_at(*keyval, kind)) return fail(0, MPI_ERR_KEYVAL);
+    if (!keyval_at(*keyval, kind)) return um_fail(0, MPI_ERR_KEYVAL);
     *keyval = MPI_KEYVAL_INVALID;
     return MPI_SUCCESS;
 }
 
 int MPI_Comm_free_keyval(int *keyval) {
     ENTER_LOOK(0, MPI_UNDEFINED, MPI_UNDEFINED);
-    return free_keyval(keyval, OF_COMMS);
+    return um_free_keyval(keyval, OF_COMMS);
 }
 
 static struct attribute **place_of(struct attribute **at, int keyval) {
@@ -73,7 +73,7 @@ static int deletes(const struct bearer *bearer, const struct keyval *keyval, con
 /* Takes an attribute away, where its deletion allows that. */
 static int delete_at(const struct bearer *bearer, struct attribute **at) {
     struct attribute *attribute = *at;
-    const struct keyval *keyval = &me->keyvals[attribute->keyval - FIRST_OWN];
+    const struct keyval *keyval = &um_me->keyvals[attribute->keyval - FIRST_OWN];
     int code = deletes(bearer, keyval, attribute);
     if (code != MPI_SUCCESS) return code;
     *at = attribute->next;
@@ -90,20 +90,20 @@ static int add(struct attribute **at, int keyval, void *value) {
     return MPI_SUCCESS;
 }
 
-int set_attribute(const struct bearer *bearer, int keyval, void *value) {
+int um_set_attribute(const struct bearer *bearer, int keyval, void *value) {
     if (!keyval_at(keyval, bearer->kind)) return MPI_ERR_KEYVAL;
     struct attribute **at = place_of(bearer->first, keyval);
     int code = *at ? delete_at(bearer, at) : MPI_SUCCESS;
     return code != MPI_SUCCESS ? code : add(bearer->first, keyval, value);
 }
 
-int delete_attribute(const struct bearer *bearer, int keyval) {
+int um_delete_attribute(const struct bearer *bearer, int keyval) {
     if (!keyval_at(keyval, bearer->kind)) return MPI_ERR_KEYVAL;
     struct attribute **at = place_of(bearer->first, keyval);
     return *at ? delete_at(bearer, at) : MPI_SUCCESS;
 }
 
-int get_attribute(const struct bearer *bearer, int keyval, void *value, int *flag) {
+int um_get_attribute(const struct bearer *bearer, int keyval, void *value, int *flag) {
     if (!keyval_at(keyval, bearer->kind)) return MPI_ERR_KEYVAL;
     const struct attribute *own = *place_of(bearer->first, keyval);
     *flag = own != 0;
@@ -113,10 +113,10 @@ int get_attribute(const struct bearer *bearer, int keyval, void *value, int *fla
 
 /* A duplicate gets those whose copy function says so (7.7.2), in the same order, so that the last one that was set is the first to be deleted
    there too. */
-int copy_all_attributes(const struct bearer *from, struct attribute **end) {
+int um_copy_all_attributes(const struct bearer *from, struct attribute **end) {
     int code = MPI_SUCCESS;
     for (struct attribute *of = *from->first; of && code == MPI_SUCCESS; of = of->next) {
-        const struct keyval *keyval = &me->keyvals[of->keyval - FIRST_OWN];
+        const struct keyval *keyval = &um_me->keyvals[of->keyval - FIRST_OWN];
         void *value = 0;
         int flag = 0;
         code = keyval->kind == OF_TYPES ? keyval->type.copies(from->type, of->keyval, keyval->more, of->value, &value, &flag)
@@ -128,13 +128,13 @@ int copy_all_attributes(const struct bearer *from, struct attribute **end) {
 }
 
 /* Deletes all, the last one first. The first error ends it. */
-int delete_all_attributes(const struct bearer *bearer) {
+int um_delete_all_attributes(const struct bearer *bearer) {
     int code = MPI_SUCCESS;
     while (*bearer->first && code == MPI_SUCCESS) code = delete_at(bearer, bearer->first);
     return code;
 }
 
-void free_attributes(struct attribute *first) {
+void um_free_attributes(struct attribute *first) {
     while (first) {
         struct attribute *next = first->next;
         free(first);
@@ -142,32 +142,32 @@ void free_attributes(struct attribute *first) {
     }
 }
 
-static struct bearer bearer_of(struct comm *comm) { return (struct bearer){.kind = OF_COMMS, .comm = handle_of(comm), .first = &comm->attributes}; }
+static struct bearer bearer_of(struct comm *comm) { return (struct bearer){.kind = OF_COMMS, .comm = um_handle_of(comm), .first = &comm->attributes}; }
 
-int copy_attributes(struct comm *from, struct comm *to) {
+int um_copy_attributes(struct comm *from, struct comm *to) {
     struct bearer bearer = bearer_of(from);
-    return copy_all_attributes(&bearer, &to->attributes);
+    return um_copy_all_attributes(&bearer, &to->attributes);
 }
 
-int delete_attributes(struct comm *comm) {
+int um_delete_attributes(struct comm *comm) {
     struct bearer bearer = bearer_of(comm);
-    return delete_all_attributes(&bearer);
+    return um_delete_all_attributes(&bearer);
 }
 
 int MPI_Comm_set_attr(MPI_Comm comm, int keyval, void *value) {
-    struct comm *of = comm_at(comm);
+    struct comm *of = um_comm_at(comm);
     ENTER_LOOK(of, MPI_UNDEFINED, MPI_UNDEFINED);
-    if (!of) return fail(0, MPI_ERR_COMM);
+    if (!of) return um_fail(0, MPI_ERR_COMM);
     struct bearer bearer = bearer_of(of);
-    return fail(of, set_attribute(&bearer, keyval, value));
+    return um_fail(of, um_set_attribute(&bearer, keyval, value));
 }
 
 int MPI_Comm_delete_attr(MPI_Comm comm, int keyval) {
-    struct comm *of = comm_at(comm);
+    struct comm *of = um_comm_at(comm);
     ENTER_LOOK(of, MPI_UNDEFINED, MPI_UNDEFINED);
-    if (!of) return fail(0, MPI_ERR_COMM);
+    if (!of) return um_fail(0, MPI_ERR_COMM);
     struct bearer bearer = bearer_of(of);
-    return fail(of, delete_attribute(&bearer, keyval));
+    return um_fail(of, um_delete_attribute(&bearer, keyval));
 }
 
 /* The attributes that are there: the value is a pointer to a number. */
@@ -178,32 +178,32 @@ static int *value_of(int keyval) {
     case MPI_HOST: return &host;
     case MPI_IO: return &io;
     case MPI_WTIME_IS_GLOBAL: return &is_global;
-    case MPI_UNIVERSE_SIZE: return &options.ranks;
-    case MPI_LASTUSEDCODE: return last_used_code();
+    case MPI_UNIVERSE_SIZE: return &um_options.ranks;
+    case MPI_LASTUSEDCODE: return um_last_used_code();
     case MPI_APPNUM: return &program;
     default: return 0;
     }
 }
 
 int MPI_Comm_get_attr(MPI_Comm comm, int keyval, void *value, int *flag) {
-    struct comm *of = comm_at(comm);
+    struct comm *of = um_comm_at(comm);
     ENTER_LOOK(of, MPI_UNDEFINED, MPI_UNDEFINED);
-    if (!of) return fail(0, MPI_ERR_COMM);
+    if (!of) return um_fail(0, MPI_ERR_COMM);
     WRITES(of, value && flag);
     int *there = value_of(keyval);
     struct bearer bearer = bearer_of(of);
-    if (!there) return fail(of, get_attribute(&bearer, keyval, value, flag));
+    if (!there) return um_fail(of, um_get_attribute(&bearer, keyval, value, flag));
     *flag = 1;
     *(void **)value = there;
     return MPI_SUCCESS;
 }
 
 /* What a program added to the errors goes too: one of the attributes that are there points to it. */
-void clear_keyvals(void) {
-    clear_added();
-    free(me->keyvals);
-    me->keyvals = 0;
-    me->keyval_count = 0;
+void um_clear_keyvals(void) {
+    um_clear_added();
+    free(um_me->keyvals);
+    um_me->keyvals = 0;
+    um_me->keyval_count = 0;
 }
 
 /* The older names (16.1). A report has the newer one. */

@@ -43,12 +43,12 @@ struct bearer {
     struct attribute **first;
 };
 
-int create_keyval(const struct keyval *made, int *keyval);
-int free_keyval(int *keyval, enum kind_of_bearer kind);
-int set_attribute(const struct bearer *bearer, int keyval, void *value);
-int delete_attribute(const struct bearer *bearer, int keyval);
-int get_attribute(const struct bearer *bearer, int keyval, void *value, int *flag);
-int copy_all_attributes(const struct bearer *from, struct attribute **end);
-int delete_all_attributes(const struct bearer *bearer);
+int um_create_keyval(const struct keyval *made, int *keyval);
+int um_free_keyval(int *keyval, enum kind_of_bearer kind);
+int um_set_attribute(const struct bearer *bearer, int keyval, void *value);
+int um_delete_attribute(const struct bearer *bearer, int keyval);
+int um_get_attribute(const struct bearer *bearer, int keyval, void *value, int *flag);
+int um_copy_all_attributes(const struct bearer *from, struct attribute **end);
+int um_delete_all_attributes(const struct bearer *bearer);
 
 #endif

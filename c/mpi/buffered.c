@@ -5,19 +5,19 @@
 #include <limits.h>
 
 static int attach(void *buffer, MPI_Count size) {
-    if (size < 0) return fail(0, MPI_ERR_ARG);
-    if (me->attached || !buffer) return fail(0, MPI_ERR_BUFFER);
-    me->attached = buffer;
-    me->attached_size = size;
+    if (size < 0) return um_fail(0, MPI_ERR_ARG);
+    if (um_me->attached || !buffer) return um_fail(0, MPI_ERR_BUFFER);
+    um_me->attached = buffer;
+    um_me->attached_size = size;
     return MPI_SUCCESS;
 }
 
 /* Its size, and *buffer: the address that was attached, null where there is none. */
 static MPI_Count detach(void *buffer) {
-    MPI_Count size = me->attached_size;
-    *(void **)buffer = me->attached;
-    me->attached = 0;
-    me->attached_size = 0;
+    MPI_Count size = um_me->attached_size;
+    *(void **)buffer = um_me->attached;
+    um_me->attached = 0;
+    um_me->attached_size = 0;
     return size;
 }
 
@@ -49,26 +49,26 @@ int MPI_Buffer_detach_c(void *buffer, MPI_Count *size) {
 /* Whether the message and its overhead fit into what is attached; wrong arguments have their own class. */
 static int check_room(const void *buf, int count, MPI_Datatype type, int dest, int tag, const struct comm *comm) {
     size_t bytes;
-    int code = check_message(buf, count, type, dest, tag, comm, false);
-    if (code != MPI_SUCCESS || dest == MPI_PROC_NULL || !check_buffer(count, type, &bytes, &code)) return code;
-    return bytes + MPI_BSEND_OVERHEAD > (size_t)me->attached_size ? MPI_ERR_BUFFER : MPI_SUCCESS;
+    int code = um_check_message(buf, count, type, dest, tag, comm, false);
+    if (code != MPI_SUCCESS || dest == MPI_PROC_NULL || !um_check_buffer(count, type, &bytes, &code)) return code;
+    return bytes + MPI_BSEND_OVERHEAD > (size_t)um_me->attached_size ? MPI_ERR_BUFFER : MPI_SUCCESS;
 }
 
 int MPI_Bsend(const void *buf, int count, MPI_Datatype type, int dest, int tag, MPI_Comm comm) {
-    struct comm *of = comm_at(comm);
+    struct comm *of = um_comm_at(comm);
     ENTER(of, dest, tag);
     int code = check_room(buf, count, type, dest, tag, of);
-    return fail(of, code != MPI_SUCCESS ? code : send_buffered(buf, count, type, dest, tag, of));
+    return um_fail(of, code != MPI_SUCCESS ? code : um_send_buffered(buf, count, type, dest, tag, of));
 }
 
 int MPI_Ibsend(const void *buf, int count, MPI_Datatype type, int dest, int tag, MPI_Comm comm, MPI_Request *request) {
-    struct comm *of = comm_at(comm);
+    struct comm *of = um_comm_at(comm);
     struct request *begun;
     ENTER(of, dest, tag);
     WRITES(of, request);
     *request = MPI_REQUEST_NULL;
     int code = check_room(buf, count, type, dest, tag, of);
-    if (code == MPI_SUCCESS) code = begin_send(buf, count, type, dest, tag, of, false, &begun);
+    if (code == MPI_SUCCESS) code = um_begin_send(buf, count, type, dest, tag, of, false, &begun);
     if (code == MPI_SUCCESS) *request = (MPI_Request)(uintptr_t)begun->handle;
-    return fail(of, code);
+    return um_fail(of, code);
 }

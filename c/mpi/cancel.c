@@ -4,13 +4,13 @@
 
 /* A request without a handle goes when it is over. */
 static void give_up(struct request *request) {
-    look_at(request);   /* its message may have come, and nothing may come any more that lets it be looked at */
+    um_look_at(request);   /* its message may have come, and nothing may come any more that lets it be looked at */
     if (request->kind == EXCHANGE && !request->over)
         for (int k = 0; k < 2; k++) give_up(request->parts[k]);
-    if (request->over || request->kind == SYNCHRONOUS || request->kind == EXCHANGE) free_request(request);
+    if (request->over || request->kind == SYNCHRONOUS || request->kind == EXCHANGE) um_free_request(request);
     else {
         request->freed = true;
-        atomic_fetch_add(&me->waited_for, 1);
+        atomic_fetch_add(&um_me->waited_for, 1);
     }
 }
 
@@ -18,10 +18,10 @@ static void give_up(struct request *request) {
 int MPI_Request_free(MPI_Request *handle) {
     ENTER_LOOK(0, MPI_UNDEFINED, MPI_UNDEFINED);
     WRITES(0, handle);
-    struct request *request = active_at(*handle), *own = request_at(*handle);
-    if (!own || own->kind == COLLECTIVE || own->kind == RECOVERY || (request && request->kind == COLLECTIVE)) return fail(0, MPI_ERR_REQUEST);
+    struct request *request = um_active_at(*handle), *own = um_request_at(*handle);
+    if (!own || own->kind == COLLECTIVE || own->kind == RECOVERY || (request && request->kind == COLLECTIVE)) return um_fail(0, MPI_ERR_REQUEST);
     *handle = MPI_REQUEST_NULL;
-    if (own->kind == PERSISTENT) free_request(own);
+    if (own->kind == PERSISTENT) um_free_request(own);
     if (request) give_up(request);
     return MPI_SUCCESS;
 }
@@ -31,10 +31,10 @@ int MPI_Request_free(MPI_Request *handle) {
 int MPI_Cancel(MPI_Request *handle) {
     ENTER(0, MPI_UNDEFINED, MPI_UNDEFINED);
     WRITES(0, handle);
-    struct request *request = active_at(*handle);
-    if (!request || request->kind == COLLECTIVE || request->kind == RECOVERY) return fail(0, MPI_ERR_REQUEST);
-    progress();
-    withdraw(request);
+    struct request *request = um_active_at(*handle);
+    if (!request || request->kind == COLLECTIVE || request->kind == RECOVERY) return um_fail(0, MPI_ERR_REQUEST);
+    um_progress();
+    um_withdraw(request);
     return MPI_SUCCESS;
 }
 

@@ -16,7 +16,7 @@ static int nodes_of(const struct cart *cart) {
 }
 
 /* A copy for a duplicate (8.5: a duplicate has the topology), or null: there is none, or no memory. */
-struct cart *copy_cart(const struct cart *cart) {
+struct cart *um_copy_cart(const struct cart *cart) {
     struct cart *copy = cart ? malloc(sizeof *copy) : 0;
     if (copy) *copy = *cart;
     return copy;
@@ -24,36 +24,36 @@ struct cart *copy_cart(const struct cart *cart) {
 
 /* Makes the communicator of those of a color, with a topology. */
 static int make_cart(struct comm *of, const struct cart *cart, int color, int key, MPI_Comm *made) {
-    int code = split_comm(of, color, key, made);
+    int code = um_split_comm(of, color, key, made);
     if (code != MPI_SUCCESS || *made == MPI_COMM_NULL) return code;
-    comm_at(*made)->cart = copy_cart(cart);
-    return comm_at(*made)->cart ? MPI_SUCCESS : MPI_ERR_NO_MEM;
+    um_comm_at(*made)->cart = um_copy_cart(cart);
+    return um_comm_at(*made)->cart ? MPI_SUCCESS : MPI_ERR_NO_MEM;
 }
 
 int MPI_Cart_create(MPI_Comm comm, int ndims, const int dims[], const int periods[], int reorder, MPI_Comm *made) {
-    struct comm *of = comm_at(comm);
+    struct comm *of = um_comm_at(comm);
     struct cart cart = {.dims = ndims};
     (void)reorder;
     ENTER(of, MPI_UNDEFINED, MPI_UNDEFINED);
-    if (!of) return fail(0, MPI_ERR_COMM);
-    if (ndims < 0 || ndims > MAX_DIMS) return fail(of, refuse_collective(of, MPI_ERR_DIMS));
-    if (!made || (ndims && (!dims || !periods))) return fail(of, refuse_collective(of, MPI_ERR_ARG));
+    if (!of) return um_fail(0, MPI_ERR_COMM);
+    if (ndims < 0 || ndims > MAX_DIMS) return um_fail(of, um_refuse_collective(of, MPI_ERR_DIMS));
+    if (!made || (ndims && (!dims || !periods))) return um_fail(of, um_refuse_collective(of, MPI_ERR_ARG));
     for (int k = 0; k < ndims; k++) {
-        if (dims[k] <= 0) return fail(of, refuse_collective(of, MPI_ERR_DIMS));
+        if (dims[k] <= 0) return um_fail(of, um_refuse_collective(of, MPI_ERR_DIMS));
         cart.size[k] = dims[k];
         cart.is_periodic[k] = periods[k] != 0;
     }
-    if (nodes_of(&cart) > of->size) return fail(of, refuse_collective(of, MPI_ERR_ARG));
-    return fail(of, make_cart(of, &cart, of->position < nodes_of(&cart) ? 0 : MPI_UNDEFINED, 0, made));
+    if (nodes_of(&cart) > of->size) return um_fail(of, um_refuse_collective(of, MPI_ERR_ARG));
+    return um_fail(of, make_cart(of, &cart, of->position < nodes_of(&cart) ? 0 : MPI_UNDEFINED, 0, made));
 }
 
 /* Begins a call on a communicator with a topology. */
 #define CART(comm) \
-    struct comm *of = comm_at(comm); \
+    struct comm *of = um_comm_at(comm); \
     ENTER_LOOK(of, MPI_UNDEFINED, MPI_UNDEFINED); \
-    if (!of) return fail(0, MPI_ERR_COMM); \
+    if (!of) return um_fail(0, MPI_ERR_COMM); \
     struct cart *cart = of->cart; \
-    if (!cart) return fail(of, MPI_ERR_TOPOLOGY)
+    if (!cart) return um_fail(of, MPI_ERR_TOPOLOGY)
 
 static void coords_of(const struct cart *cart, int rank, int coords[]) {
     for (int k = cart->dims - 1; k >= 0; k--) {
@@ -84,7 +84,7 @@ int MPI_Cart_get(MPI_Comm comm, int maxdims, int dims[], int periods[], int coor
     CART(comm);
     WRITES(of, cart->dims == 0 || (dims && periods && coords));
     int own[MAX_DIMS];
-    if (maxdims < cart->dims) return fail(of, MPI_ERR_ARG);
+    if (maxdims < cart->dims) return um_fail(of, MPI_ERR_ARG);
     coords_of(cart, of->position, own);
     for (int k = 0; k < cart->dims; k++) dims[k] = cart->size[k], periods[k] = cart->is_periodic[k], coords[k] = own[k];
     return MPI_SUCCESS;
@@ -94,7 +94,7 @@ int MPI_Cart_rank(MPI_Comm comm, const int coords[], int *rank) {
     CART(comm);
     WRITES(of, rank && (coords || cart->dims == 0));
     int at = rank_at(cart, coords);
-    if (at < 0) return fail(of, MPI_ERR_ARG);
+    if (at < 0) return um_fail(of, MPI_ERR_ARG);
     *rank = at;
     return MPI_SUCCESS;
 }
@@ -102,8 +102,8 @@ int MPI_Cart_rank(MPI_Comm comm, const int coords[], int *rank) {
 int MPI_Cart_coords(MPI_Comm comm, int rank, int maxdims, int coords[]) {
     CART(comm);
     WRITES(of, coords || cart->dims == 0);
-    if (rank < 0 || rank >= of->size) return fail(of, MPI_ERR_RANK);
-    if (maxdims < cart->dims) return fail(of, MPI_ERR_ARG);
+    if (rank < 0 || rank >= of->size) return um_fail(of, MPI_ERR_RANK);
+    if (maxdims < cart->dims) return um_fail(of, MPI_ERR_ARG);
     coords_of(cart, rank, coords);
     return MPI_SUCCESS;
 }
@@ -112,7 +112,7 @@ int MPI_Cart_coords(MPI_Comm comm, int rank, int maxdims, int coords[]) {
 int MPI_Cart_shift(MPI_Comm comm, int direction, int displacement, int *source, int *dest) {
     CART(comm);
     WRITES(of, source && dest);
-    if (direction < 0 || direction >= cart->dims) return fail(of, MPI_ERR_ARG);
+    if (direction < 0 || direction >= cart->dims) return um_fail(of, MPI_ERR_ARG);
     int coords[MAX_DIMS], from, to;
     coords_of(cart, of->position, coords);
     coords[direction] += displacement;
@@ -126,11 +126,11 @@ int MPI_Cart_shift(MPI_Comm comm, int direction, int displacement, int *source, 
 
 /* The grids of the dimensions that remain, one for each place in the others. */
 int MPI_Cart_sub(MPI_Comm comm, const int remains[], MPI_Comm *made) {
-    struct comm *of = comm_at(comm);
+    struct comm *of = um_comm_at(comm);
     ENTER(of, MPI_UNDEFINED, MPI_UNDEFINED);
-    if (!of) return fail(0, MPI_ERR_COMM);
-    if (!of->cart) return fail(of, refuse_collective(of, MPI_ERR_TOPOLOGY));
-    if (!made || (!remains && of->cart->dims)) return fail(of, refuse_collective(of, MPI_ERR_ARG));
+    if (!of) return um_fail(0, MPI_ERR_COMM);
+    if (!of->cart) return um_fail(of, um_refuse_collective(of, MPI_ERR_TOPOLOGY));
+    if (!made || (!remains && of->cart->dims)) return um_fail(of, um_refuse_collective(of, MPI_ERR_ARG));
     struct cart cart = {.dims = 0};
     int coords[MAX_DIMS], color = 0;
     coords_of(of->cart, of->position, coords);
@@ -138,11 +138,11 @@ int MPI_Cart_sub(MPI_Comm comm, const int remains[], MPI_Comm *made) {
         if (!remains[k]) color = color * of->cart->size[k] + coords[k];
         else cart.size[cart.dims] = of->cart->size[k], cart.is_periodic[cart.dims++] = of->cart->is_periodic[k];
     }
-    return fail(of, make_cart(of, &cart, color, of->position, made));
+    return um_fail(of, make_cart(of, &cart, color, of->position, made));
 }
 
 /* The neighbours along each dimension, below and above; MPI_PROC_NULL outside of the grid (8.6). How many. */
-int neighbors_of_cart(const struct comm *comm, int neighbors[]) {
+int um_neighbors_of_cart(const struct comm *comm, int neighbors[]) {
     const struct cart *cart = comm->cart;
     int coords[MAX_DIMS];
     coords_of(cart, comm->position, coords);
@@ -158,25 +158,25 @@ int neighbors_of_cart(const struct comm *comm, int neighbors[]) {
 
 /* Where a rank would stand: ranks keep their order. */
 int MPI_Cart_map(MPI_Comm comm, int ndims, const int dims[], const int periods[], int *rank) {
-    struct comm *of = comm_at(comm);
+    struct comm *of = um_comm_at(comm);
     long long nodes = 1;
     ENTER_LOOK(of, MPI_UNDEFINED, MPI_UNDEFINED);
-    if (!of) return fail(0, MPI_ERR_COMM);
-    if (!rank || (ndims > 0 && (!dims || !periods))) return fail(of, MPI_ERR_ARG);
-    if (ndims < 0 || ndims > MAX_DIMS) return fail(of, MPI_ERR_DIMS);
+    if (!of) return um_fail(0, MPI_ERR_COMM);
+    if (!rank || (ndims > 0 && (!dims || !periods))) return um_fail(of, MPI_ERR_ARG);
+    if (ndims < 0 || ndims > MAX_DIMS) return um_fail(of, MPI_ERR_DIMS);
     for (int k = 0; k < ndims && nodes <= of->size; k++) {
-        if (dims[k] <= 0) return fail(of, MPI_ERR_DIMS);
+        if (dims[k] <= 0) return um_fail(of, MPI_ERR_DIMS);
         nodes *= dims[k];
     }
-    if (nodes > of->size) return fail(of, MPI_ERR_DIMS);
+    if (nodes > of->size) return um_fail(of, MPI_ERR_DIMS);
     *rank = of->position < nodes ? of->position : MPI_UNDEFINED;
     return MPI_SUCCESS;
 }
 
 int MPI_Topo_test(MPI_Comm comm, int *status) {
-    struct comm *of = comm_at(comm);
+    struct comm *of = um_comm_at(comm);
     ENTER_LOOK(of, MPI_UNDEFINED, MPI_UNDEFINED);
-    if (!of) return fail(0, MPI_ERR_COMM);
+    if (!of) return um_fail(0, MPI_ERR_COMM);
     WRITES(of, status);
     *status = of->cart ? MPI_CART : of->graph ? of->graph->kind : MPI_UNDEFINED;
     return MPI_SUCCESS;

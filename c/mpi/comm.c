@@ -6,54 +6,54 @@
 #include <string.h>
 
 /* The communicator of a handle, or null: it isn't one, or not yet. */
-struct comm *comm_at(MPI_Comm handle) {
+struct comm *um_comm_at(MPI_Comm handle) {
     uintptr_t number = (uintptr_t)handle;
-    return me && number && number <= (uintptr_t)me->comm_count ? me->comms[number - 1] : 0;
+    return um_me && number && number <= (uintptr_t)um_me->comm_count ? um_me->comms[number - 1] : 0;
 }
 
-MPI_Comm handle_of(const struct comm *comm) {
-    for (int k = 0; k < me->comm_count; k++)
-        if (me->comms[k] == comm) return (MPI_Comm)(uintptr_t)(k + 1);
+MPI_Comm um_handle_of(const struct comm *comm) {
+    for (int k = 0; k < um_me->comm_count; k++)
+        if (um_me->comms[k] == comm) return (MPI_Comm)(uintptr_t)(k + 1);
     return MPI_COMM_NULL;
 }
 
 /* The chain of a context, with its first duplicate, for collectives, and the others, as far as contexts are left. */
-struct chain *new_chain(uint32_t context) {
+struct chain *um_new_chain(uint32_t context) {
     struct chain *chain = calloc(1, sizeof *chain);
     if (!chain) return 0;
     uint32_t last;
-    bool is_left = ulfm_dup(me->slot, context, &last) == ULFM_OK;
+    bool is_left = ulfm_dup(um_me->slot, context, &last) == ULFM_OK;
     chain->hidden = is_left ? last : NO_CONTEXT_LEFT;
     chain->plane[0].context = context;
     chain->planes = chain->made = 1;
-    while (is_left && chain->made < PLANES && ulfm_dup(me->slot, last, &last) == ULFM_OK) chain->plane[chain->made++].context = last;
+    while (is_left && chain->made < PLANES && ulfm_dup(um_me->slot, last, &last) == ULFM_OK) chain->plane[chain->made++].context = last;
     return chain;
 }
 
 /* The position of the member that stands at a place of the context's group. */
-int position_at(const struct comm *comm, uint32_t place) {
+int um_position_at(const struct comm *comm, uint32_t place) {
     for (int k = 0; k < comm->size; k++)
         if (comm->place[k] == place) return k;
     return MPI_UNDEFINED;
 }
 
-void group_of(const struct comm *comm, struct group *group) {
+void um_group_of(const struct comm *comm, struct group *group) {
     group->size = comm->size;
     memcpy(group->members, comm->members, sizeof group->members);
 }
 
 /* Fills in who the members are: those of a group that are in the context's, in the group's order, or all. */
-bool fill_comm(struct comm *comm, const struct group *group) {
+bool um_fill_comm(struct comm *comm, const struct group *group) {
     ulfm_group all;
     struct group whole = {0};
-    if (ulfm_group_of(me->slot, comm->context, &all) != ULFM_OK) return false;
+    if (ulfm_group_of(um_me->slot, comm->context, &all) != ULFM_OK) return false;
     whole.size = (int)all.size;
     memcpy(whole.members, all.members, sizeof whole.members);
     comm->size = 0;
     for (int k = 0; k < (group ? group->size : whole.size); k++) {
-        int member = group ? group->members[k] : whole.members[k], place = position_in(&whole, member);
+        int member = group ? group->members[k] : whole.members[k], place = um_position_in(&whole, member);
         if (place == MPI_UNDEFINED) continue;
-        if (member == me->number) comm->position = comm->size;
+        if (member == um_me->number) comm->position = comm->size;
         comm->place[comm->size] = (uint8_t)place;
         comm->members[comm->size++] = (uint8_t)member;
     }
@@ -62,12 +62,12 @@ bool fill_comm(struct comm *comm, const struct group *group) {
 }
 
 /* A communicator on a plane of a chain, or null where there is no memory. */
-struct comm *new_comm(struct chain *chain, int plane, MPI_Errhandler handler, const struct group *group) {
+struct comm *um_new_comm(struct chain *chain, int plane, MPI_Errhandler handler, const struct group *group) {
     struct comm *comm = calloc(1, sizeof *comm);
     int place = 0;
-    while (place < me->comm_count && me->comms[place]) place++;
+    while (place < um_me->comm_count && um_me->comms[place]) place++;
     if (comm) comm->context = chain->plane[plane].context;
-    if (!comm || (place == me->comm_count && !grow(&me->comms, place, sizeof *me->comms)) || !fill_comm(comm, group)) {
+    if (!comm || (place == um_me->comm_count && !um_grow(&um_me->comms, place, sizeof *um_me->comms)) || !um_fill_comm(comm, group)) {
         free(comm);
         return 0;
     }
@@ -78,102 +78,102 @@ struct comm *new_comm(struct chain *chain, int plane, MPI_Errhandler handler, co
     chain->plane[plane].is_free = false;
     comm->handler = handler;
     chain->users++;
-    me->comms[place] = comm;
-    if (place == me->comm_count) me->comm_count++;
+    um_me->comms[place] = comm;
+    if (place == um_me->comm_count) um_me->comm_count++;
     return comm;
 }
 
 /* MPI_COMM_WORLD and MPI_COMM_SELF. The messages of the latter go through the world's hidden context, where nobody else sends to itself. */
-bool make_world(void) {
-    struct chain *chain = new_chain(0);
-    struct comm *world = chain ? new_comm(chain, 0, MPI_ERRORS_ARE_FATAL, 0) : 0;
+bool um_make_world(void) {
+    struct chain *chain = um_new_chain(0);
+    struct comm *world = chain ? um_new_comm(chain, 0, MPI_ERRORS_ARE_FATAL, 0) : 0;
     struct comm *self = world ? calloc(1, sizeof *self) : 0;
-    if (!self || !grow(&me->comms, me->comm_count, sizeof *me->comms)) return false;
+    if (!self || !um_grow(&um_me->comms, um_me->comm_count, sizeof *um_me->comms)) return false;
     strcpy(world->name, "MPI_COMM_WORLD");
     strcpy(self->name, "MPI_COMM_SELF");
     self->context = self->hidden = chain->hidden;
     self->chain = chain;
-    fill_comm(self, &(struct group){1, {(uint8_t)me->number}});
+    um_fill_comm(self, &(struct group){1, {(uint8_t)um_me->number}});
     self->handler = MPI_ERRORS_ARE_FATAL;
     self->is_self = self->is_part = true;
-    self->revoked = &me->self_revoked;
+    self->revoked = &um_me->self_revoked;
     chain->users++;
-    me->comms[me->comm_count++] = self;
+    um_me->comms[um_me->comm_count++] = self;
     return true;
 }
 
 /* Takes a communicator away that nothing points to. */
-void free_comm(struct comm *comm) {
+void um_free_comm(struct comm *comm) {
     if (--comm->chain->users == 0) free(comm->chain);
     free(comm->cart);
-    free_graph(comm->graph);
-    free_attributes(comm->attributes);
+    um_free_graph(comm->graph);
+    um_free_attributes(comm->attributes);
     free(comm);
 }
 
-void clear_comms(void) {
-    for (int k = 0; k < me->comm_count; k++)
-        if (me->comms[k]) free_comm(me->comms[k]);
-    for (int k = 0; k < me->old_comm_count; k++) free_comm(me->old_comms[k]);
-    free(me->comms);
-    free(me->old_comms);
-    me->comms = me->old_comms = 0;
-    me->comm_count = me->old_comm_count = 0;
+void um_clear_comms(void) {
+    for (int k = 0; k < um_me->comm_count; k++)
+        if (um_me->comms[k]) um_free_comm(um_me->comms[k]);
+    for (int k = 0; k < um_me->old_comm_count; k++) um_free_comm(um_me->old_comms[k]);
+    free(um_me->comms);
+    free(um_me->old_comms);
+    um_me->comms = um_me->old_comms = 0;
+    um_me->comm_count = um_me->old_comm_count = 0;
 }
 
 int MPI_Comm_size(MPI_Comm comm, int *size) {
-    struct comm *of = comm_at(comm);
+    struct comm *of = um_comm_at(comm);
     ENTER_LOOK(of, MPI_UNDEFINED, MPI_UNDEFINED);
-    if (!of) return fail(0, MPI_ERR_COMM);
+    if (!of) return um_fail(0, MPI_ERR_COMM);
     WRITES(of, size);
     *size = of->size;
     return MPI_SUCCESS;
 }
 
 int MPI_Comm_rank(MPI_Comm comm, int *rank) {
-    struct comm *of = comm_at(comm);
+    struct comm *of = um_comm_at(comm);
     ENTER_LOOK(of, MPI_UNDEFINED, MPI_UNDEFINED);
-    if (!of) return fail(0, MPI_ERR_COMM);
+    if (!of) return um_fail(0, MPI_ERR_COMM);
     WRITES(of, rank);
     *rank = of->position;
     return MPI_SUCCESS;
 }
 
 int MPI_Comm_compare(MPI_Comm a, MPI_Comm b, int *result) {
-    struct comm *one = comm_at(a), *other = comm_at(b);
+    struct comm *one = um_comm_at(a), *other = um_comm_at(b);
     ENTER_LOOK(one, MPI_UNDEFINED, MPI_UNDEFINED);
-    if (!one || !other) return fail(0, MPI_ERR_COMM);
+    if (!one || !other) return um_fail(0, MPI_ERR_COMM);
     WRITES(one, result);
     struct group groups[2] = {{one->size, {0}}, {other->size, {0}}};
     memcpy(groups[0].members, one->members, MAX_RANKS);
     memcpy(groups[1].members, other->members, MAX_RANKS);
-    int same = compare_groups(&groups[0], &groups[1]);
+    int same = um_compare_groups(&groups[0], &groups[1]);
     *result = one == other ? MPI_IDENT : same == MPI_IDENT ? MPI_CONGRUENT : same;
     return MPI_SUCCESS;
 }
 
 int MPI_Comm_set_name(MPI_Comm comm, const char *name) {
-    struct comm *of = comm_at(comm);
+    struct comm *of = um_comm_at(comm);
     ENTER_LOOK(of, MPI_UNDEFINED, MPI_UNDEFINED);
-    if (!of) return fail(0, MPI_ERR_COMM);
-    if (!name) return fail(of, MPI_ERR_ARG);
+    if (!of) return um_fail(0, MPI_ERR_COMM);
+    if (!name) return um_fail(of, MPI_ERR_ARG);
     snprintf(of->name, sizeof of->name, "%s", name);
     return MPI_SUCCESS;
 }
 
 int MPI_Comm_get_name(MPI_Comm comm, char *name, int *length) {
-    struct comm *of = comm_at(comm);
+    struct comm *of = um_comm_at(comm);
     ENTER_LOOK(of, MPI_UNDEFINED, MPI_UNDEFINED);
-    if (!of) return fail(0, MPI_ERR_COMM);
+    if (!of) return um_fail(0, MPI_ERR_COMM);
     WRITES(of, name && length);
     *length = snprintf(name, MPI_MAX_OBJECT_NAME, "%s", of->name);
     return MPI_SUCCESS;
 }
 
 int MPI_Comm_test_inter(MPI_Comm comm, int *flag) {
-    struct comm *of = comm_at(comm);
+    struct comm *of = um_comm_at(comm);
     ENTER_LOOK(of, MPI_UNDEFINED, MPI_UNDEFINED);
-    if (!of) return fail(0, MPI_ERR_COMM);
+    if (!of) return um_fail(0, MPI_ERR_COMM);
     WRITES(of, flag);
     *flag = 0;
     return MPI_SUCCESS;

@@ -65,14 +65,14 @@ int MPI_Dims_create(int nodes, int ndims, int dims[]) {
     ENTER_LOOK(0, MPI_UNDEFINED, MPI_UNDEFINED);
     int fixed = 1, next = 0;
     struct search search = {.difference = nodes};
-    if (ndims < 0 || ndims > MAX_DIMS) return fail(0, MPI_ERR_DIMS);
-    if (nodes <= 0 || (ndims && !dims)) return fail(0, MPI_ERR_ARG);
+    if (ndims < 0 || ndims > MAX_DIMS) return um_fail(0, MPI_ERR_DIMS);
+    if (nodes <= 0 || (ndims && !dims)) return um_fail(0, MPI_ERR_ARG);
     for (int k = 0; k < ndims; k++) {
-        if (dims[k] < 0 || (dims[k] > 0 && (nodes / fixed) % dims[k])) return fail(0, MPI_ERR_DIMS);
+        if (dims[k] < 0 || (dims[k] > 0 && (nodes / fixed) % dims[k])) return um_fail(0, MPI_ERR_DIMS);
         if (dims[k] > 0) fixed *= dims[k];
         search.count += dims[k] == 0;
     }
-    if (search.count == 0) return nodes == fixed ? MPI_SUCCESS : fail(0, MPI_ERR_DIMS);
+    if (search.count == 0) return nodes == fixed ? MPI_SUCCESS : um_fail(0, MPI_ERR_DIMS);
     find_divisors(&search, nodes / fixed);
     divide(&search, 0, nodes / fixed);
     for (int k = 0; k < ndims; k++)

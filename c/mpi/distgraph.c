@@ -12,8 +12,8 @@ struct edge {
 
 /* Makes the communicator of the same members, with a graph. */
 static int make_graph(struct comm *of, const struct graph *graph, MPI_Comm *made) {
-    int code = make_another(of, made);
-    return code == MPI_SUCCESS ? keep_graph(graph, comm_at(*made)) : code;
+    int code = um_make_another(of, made);
+    return code == MPI_SUCCESS ? um_keep_graph(graph, um_comm_at(*made)) : code;
 }
 
 static bool is_weighted(const int *weights) { return weights != MPI_UNWEIGHTED; }
@@ -28,29 +28,29 @@ static int check_edges(const struct comm *of, int count, const int nodes[], cons
 
 int MPI_Dist_graph_create_adjacent(MPI_Comm comm, int indegree, const int sources[], const int sourceweights[], int outdegree,
                                    const int destinations[], const int destweights[], MPI_Info info, int reorder, MPI_Comm *made) {
-    struct comm *of = comm_at(comm);
+    struct comm *of = um_comm_at(comm);
     (void)reorder;
     ENTER(of, MPI_UNDEFINED, MPI_UNDEFINED);
-    if (!of) return fail(0, MPI_ERR_COMM);
-    int code = !is_info(info) ? MPI_ERR_INFO : made ? check_edges(of, indegree, sources, sourceweights) : MPI_ERR_ARG;
+    if (!of) return um_fail(0, MPI_ERR_COMM);
+    int code = !um_is_info(info) ? MPI_ERR_INFO : made ? check_edges(of, indegree, sources, sourceweights) : MPI_ERR_ARG;
     if (code == MPI_SUCCESS) code = check_edges(of, outdegree, destinations, destweights);
     if (code == MPI_SUCCESS && is_weighted(sourceweights) != is_weighted(destweights)) code = MPI_ERR_ARG;
-    if (code != MPI_SUCCESS) return fail(of, refuse_collective(of, code));
-    code = begin_collective(of);
+    if (code != MPI_SUCCESS) return um_fail(of, um_refuse_collective(of, code));
+    code = um_begin_collective(of);
     struct graph graph = {MPI_DIST_GRAPH, indegree, outdegree, is_weighted(sourceweights), (int *)(uintptr_t)sources, (int *)(uintptr_t)destinations,
                           (int *)(uintptr_t)sourceweights, (int *)(uintptr_t)destweights};
-    return fail(of, code != MPI_SUCCESS ? code : make_graph(of, &graph, made));
+    return um_fail(of, code != MPI_SUCCESS ? code : make_graph(of, &graph, made));
 }
 
 /* What each has is told to all: the largest number of edges first. */
 static int tell_most(struct comm *of, int own, int *most) {
     int counts[MAX_RANKS] = {0};
     char verdict[VERDICT + sizeof *most];
-    int code = gather_all(of, &own, sizeof own, counts);
+    int code = um_gather_all(of, &own, sizeof own, counts);
     *most = 0;
     for (int k = 0; k < of->size && of->position == 0; k++) *most = counts[k] > *most ? counts[k] : *most;
     memcpy(verdict + VERDICT, most, sizeof *most);
-    code = spread_verdict(of, code, verdict, sizeof *most);
+    code = um_spread_verdict(of, code, verdict, sizeof *most);
     memcpy(most, verdict + VERDICT, sizeof *most);
     return code;
 }
@@ -77,9 +77,9 @@ static void pick_edges(const struct comm *of, const struct edge *edges, int coun
 static int tell_edges(struct comm *of, const struct edge *edges, int most, struct graph *graph) {
     size_t bytes = (size_t)most * sizeof *edges, all = bytes * (size_t)of->size;
     char *room = malloc(VERDICT + all + 1);
-    int code = gather_all(of, edges, room ? bytes : 0, room ? room + VERDICT : 0);
+    int code = um_gather_all(of, edges, room ? bytes : 0, room ? room + VERDICT : 0);
     if (!room) return MPI_ERR_NO_MEM;
-    code = spread_verdict(of, code, room, all);
+    code = um_spread_verdict(of, code, room, all);
     if (code == MPI_SUCCESS && !make_room(graph, most * of->size)) code = MPI_ERR_NO_MEM;
     if (code == MPI_SUCCESS) pick_edges(of, (const struct edge *)(room + VERDICT), most * of->size, graph);
     free(room);
@@ -114,18 +114,18 @@ static int create(struct comm *of, int count, const int sources[], const int deg
 
 int MPI_Dist_graph_create(MPI_Comm comm, int count, const int sources[], const int degrees[], const int destinations[], const int weights[], MPI_Info info,
                           int reorder, MPI_Comm *made) {
-    struct comm *of = comm_at(comm);
+    struct comm *of = um_comm_at(comm);
     int own = 0;
     (void)reorder;
     ENTER(of, MPI_UNDEFINED, MPI_UNDEFINED);
-    if (!of) return fail(0, MPI_ERR_COMM);
-    int code = !is_info(info) ? MPI_ERR_INFO : made ? check_edges(of, count, sources, MPI_UNWEIGHTED) : MPI_ERR_ARG;
+    if (!of) return um_fail(0, MPI_ERR_COMM);
+    int code = !um_is_info(info) ? MPI_ERR_INFO : made ? check_edges(of, count, sources, MPI_UNWEIGHTED) : MPI_ERR_ARG;
     for (int k = 0; k < count && code == MPI_SUCCESS; k++) {
         if (!degrees || degrees[k] < 0) code = MPI_ERR_ARG;
         else own += degrees[k];
     }
     if (code == MPI_SUCCESS) code = check_edges(of, own, destinations, weights);
-    if (code != MPI_SUCCESS) return fail(of, refuse_collective(of, code));
-    code = begin_collective(of);
-    return fail(of, code != MPI_SUCCESS ? code : create(of, count, sources, degrees, destinations, weights, own, made));
+    if (code != MPI_SUCCESS) return um_fail(of, um_refuse_collective(of, code));
+    code = um_begin_collective(of);
+    return um_fail(of, code != MPI_SUCCESS ? code : create(of, count, sources, degrees, destinations, weights, own, made));
 }

@@ -18,7 +18,7 @@ struct marks {
 static struct marks *all_marks;
 static pthread_mutex_t marks_lock = PTHREAD_MUTEX_INITIALIZER;
 
-_Atomic int *new_marks(void) {
+_Atomic int *um_new_marks(void) {
     struct marks *marks = calloc(1, sizeof *marks);
     if (!marks) return 0;
     pthread_mutex_lock(&marks_lock);
@@ -28,7 +28,7 @@ _Atomic int *new_marks(void) {
     return marks->marks;
 }
 
-void free_marks(void) {
+void um_free_marks(void) {
     while (all_marks) {
         struct marks *next = all_marks->next;
         free(all_marks);
@@ -37,8 +37,8 @@ void free_marks(void) {
 }
 
 static bool has_requests(uint32_t context) {
-    for (int k = 0; k < me->request_count; k++)
-        if (me->requests[k] && me->requests[k]->context == context) return true;
+    for (int k = 0; k < um_me->request_count; k++)
+        if (um_me->requests[k] && um_me->requests[k]->context == context) return true;
     return false;
 }
 
@@ -49,19 +49,19 @@ static unsigned free_planes(const struct chain *chain) {
         uint32_t context = chain->plane[k].context, revoked = 0;
         if (k >= chain->planes) all |= 1u << k;
         else if (!chain->plane[k].is_free || has_requests(context)) continue;
-        else if (ulfm_is_revoked(me->slot, context, &revoked) == ULFM_OK && !revoked) all |= 1u << k;
+        else if (ulfm_is_revoked(um_me->slot, context, &revoked) == ULFM_OK && !revoked) all |= 1u << k;
     }
     return all;
 }
 
 /* What this rank wishes. */
-void wish_for(const struct chain *chain, struct wish *own) {
+void um_wish_for(const struct chain *chain, struct wish *own) {
     *own = (struct wish){.free = free_planes(chain), .old = (1u << chain->planes) - 1};
     for (int k = 0; k < chain->planes; k++) own->begun[k] = chain->plane[k].begun;
 }
 
 /* What comes of the wishes of all, but for the marks. */
-void decide(const struct comm *team, const struct wish *all, struct decided *decided) {
+void um_decide(const struct comm *team, const struct wish *all, struct decided *decided) {
     unsigned common = all[0].free;
     *decided = (struct decided){0};
     for (int k = 0; k < team->size; k++) {
@@ -77,40 +77,40 @@ void decide(const struct comm *team, const struct wish *all, struct decided *dec
 }
 
 /* Takes away what was sent on a plane before and never received. */
-void drop_messages(const struct chain *chain, int plane) {
+void um_drop_messages(const struct chain *chain, int plane) {
     if (plane >= chain->planes) return;
     uint32_t context = chain->plane[plane].context;
     struct received received;
     uint64_t id;
-    while (ulfm_improbe(me->slot, context, ULFM_ANY, ULFM_ANY, &id, &received.told) == ULFM_OK) {
-        if (ulfm_mrecv(me->slot, id, &received.told, &received.body.content, sizeof received.body) != ULFM_OK) return;
-        drop_body(&received);
+    while (ulfm_improbe(um_me->slot, context, ULFM_ANY, ULFM_ANY, &id, &received.told) == ULFM_OK) {
+        if (ulfm_mrecv(um_me->slot, id, &received.told, &received.body.content, sizeof received.body) != ULFM_OK) return;
+        um_drop_body(&received);
     }
 }
 
 /* Takes away what is left of the communicator that a plane had before. All are done with it before any of them sends on the new one. */
 static int empty_plane(struct comm *team, int plane) {
     char verdict[VERDICT];
-    drop_messages(team->chain, plane);
-    return spread_verdict(team, gather_all(team, 0, 0, 0), verdict, 0);
+    um_drop_messages(team->chain, plane);
+    return um_spread_verdict(team, um_gather_all(team, 0, 0, 0), verdict, 0);
 }
 
 /* The plane that all members of a team take, and what else they agree on. */
-int agree_on_plane(struct comm *team, int *plane, struct plans *plans) {
+int um_agree_on_plane(struct comm *team, int *plane, struct plans *plans) {
     struct wish own, all[MAX_RANKS];
     struct decided decided = {0};
     char verdict[VERDICT + sizeof decided];
-    wait_for_copies(team->chain);
-    wish_for(team->chain, &own);
+    um_wait_for_copies(team->chain);
+    um_wish_for(team->chain, &own);
     own.color = plans->colors[0];
     own.key = plans->keys[0];
-    int code = gather_all(team, &own, sizeof own, all);
+    int code = um_gather_all(team, &own, sizeof own, all);
     if (team->position == 0 && code == MPI_SUCCESS) {
-        decide(team, all, &decided);
-        decided.plans.marks = new_marks();
+        um_decide(team, all, &decided);
+        decided.plans.marks = um_new_marks();
     }
     memcpy(verdict + VERDICT, &decided, sizeof decided);
-    code = spread_verdict(team, code, verdict, sizeof decided);
+    code = um_spread_verdict(team, code, verdict, sizeof decided);
     memcpy(&decided, verdict + VERDICT, sizeof decided);
     *plane = decided.plane;
     *plans = decided.plans;
@@ -126,81 +126,81 @@ static int lengthen(struct chain *chain, int plane) {
 }
 
 /* Makes a communicator of a group on a plane of another one's chain. */
-int make_on_plane(struct comm *of, int plane, const struct group *group, const struct plans *plans, MPI_Comm *made) {
+int um_make_on_plane(struct comm *of, int plane, const struct group *group, const struct plans *plans, MPI_Comm *made) {
     struct chain *chain = of->chain;
     int code = lengthen(chain, plane);
     if (code != MPI_SUCCESS) return code;
     chain->plane[plane].begun = plans->begun;
-    struct comm *comm = new_comm(chain, plane, of->handler, group);
+    struct comm *comm = um_new_comm(chain, plane, of->handler, group);
     if (!comm) return MPI_ERR_NO_MEM;
     comm->revoked = &plans->marks[comm->members[0]];
-    *made = handle_of(comm);
+    *made = um_handle_of(comm);
     return MPI_SUCCESS;
 }
 
 /* Takes a communicator away, where the deletion of its attributes allows that. */
-int release_comm(struct comm *of, MPI_Comm *handle) {
-    int code = delete_attributes(of);
+int um_release_comm(struct comm *of, MPI_Comm *handle) {
+    int code = um_delete_attributes(of);
     if (code != MPI_SUCCESS) return code;
-    bool is_used = has_requests(of->context) || has_messages();
-    if (is_used && !grow(&me->old_comms, me->old_comm_count, sizeof *me->old_comms)) return MPI_ERR_NO_MEM;
-    if (is_used) me->old_comms[me->old_comm_count++] = of;
-    me->comms[(uintptr_t)*handle - 1] = 0;
+    bool is_used = has_requests(of->context) || um_has_messages();
+    if (is_used && !um_grow(&um_me->old_comms, um_me->old_comm_count, sizeof *um_me->old_comms)) return MPI_ERR_NO_MEM;
+    if (is_used) um_me->old_comms[um_me->old_comm_count++] = of;
+    um_me->comms[(uintptr_t)*handle - 1] = 0;
     of->chain->plane[of->plane].is_free = of->plane > 0;
     of->chain->plane[of->plane].begun = of->begun;
     *handle = MPI_COMM_NULL;
-    if (!is_used) free_comm(of);
+    if (!is_used) um_free_comm(of);
     return MPI_SUCCESS;
 }
 
 /* Makes a communicator of the same members, with none of what a program added to the other one. */
-int make_another(struct comm *of, MPI_Comm *made) {
+int um_make_another(struct comm *of, MPI_Comm *made) {
     struct plans plans = {0};
     struct group group;
     int plane = 0;
-    group_of(of, &group);
-    int code = agree_on_plane(of, &plane, &plans);
-    return code == MPI_SUCCESS ? make_on_plane(of, plane, &group, &plans, made) : code;
+    um_group_of(of, &group);
+    int code = um_agree_on_plane(of, &plane, &plans);
+    return code == MPI_SUCCESS ? um_make_on_plane(of, plane, &group, &plans, made) : code;
 }
 
 static int duplicate(struct comm *of, MPI_Comm *made) {
-    int code = begin_collective(of);
-    if (code == MPI_SUCCESS) code = make_another(of, made);
+    int code = um_begin_collective(of);
+    if (code == MPI_SUCCESS) code = um_make_another(of, made);
     if (code != MPI_SUCCESS) return code;
-    comm_at(*made)->cart = copy_cart(of->cart);
-    code = copy_graph(of, comm_at(*made));
-    if (code == MPI_SUCCESS) code = copy_attributes(of, comm_at(*made));
+    um_comm_at(*made)->cart = um_copy_cart(of->cart);
+    code = um_copy_graph(of, um_comm_at(*made));
+    if (code == MPI_SUCCESS) code = um_copy_attributes(of, um_comm_at(*made));
     /* A copy function failed: there is no duplicate here (7.7.2). */
-    if (code != MPI_SUCCESS) (void)release_comm(comm_at(*made), made);
+    if (code != MPI_SUCCESS) (void)um_release_comm(um_comm_at(*made), made);
     if (code != MPI_SUCCESS) *made = MPI_COMM_NULL;
     return code;
 }
 
 int MPI_Comm_dup(MPI_Comm comm, MPI_Comm *made) {
-    struct comm *of = comm_at(comm);
+    struct comm *of = um_comm_at(comm);
     ENTER(of, MPI_UNDEFINED, MPI_UNDEFINED);
-    if (!of) return fail(0, MPI_ERR_COMM);
+    if (!of) return um_fail(0, MPI_ERR_COMM);
     WRITES(of, made);
-    return fail(of, duplicate(of, made));
+    return um_fail(of, duplicate(of, made));
 }
 
 /* No hint changes what a duplicate does. */
 int MPI_Comm_dup_with_info(MPI_Comm comm, MPI_Info info, MPI_Comm *made) {
-    struct comm *of = comm_at(comm);
+    struct comm *of = um_comm_at(comm);
     ENTER(of, MPI_UNDEFINED, MPI_UNDEFINED);
-    if (!of) return fail(0, MPI_ERR_COMM);
-    if (!is_info(info)) return fail(of, refuse_collective(of, MPI_ERR_INFO));
+    if (!of) return um_fail(0, MPI_ERR_COMM);
+    if (!um_is_info(info)) return um_fail(of, um_refuse_collective(of, MPI_ERR_INFO));
     WRITES(of, made);
-    return fail(of, duplicate(of, made));
+    return um_fail(of, duplicate(of, made));
 }
 
 /* The handle goes; requests that are open go on (7.4.3). */
 int MPI_Comm_free(MPI_Comm *comm) {
-    struct comm *of = comm ? comm_at(*comm) : 0;
+    struct comm *of = comm ? um_comm_at(*comm) : 0;
     ENTER_LOOK(of, MPI_UNDEFINED, MPI_UNDEFINED);
-    if (!of || *comm == MPI_COMM_WORLD || *comm == MPI_COMM_SELF) return fail(0, MPI_ERR_COMM);
-    me->place.comm = 0;
-    return fail(of, release_comm(of, comm));
+    if (!of || *comm == MPI_COMM_WORLD || *comm == MPI_COMM_SELF) return um_fail(0, MPI_ERR_COMM);
+    um_me->place.comm = 0;
+    return um_fail(of, um_release_comm(of, comm));
 }
 
 /* What was sent is received after it too, so it has nothing to wait for (11.10.4). */

@@ -18,13 +18,13 @@ struct decided {
     struct plans plans;
 };
 
-_Atomic int *new_marks(void);
-void wish_for(const struct chain *chain, struct wish *own);
-void decide(const struct comm *team, const struct wish *all, struct decided *decided);
-void drop_messages(const struct chain *chain, int plane);
-int release_comm(struct comm *of, MPI_Comm *handle);
+_Atomic int *um_new_marks(void);
+void um_wish_for(const struct chain *chain, struct wish *own);
+void um_decide(const struct comm *team, const struct wish *all, struct decided *decided);
+void um_drop_messages(const struct chain *chain, int plane);
+int um_release_comm(struct comm *of, MPI_Comm *handle);
 
 /* idup.c */
-void wait_for_copies(struct chain *chain);
+void um_wait_for_copies(struct chain *chain);
 
 #endif

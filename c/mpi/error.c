@@ -96,7 +96,7 @@ int MPI_Error_class(int errorcode, int *errorclass) {
 }
 
 static const char *text_of(int code) {
-    const char *added = text_of_added(code);
+    const char *added = um_text_of_added(code);
     if (added) return added;
     for (size_t k = 0; k < sizeof texts / sizeof *texts; k++)
         if (texts[k].code == code) return texts[k].text;
@@ -109,34 +109,34 @@ int MPI_Error_string(int errorcode, char *string, int *length) {
     return MPI_SUCCESS;
 }
 
-bool is_handler(MPI_Errhandler handler) {
+bool um_is_handler(MPI_Errhandler handler) {
     uintptr_t number = (uintptr_t)handler;
-    return (number && number < FIRST_OWN) || (number >= FIRST_OWN && number - FIRST_OWN < (uintptr_t)me->handler_count);
+    return (number && number < FIRST_OWN) || (number >= FIRST_OWN && number - FIRST_OWN < (uintptr_t)um_me->handler_count);
 }
 
 /* An error is fatal: says where and which, and ends the run. */
 static void end_by(const char *name, int code) {
-    const char *call = me->place.call;
+    const char *call = um_me->place.call;
     char line[256];
-    begin_report();
-    fprintf(stderr, "ulfm-mpirun: rank %d: %s%s: %s; errors are fatal on %s: the run ends\n", me->number, call, line_of(me, line, sizeof line), text_of(code), name);
-    write_rests(true);
-    report("fatal %d %s %d\n", me->number, call, code & 255);
-    end_run(STATUS_FATAL);
+    um_begin_report();
+    fprintf(stderr, "ulfm-mpirun: rank %d: %s%s: %s; errors are fatal on %s: the run ends\n", um_me->number, call, um_line_of(um_me, line, sizeof line), text_of(code), name);
+    um_write_rests(true);
+    um_report("fatal %d %s %d\n", um_me->number, call, code & 255);
+    um_end_run(STATUS_FATAL);
 }
 
 /* Hands an error on a communicator, or on a window of it, to a handler, and returns it. */
-int fail_by(MPI_Errhandler handler, struct comm *comm, void *window, const char *name, int code) {
-    if (is_played) look_as_played();   /* at what came in the call, which ends here */
+int um_fail_by(MPI_Errhandler handler, struct comm *comm, void *window, const char *name, int code) {
+    if (um_is_played) um_look_as_played();   /* at what came in the call, which ends here */
     if (code == MPI_SUCCESS) return code;
-    if (code == MPIX_ERR_PROC_FAILED || code == MPIX_ERR_PROC_FAILED_PENDING || code == MPI_ERR_IN_STATUS) me->is_told = true;
+    if (code == MPIX_ERR_PROC_FAILED || code == MPIX_ERR_PROC_FAILED_PENDING || code == MPI_ERR_IN_STATUS) um_me->is_told = true;
     uintptr_t number = (uintptr_t)handler;
     if (handler == MPI_ERRORS_RETURN) return code;
-    if (number < FIRST_OWN || !is_handler(handler)) end_by(name, code);
-    const struct errhandler *own = &me->handlers[number - FIRST_OWN];
-    MPI_Comm handle = handle_of(comm);
+    if (number < FIRST_OWN || !um_is_handler(handler)) end_by(name, code);
+    const struct errhandler *own = &um_me->handlers[number - FIRST_OWN];
+    MPI_Comm handle = um_handle_of(comm);
     int told = code;
-    me->is_starting = false;   /* the handler may jump out of the call */
+    um_me->is_starting = false;   /* the handler may jump out of the call */
     comm->repeats = 0;
     if (window && own->of_windows) own->of_windows(window, &told);
     else if (own->function) own->function(&handle, &told);
@@ -144,16 +144,16 @@ int fail_by(MPI_Errhandler handler, struct comm *comm, void *window, const char 
 }
 
 /* Hands an error to the handler of its communicator, of MPI_COMM_WORLD where there is none (9.3), and returns it. */
-int fail(struct comm *comm, int code) {
-    if (code == MPI_SUCCESS) return fail_by(0, 0, 0, 0, code);   /* a communicator that the call took away isn't there any more */
-    if (!comm) comm = comm_at(MPI_COMM_WORLD);
-    return fail_by(comm->handler, comm, 0, comm->name[0] ? comm->name : "this communicator", code);
+int um_fail(struct comm *comm, int code) {
+    if (code == MPI_SUCCESS) return um_fail_by(0, 0, 0, 0, code);   /* a communicator that the call took away isn't there any more */
+    if (!comm) comm = um_comm_at(MPI_COMM_WORLD);
+    return um_fail_by(comm->handler, comm, 0, comm->name[0] ? comm->name : "this communicator", code);
 }
 
 static int add_handler(struct errhandler made, MPI_Errhandler *handler) {
-    if (!grow(&me->handlers, me->handler_count, sizeof *me->handlers)) return fail(0, MPI_ERR_NO_MEM);
-    me->handlers[me->handler_count] = made;
-    *handler = (MPI_Errhandler)(uintptr_t)(FIRST_OWN + me->handler_count++);
+    if (!um_grow(&um_me->handlers, um_me->handler_count, sizeof *um_me->handlers)) return um_fail(0, MPI_ERR_NO_MEM);
+    um_me->handlers[um_me->handler_count] = made;
+    *handler = (MPI_Errhandler)(uintptr_t)(FIRST_OWN + um_me->handler_count++);
     return MPI_SUCCESS;
 }
 
@@ -170,43 +170,43 @@ int MPI_Win_create_errhandler(MPI_Win_errhandler_function *function, MPI_Errhand
 }
 
 int MPI_Comm_set_errhandler(MPI_Comm comm, MPI_Errhandler handler) {
-    struct comm *of = comm_at(comm);
+    struct comm *of = um_comm_at(comm);
     ENTER_LOOK(of, MPI_UNDEFINED, MPI_UNDEFINED);
-    if (!of) return fail(0, MPI_ERR_COMM);
-    if (!is_handler(handler)) return fail(of, MPI_ERR_ARG);
+    if (!of) return um_fail(0, MPI_ERR_COMM);
+    if (!um_is_handler(handler)) return um_fail(of, MPI_ERR_ARG);
     of->handler = handler;
     return MPI_SUCCESS;
 }
 
 int MPI_Comm_get_errhandler(MPI_Comm comm, MPI_Errhandler *handler) {
-    struct comm *of = comm_at(comm);
+    struct comm *of = um_comm_at(comm);
     ENTER_LOOK(of, MPI_UNDEFINED, MPI_UNDEFINED);
-    if (!of) return fail(0, MPI_ERR_COMM);
+    if (!of) return um_fail(0, MPI_ERR_COMM);
     WRITES(of, handler);
     *handler = of->handler;
     return MPI_SUCCESS;
 }
 
 int MPI_Comm_call_errhandler(MPI_Comm comm, int errorcode) {
-    struct comm *of = comm_at(comm);
+    struct comm *of = um_comm_at(comm);
     ENTER_LOOK(of, MPI_UNDEFINED, MPI_UNDEFINED);
-    if (!of) return fail(0, MPI_ERR_COMM);
-    (void)fail(of, errorcode);
+    if (!of) return um_fail(0, MPI_ERR_COMM);
+    (void)um_fail(of, errorcode);
     return MPI_SUCCESS;
 }
 
 /* The handle goes; communicators that have the handler keep it (9.3.4). */
 int MPI_Errhandler_free(MPI_Errhandler *handler) {
     ENTER_LOOK(0, MPI_UNDEFINED, MPI_UNDEFINED);
-    if (!handler || !is_handler(*handler)) return fail(0, MPI_ERR_ARG);
+    if (!handler || !um_is_handler(*handler)) return um_fail(0, MPI_ERR_ARG);
     *handler = MPI_ERRHANDLER_NULL;
     return MPI_SUCCESS;
 }
 
-void clear_handlers(void) {
-    free(me->handlers);
-    me->handlers = 0;
-    me->handler_count = 0;
+void um_clear_handlers(void) {
+    free(um_me->handlers);
+    um_me->handlers = 0;
+    um_me->handler_count = 0;
 }
 
 /* Of MPI-1 (17.1). */

@@ -5,30 +5,30 @@
 enum { RECEIVED, GIVEN };
 
 /* Looks once. MPIX_ERR_PROC_FAILED_PENDING where the receive pends, else MPI_SUCCESS. */
-int look_at_exchange(struct request *exchange) {
+int um_look_at_exchange(struct request *exchange) {
     struct request *receive = exchange->parts[RECEIVED], *send = exchange->parts[GIVEN];
-    int pends = look_at(receive);
-    look_at(send);
+    int pends = um_look_at(receive);
+    um_look_at(send);
     if (!receive->over || !send->over) return pends;
     int code = receive->code != MPI_SUCCESS ? receive->code : send->code;
     exchange->status = receive->status;
     exchange->parts[RECEIVED] = exchange->parts[GIVEN] = 0;
-    free_request(receive);
-    free_request(send);
-    end_request(exchange, code);
+    um_free_request(receive);
+    um_free_request(send);
+    um_end_request(exchange, code);
     return MPI_SUCCESS;
 }
 
 static int isendrecv(const void *sendbuf, int sendcount, MPI_Datatype sendtype, int dest, int sendtag, void *recvbuf, int recvcount,
                      MPI_Datatype recvtype, int source, int recvtag, struct comm *comm, MPI_Request *handle) {
     struct request *receive, *send;
-    int code = begin_both(sendbuf, sendcount, sendtype, dest, sendtag, recvbuf, recvcount, recvtype, source, recvtag, comm, &receive, &send);
+    int code = um_begin_both(sendbuf, sendcount, sendtype, dest, sendtag, recvbuf, recvcount, recvtype, source, recvtag, comm, &receive, &send);
     if (code != MPI_SUCCESS) return code;
-    struct request *exchange = new_request(EXCHANGE, comm, source, recvtag);
+    struct request *exchange = um_new_request(EXCHANGE, comm, source, recvtag);
     if (!exchange) {
-        withdraw(receive);
-        free_request(receive);
-        free_request(send);
+        um_withdraw(receive);
+        um_free_request(receive);
+        um_free_request(send);
         return MPI_ERR_NO_MEM;
     }
     exchange->parts[RECEIVED] = receive;
@@ -39,25 +39,25 @@ static int isendrecv(const void *sendbuf, int sendcount, MPI_Datatype sendtype, 
 
 int MPI_Isendrecv(const void *sendbuf, int sendcount, MPI_Datatype sendtype, int dest, int sendtag, void *recvbuf, int recvcount,
                   MPI_Datatype recvtype, int source, int recvtag, MPI_Comm comm, MPI_Request *request) {
-    struct comm *of = comm_at(comm);
+    struct comm *of = um_comm_at(comm);
     ENTER(of, source, recvtag);
     WRITES(of, request);
     *request = MPI_REQUEST_NULL;
-    return fail(of, isendrecv(sendbuf, sendcount, sendtype, dest, sendtag, recvbuf, recvcount, recvtype, source, recvtag, of, request));
+    return um_fail(of, isendrecv(sendbuf, sendcount, sendtype, dest, sendtag, recvbuf, recvcount, recvtype, source, recvtag, of, request));
 }
 
 /* What is sent is copied in the call. */
 int MPI_Isendrecv_replace(void *buf, int count, MPI_Datatype type, int dest, int sendtag, int source, int recvtag, MPI_Comm comm,
                           MPI_Request *request) {
-    struct comm *of = comm_at(comm);
+    struct comm *of = um_comm_at(comm);
     void *copy;
     size_t bytes = 0;
     ENTER(of, source, recvtag);
     WRITES(of, request);
     *request = MPI_REQUEST_NULL;
-    int code = copy_to_send(buf, count, type, dest, sendtag, of, &copy, &bytes);
-    if (code != MPI_SUCCESS) return fail(of, code);
+    int code = um_copy_to_send(buf, count, type, dest, sendtag, of, &copy, &bytes);
+    if (code != MPI_SUCCESS) return um_fail(of, code);
     code = isendrecv(copy, (int)bytes, MPI_BYTE, dest, sendtag, buf, count, type, source, recvtag, of, request);
     free(copy);
-    return fail(of, code);
+    return um_fail(of, code);
 }

@@ -10,7 +10,7 @@ static int *copy_of(const int *from, int count) {
     return copy;
 }
 
-void free_graph(struct graph *graph) {
+void um_free_graph(struct graph *graph) {
     if (!graph) return;
     free(graph->index);
     free(graph->edge);
@@ -20,7 +20,7 @@ void free_graph(struct graph *graph) {
 }
 
 /* Gives a communicator a graph like this one. */
-int keep_graph(const struct graph *like, struct comm *comm) {
+int um_keep_graph(const struct graph *like, struct comm *comm) {
     struct graph *graph = malloc(sizeof *graph);
     if (!graph) return MPI_ERR_NO_MEM;
     *graph = *like;
@@ -33,11 +33,11 @@ int keep_graph(const struct graph *like, struct comm *comm) {
     return graph->index && graph->edge && has_weights ? MPI_SUCCESS : MPI_ERR_NO_MEM;   /* what there is goes with the communicator */
 }
 
-int copy_graph(const struct comm *from, struct comm *to) { return from->graph ? keep_graph(from->graph, to) : MPI_SUCCESS; }
+int um_copy_graph(const struct comm *from, struct comm *to) { return from->graph ? um_keep_graph(from->graph, to) : MPI_SUCCESS; }
 
 static int first_edge(const struct graph *graph, int node) { return node ? graph->index[node - 1] : 0; }
 
-void neighbors_of_graph(const struct comm *comm, int rank, struct neighbors *neighbors) {
+void um_neighbors_of_graph(const struct comm *comm, int rank, struct neighbors *neighbors) {
     const struct graph *graph = comm->graph;
     bool is_whole = graph->kind == MPI_GRAPH;
     int first = is_whole ? first_edge(graph, rank) : 0;
@@ -59,25 +59,25 @@ static int check_graph(const struct comm *of, int nodes, const int index[], cons
 }
 
 int MPI_Graph_create(MPI_Comm comm, int nodes, const int index[], const int edges[], int reorder, MPI_Comm *made) {
-    struct comm *of = comm_at(comm);
+    struct comm *of = um_comm_at(comm);
     (void)reorder;
     ENTER(of, MPI_UNDEFINED, MPI_UNDEFINED);
-    if (!of) return fail(0, MPI_ERR_COMM);
+    if (!of) return um_fail(0, MPI_ERR_COMM);
     int code = made ? check_graph(of, nodes, index, edges) : MPI_ERR_ARG;
-    if (code != MPI_SUCCESS) return fail(of, refuse_collective(of, code));
-    code = split_comm(of, of->position < nodes ? 0 : MPI_UNDEFINED, 0, made);
-    if (code != MPI_SUCCESS || *made == MPI_COMM_NULL) return fail(of, code);
+    if (code != MPI_SUCCESS) return um_fail(of, um_refuse_collective(of, code));
+    code = um_split_comm(of, of->position < nodes ? 0 : MPI_UNDEFINED, 0, made);
+    if (code != MPI_SUCCESS || *made == MPI_COMM_NULL) return um_fail(of, code);
     struct graph graph = {.kind = MPI_GRAPH, .nodes = nodes, .edges = index[nodes - 1], .index = (int *)(uintptr_t)index, .edge = (int *)(uintptr_t)edges};
-    return fail(of, keep_graph(&graph, comm_at(*made)));
+    return um_fail(of, um_keep_graph(&graph, um_comm_at(*made)));
 }
 
 /* Begins a call on a communicator with a graph of a kind. */
 #define GRAPH(comm, is_kind) \
-    struct comm *of = comm_at(comm); \
+    struct comm *of = um_comm_at(comm); \
     ENTER_LOOK(of, MPI_UNDEFINED, MPI_UNDEFINED); \
-    if (!of) return fail(0, MPI_ERR_COMM); \
+    if (!of) return um_fail(0, MPI_ERR_COMM); \
     const struct graph *graph = of->graph; \
-    if (!graph || graph->kind != (is_kind)) return fail(of, MPI_ERR_TOPOLOGY)
+    if (!graph || graph->kind != (is_kind)) return um_fail(of, MPI_ERR_TOPOLOGY)
 
 int MPI_Graphdims_get(MPI_Comm comm, int *nodes, int *edges) {
     GRAPH(comm, MPI_GRAPH);
@@ -98,7 +98,7 @@ int MPI_Graph_get(MPI_Comm comm, int maxindex, int maxedges, int index[], int ed
 int MPI_Graph_neighbors_count(MPI_Comm comm, int rank, int *count) {
     GRAPH(comm, MPI_GRAPH);
     WRITES(of, count);
-    if (rank < 0 || rank >= of->size) return fail(of, MPI_ERR_RANK);
+    if (rank < 0 || rank >= of->size) return um_fail(of, MPI_ERR_RANK);
     *count = graph->index[rank] - first_edge(graph, rank);
     return MPI_SUCCESS;
 }
@@ -106,20 +106,20 @@ int MPI_Graph_neighbors_count(MPI_Comm comm, int rank, int *count) {
 int MPI_Graph_neighbors(MPI_Comm comm, int rank, int most, int neighbors[]) {
     GRAPH(comm, MPI_GRAPH);
     WRITES(of, neighbors || most <= 0);
-    if (rank < 0 || rank >= of->size) return fail(of, MPI_ERR_RANK);
+    if (rank < 0 || rank >= of->size) return um_fail(of, MPI_ERR_RANK);
     for (int k = first_edge(graph, rank), to = 0; k < graph->index[rank] && to < most; k++) neighbors[to++] = graph->edge[k];
     return MPI_SUCCESS;
 }
 
 /* Where a rank would stand: ranks keep their order. */
 int MPI_Graph_map(MPI_Comm comm, int nodes, const int index[], const int edges[], int *rank) {
-    struct comm *of = comm_at(comm);
+    struct comm *of = um_comm_at(comm);
     ENTER_LOOK(of, MPI_UNDEFINED, MPI_UNDEFINED);
-    if (!of) return fail(0, MPI_ERR_COMM);
+    if (!of) return um_fail(0, MPI_ERR_COMM);
     WRITES(of, rank);
     int code = check_graph(of, nodes, index, edges);
     *rank = of->position < nodes ? of->position : MPI_UNDEFINED;
-    return fail(of, code);
+    return um_fail(of, code);
 }
 
 int MPI_Dist_graph_neighbors_count(MPI_Comm comm, int *indegree, int *outdegree, int *weighted) {
@@ -141,7 +141,7 @@ static void tell_edges(const int *from, const int *weights, int count, int most,
 int MPI_Dist_graph_neighbors(MPI_Comm comm, int maxindegree, int sources[], int sourceweights[], int maxoutdegree, int destinations[], int destweights[]) {
     GRAPH(comm, MPI_DIST_GRAPH);
     WRITES(of, (sources || maxindegree <= 0) && (destinations || maxoutdegree <= 0));
-    if (maxindegree < 0 || maxoutdegree < 0) return fail(of, MPI_ERR_ARG);
+    if (maxindegree < 0 || maxoutdegree < 0) return um_fail(of, MPI_ERR_ARG);
     tell_edges(graph->index, graph->weight_in, graph->nodes, maxindegree, sources, sourceweights);
     tell_edges(graph->edge, graph->weight_out, graph->edges, maxoutdegree, destinations, destweights);
     return MPI_SUCCESS;

@@ -19,16 +19,16 @@ struct neighbors {
     const int *source, *target;
 };
 
-int keep_graph(const struct graph *like, struct comm *comm);
-int copy_graph(const struct comm *from, struct comm *to);
-void free_graph(struct graph *graph);
-void neighbors_of_graph(const struct comm *comm, int rank, struct neighbors *neighbors);
+int um_keep_graph(const struct graph *like, struct comm *comm);
+int um_copy_graph(const struct comm *from, struct comm *to);
+void um_free_graph(struct graph *graph);
+void um_neighbors_of_graph(const struct comm *comm, int rank, struct neighbors *neighbors);
 
 /* cart.c */
 enum { MAX_DIMS = 32 };
-int neighbors_of_cart(const struct comm *comm, int neighbors[]);
+int um_neighbors_of_cart(const struct comm *comm, int neighbors[]);
 
 /* neighbor.c */
-int neighbors_of(const struct comm *comm, bool is_in);
+int um_neighbors_of(const struct comm *comm, bool is_in);
 
 #endif

@@ -6,71 +6,71 @@
 
 static struct group none;
 
-struct group *group_at(MPI_Group handle) {
+struct group *um_group_at(MPI_Group handle) {
     uintptr_t number = (uintptr_t)handle;
     if (handle == MPI_GROUP_EMPTY) return &none;
-    return me && number > 1 && number - 2 < (uintptr_t)me->group_count ? me->groups[number - 2] : 0;
+    return um_me && number > 1 && number - 2 < (uintptr_t)um_me->group_count ? um_me->groups[number - 2] : 0;
 }
 
 /* Makes a group of so many members; the group of none is MPI_GROUP_EMPTY. */
-int make_group(const uint8_t *members, int size, MPI_Group *made) {
+int um_make_group(const uint8_t *members, int size, MPI_Group *made) {
     int place = 0;
     if (size == 0) {
         *made = MPI_GROUP_EMPTY;
         return MPI_SUCCESS;
     }
-    while (place < me->group_count && me->groups[place]) place++;
-    if (place == me->group_count && !grow(&me->groups, me->group_count, sizeof *me->groups)) return MPI_ERR_NO_MEM;
+    while (place < um_me->group_count && um_me->groups[place]) place++;
+    if (place == um_me->group_count && !um_grow(&um_me->groups, um_me->group_count, sizeof *um_me->groups)) return MPI_ERR_NO_MEM;
     struct group *group = calloc(1, sizeof *group);
     if (!group) return MPI_ERR_NO_MEM;
     group->size = size;
     memcpy(group->members, members, (size_t)size);
-    if (place == me->group_count) me->group_count++;
-    me->groups[place] = group;
+    if (place == um_me->group_count) um_me->group_count++;
+    um_me->groups[place] = group;
     *made = (MPI_Group)(uintptr_t)(place + 2);
     return MPI_SUCCESS;
 }
 
-void clear_groups(void) {
-    for (int k = 0; k < me->group_count; k++) free(me->groups[k]);
-    free(me->groups);
-    me->groups = 0;
-    me->group_count = 0;
+void um_clear_groups(void) {
+    for (int k = 0; k < um_me->group_count; k++) free(um_me->groups[k]);
+    free(um_me->groups);
+    um_me->groups = 0;
+    um_me->group_count = 0;
 }
 
 /* Where a world rank stands in a group, or MPI_UNDEFINED. */
-int position_in(const struct group *group, int member) {
+int um_position_in(const struct group *group, int member) {
     for (int k = 0; k < group->size; k++)
         if (group->members[k] == member) return k;
     return MPI_UNDEFINED;
 }
 
-int compare_groups(const struct group *a, const struct group *b) {
+int um_compare_groups(const struct group *a, const struct group *b) {
     if (a->size != b->size) return MPI_UNEQUAL;
     if (!memcmp(a->members, b->members, (size_t)a->size)) return MPI_IDENT;
     for (int k = 0; k < a->size; k++)
-        if (position_in(b, a->members[k]) == MPI_UNDEFINED) return MPI_UNEQUAL;
+        if (um_position_in(b, a->members[k]) == MPI_UNDEFINED) return MPI_UNEQUAL;
     return MPI_SIMILAR;
 }
 
 /* Begins a call on a group, or on two, which writes to `out`. */
 #define GROUP(group, out) \
     ENTER_LOOK(0, MPI_UNDEFINED, MPI_UNDEFINED); \
-    struct group *of = group_at(group); \
-    if (!of) return fail(0, MPI_ERR_GROUP); \
+    struct group *of = um_group_at(group); \
+    if (!of) return um_fail(0, MPI_ERR_GROUP); \
     WRITES(0, out)
 #define GROUPS(one, other, out) \
     ENTER_LOOK(0, MPI_UNDEFINED, MPI_UNDEFINED); \
-    struct group *a = group_at(one), *b = group_at(other); \
-    if (!a || !b) return fail(0, MPI_ERR_GROUP); \
+    struct group *a = um_group_at(one), *b = um_group_at(other); \
+    if (!a || !b) return um_fail(0, MPI_ERR_GROUP); \
     WRITES(0, out)
 
 int MPI_Comm_group(MPI_Comm comm, MPI_Group *group) {
-    struct comm *of = comm_at(comm);
+    struct comm *of = um_comm_at(comm);
     ENTER_LOOK(of, MPI_UNDEFINED, MPI_UNDEFINED);
-    if (!of) return fail(0, MPI_ERR_COMM);
+    if (!of) return um_fail(0, MPI_ERR_COMM);
     WRITES(of, group);
-    return fail(of, make_group(of->members, of->size, group));
+    return um_fail(of, um_make_group(of->members, of->size, group));
 }
 
 int MPI_Group_size(MPI_Group group, int *size) {
@@ -81,24 +81,24 @@ int MPI_Group_size(MPI_Group group, int *size) {
 
 int MPI_Group_rank(MPI_Group group, int *rank) {
     GROUP(group, rank);
-    *rank = position_in(of, me->number);
+    *rank = um_position_in(of, um_me->number);
     return MPI_SUCCESS;
 }
 
 int MPI_Group_translate_ranks(MPI_Group from, int count, const int members[], MPI_Group to, int result[]) {
     GROUPS(from, to, result || count <= 0);
-    if (count < 0) return fail(0, MPI_ERR_ARG);
+    if (count < 0) return um_fail(0, MPI_ERR_ARG);
     bool has_none = a->size == 0 || b->size == 0;   /* then MPI_PROC_NULL has no rank either, as in MPICH and Open MPI */
     for (int k = 0; k < count; k++) {
-        if (members[k] != MPI_PROC_NULL && (members[k] < 0 || members[k] >= a->size)) return fail(0, MPI_ERR_RANK);
-        result[k] = has_none ? MPI_UNDEFINED : members[k] == MPI_PROC_NULL ? MPI_PROC_NULL : position_in(b, a->members[members[k]]);
+        if (members[k] != MPI_PROC_NULL && (members[k] < 0 || members[k] >= a->size)) return um_fail(0, MPI_ERR_RANK);
+        result[k] = has_none ? MPI_UNDEFINED : members[k] == MPI_PROC_NULL ? MPI_PROC_NULL : um_position_in(b, a->members[members[k]]);
     }
     return MPI_SUCCESS;
 }
 
 int MPI_Group_compare(MPI_Group one, MPI_Group other, int *result) {
     GROUPS(one, other, result);
-    *result = compare_groups(a, b);
+    *result = um_compare_groups(a, b);
     return MPI_SUCCESS;
 }
 
@@ -106,7 +106,7 @@ int MPI_Group_compare(MPI_Group one, MPI_Group other, int *result) {
 static int sift(const struct group *a, const struct group *b, bool wanted, uint8_t *members) {
     int size = 0;
     for (int k = 0; k < a->size; k++)
-        if ((position_in(b, a->members[k]) != MPI_UNDEFINED) == wanted) members[size++] = a->members[k];
+        if ((um_position_in(b, a->members[k]) != MPI_UNDEFINED) == wanted) members[size++] = a->members[k];
     return size;
 }
 
@@ -115,19 +115,19 @@ int MPI_Group_union(MPI_Group one, MPI_Group other, MPI_Group *made) {
     uint8_t members[2 * MAX_RANKS];
     memcpy(members, a->members, (size_t)a->size);
     int size = a->size + sift(b, a, false, members + a->size);
-    return fail(0, make_group(members, size, made));
+    return um_fail(0, um_make_group(members, size, made));
 }
 
 int MPI_Group_intersection(MPI_Group one, MPI_Group other, MPI_Group *made) {
     GROUPS(one, other, made);
     uint8_t members[MAX_RANKS];
-    return fail(0, make_group(members, sift(a, b, true, members), made));
+    return um_fail(0, um_make_group(members, sift(a, b, true, members), made));
 }
 
 int MPI_Group_difference(MPI_Group one, MPI_Group other, MPI_Group *made) {
     GROUPS(one, other, made);
     uint8_t members[MAX_RANKS];
-    return fail(0, make_group(members, sift(a, b, false, members), made));
+    return um_fail(0, um_make_group(members, sift(a, b, false, members), made));
 }
 
 /* The group of the positions listed; each once (7.3.2). */
@@ -135,7 +135,7 @@ static int pick(const struct group *from, int count, const int positions[], stru
     *picked = (struct group){0};
     for (int k = 0; k < count; k++) {
         if (positions[k] < 0 || positions[k] >= from->size) return MPI_ERR_RANK;
-        if (position_in(picked, from->members[positions[k]]) != MPI_UNDEFINED) return MPI_ERR_RANK;
+        if (um_position_in(picked, from->members[positions[k]]) != MPI_UNDEFINED) return MPI_ERR_RANK;
         picked->members[picked->size++] = from->members[positions[k]];
     }
     return MPI_SUCCESS;
@@ -146,9 +146,9 @@ static int incl_or_excl(const struct group *from, int count, const int positions
     struct group picked;
     uint8_t members[MAX_RANKS];
     int code = count < 0 ? MPI_ERR_ARG : pick(from, count, positions, &picked);
-    if (code != MPI_SUCCESS) return fail(0, code);
-    if (is_incl) return fail(0, make_group(picked.members, picked.size, made));
-    return fail(0, make_group(members, sift(from, &picked, false, members), made));
+    if (code != MPI_SUCCESS) return um_fail(0, code);
+    if (is_incl) return um_fail(0, um_make_group(picked.members, picked.size, made));
+    return um_fail(0, um_make_group(members, sift(from, &picked, false, members), made));
 }
 
 int MPI_Group_incl(MPI_Group group, int count, const int positions[], MPI_Group *made) {
@@ -189,10 +189,10 @@ int MPI_Group_range_excl(MPI_Group group, int count, int ranges[][3], MPI_Group 
 
 int MPI_Group_free(MPI_Group *group) {
     ENTER_LOOK(0, MPI_UNDEFINED, MPI_UNDEFINED);
-    if (!group || !group_at(*group)) return fail(0, MPI_ERR_GROUP);
+    if (!group || !um_group_at(*group)) return um_fail(0, MPI_ERR_GROUP);
     if (*group != MPI_GROUP_EMPTY) {
-        free(group_at(*group));
-        me->groups[(uintptr_t)*group - 2] = 0;
+        free(um_group_at(*group));
+        um_me->groups[(uintptr_t)*group - 2] = 0;
     }
     *group = MPI_GROUP_NULL;
     return MPI_SUCCESS;

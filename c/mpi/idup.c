@@ -24,10 +24,10 @@ struct copy {
 /* Tells all others so many bytes, and posts what each of them tells. */
 static int begin_round(struct comm *of, struct copy *copy, const void *own, void *all, size_t length) {
     of->repeats = copy->number;
-    int code = start_collective(of, &copy->round);
+    int code = um_start_collective(of, &copy->round);
     if (code == MPI_SUCCESS && !copy->round->over) {
-        for (int k = 0; k < of->size; k++) send_bytes(copy->round, k, own, length);
-        for (int k = 0; k < of->size; k++) post_bytes(copy->round, k, (char *)all + length * (size_t)k, length, 0);
+        for (int k = 0; k < of->size; k++) um_send_bytes(copy->round, k, own, length);
+        for (int k = 0; k < of->size; k++) um_post_bytes(copy->round, k, (char *)all + length * (size_t)k, length, 0);
     }
     of->repeats = 0;
     return code;
@@ -36,23 +36,23 @@ static int begin_round(struct comm *of, struct copy *copy, const void *own, void
 /* All have told what they wish. */
 static int agree(struct comm *of, struct copy *copy) {
     copy->all[of->position] = copy->own;
-    decide(of, copy->all, &copy->decided);
+    um_decide(of, copy->all, &copy->decided);
     copy->decided.plans.marks = copy->all[0].marks;
     if (!copy->decided.plans.marks) return MPI_ERR_NO_MEM;
     copy->is_emptied = !copy->decided.is_old;
     if (copy->is_emptied) return MPI_SUCCESS;
     copy->is_emptied = true;
-    drop_messages(of->chain, copy->decided.plane);
+    um_drop_messages(of->chain, copy->decided.plane);
     return begin_round(of, copy, 0, copy->all, 0);
 }
 
 /* The new one has what the program gave the old one. */
 static int make(struct comm *of, struct copy *copy) {
     struct group group;
-    group_of(of, &group);
-    int code = make_on_plane(of, copy->decided.plane, &group, &copy->decided.plans, copy->made);
+    um_group_of(of, &group);
+    int code = um_make_on_plane(of, copy->decided.plane, &group, &copy->decided.plans, copy->made);
     if (code != MPI_SUCCESS) return code;
-    struct comm *made = comm_at(*copy->made);
+    struct comm *made = um_comm_at(*copy->made);
     made->cart = copy->like.cart;
     made->graph = copy->like.graph;
     made->attributes = copy->like.attributes;
@@ -63,8 +63,8 @@ static int make(struct comm *of, struct copy *copy) {
 
 static void forget(struct copy *copy) {
     free(copy->like.cart);
-    free_graph(copy->like.graph);
-    free_attributes(copy->like.attributes);
+    um_free_graph(copy->like.graph);
+    um_free_attributes(copy->like.attributes);
     copy->like = (struct comm){0};
 }
 
@@ -72,14 +72,14 @@ static void end(struct request *request, int code) {
     struct copy *copy = request->more;
     request->comm->chain->copied++;
     forget(copy);
-    end_request(request, code != MPI_SUCCESS ? code : copy->code);
+    um_end_request(request, code != MPI_SUCCESS ? code : copy->code);
 }
 
 /* What comes after a round that is over. True where that is another one. */
 static bool go_on(struct request *request, int *code) {
     struct copy *copy = request->more;
     *code = copy->round->code;
-    free_request(copy->round);
+    um_free_request(copy->round);
     copy->round = 0;
     if (*code == MPI_SUCCESS && !copy->is_emptied) *code = agree(request->comm, copy);
     if (copy->round) return true;
@@ -93,12 +93,12 @@ static void advance(struct request *request) {
     struct comm *of = request->comm;
     int code = MPI_SUCCESS;
     if (!copy->round) {
-        wish_for(of->chain, &copy->own);
-        if (of->position == 0) copy->own.marks = new_marks();
+        um_wish_for(of->chain, &copy->own);
+        if (of->position == 0) copy->own.marks = um_new_marks();
         code = begin_round(of, copy, &copy->own, copy->all, sizeof copy->own);
     }
     while (code == MPI_SUCCESS) {
-        look_at(copy->round);
+        um_look_at(copy->round);
         if (!copy->round->over) return;
         if (!go_on(request, &code)) break;
     }
@@ -114,57 +114,57 @@ static void look_at_copy(struct request *request) {
 }
 
 /* What a request has of a duplicate that isn't over goes with it. */
-void free_copy(struct request *request) {
+void um_free_copy(struct request *request) {
     if (request->look == look_at_copy) forget(request->more);
 }
 
 /* The world ranks that a duplicate waits for, as bits. */
-uint32_t missing_from_copy(const struct request *request) {
+uint32_t um_missing_from_copy(const struct request *request) {
     const struct copy *copy = request->more;
-    return request->look == look_at_copy && !request->over && copy->round ? awaited_by(copy->round) : 0;
+    return request->look == look_at_copy && !request->over && copy->round ? um_awaited_by(copy->round) : 0;
 }
 
 static bool are_copied(void *of, bool is_settled) {
     const struct chain *chain = of;
     (void)is_settled;
-    look_at_recoveries();
+    um_look_at_recoveries();
     return chain->copies == chain->copied;
 }
 
 /* A communicator that is made by a call that blocks has its turn behind them. */
-void wait_for_copies(struct chain *chain) {
-    if (chain->copies != chain->copied) wait_until(are_copied, chain, false);
+void um_wait_for_copies(struct chain *chain) {
+    if (chain->copies != chain->copied) um_wait_until(are_copied, chain, false);
 }
 
 static int idup(struct comm *of, MPI_Comm *made, MPI_Request *handle) {
     struct request *request;
-    int code = new_recovery(of, look_at_copy, sizeof(struct copy), &request);
-    if (code != MPI_SUCCESS) return give_recovery(of, refuse_collective(of, code), 0, handle);
+    int code = um_new_recovery(of, look_at_copy, sizeof(struct copy), &request);
+    if (code != MPI_SUCCESS) return um_give_recovery(of, um_refuse_collective(of, code), 0, handle);
     struct copy *copy = request->more;
     *copy = (struct copy){.made = made, .number = ++of->begun, .turn = of->chain->copies++, .like.handler = of->handler};
-    copy->like.cart = copy_cart(of->cart);
-    copy->code = copy_graph(of, &copy->like);
-    if (copy->code == MPI_SUCCESS) copy->code = copy_attributes(of, &copy->like);
+    copy->like.cart = um_copy_cart(of->cart);
+    copy->code = um_copy_graph(of, &copy->like);
+    if (copy->code == MPI_SUCCESS) copy->code = um_copy_attributes(of, &copy->like);
     *made = MPI_COMM_NULL;
-    return give_recovery(of, MPI_SUCCESS, request, handle);
+    return um_give_recovery(of, MPI_SUCCESS, request, handle);
 }
 
 int MPI_Comm_idup(MPI_Comm comm, MPI_Comm *made, MPI_Request *request) {
-    struct comm *of = comm_at(comm);
+    struct comm *of = um_comm_at(comm);
     ENTER(of, MPI_UNDEFINED, MPI_UNDEFINED);
-    if (!of) return fail(0, MPI_ERR_COMM);
+    if (!of) return um_fail(0, MPI_ERR_COMM);
     GIVES(of, request);
-    if (!made) return fail(of, refuse_collective(of, MPI_ERR_ARG));
+    if (!made) return um_fail(of, um_refuse_collective(of, MPI_ERR_ARG));
     return idup(of, made, request);
 }
 
 /* No hint changes what a duplicate does. */
 int MPI_Comm_idup_with_info(MPI_Comm comm, MPI_Info info, MPI_Comm *made, MPI_Request *request) {
-    struct comm *of = comm_at(comm);
+    struct comm *of = um_comm_at(comm);
     ENTER(of, MPI_UNDEFINED, MPI_UNDEFINED);
-    if (!of) return fail(0, MPI_ERR_COMM);
+    if (!of) return um_fail(0, MPI_ERR_COMM);
     GIVES(of, request);
-    if (!made) return fail(of, refuse_collective(of, MPI_ERR_ARG));
-    if (!is_info(info)) return fail(of, refuse_collective(of, MPI_ERR_INFO));
+    if (!made) return um_fail(of, um_refuse_collective(of, MPI_ERR_ARG));
+    if (!um_is_info(info)) return um_fail(of, um_refuse_collective(of, MPI_ERR_INFO));
     return idup(of, made, request);
 }

@@ -17,7 +17,7 @@ enum { FIRST_OWN = 2 };
 
 static struct info *info_at(MPI_Info handle) {
     uintptr_t number = (uintptr_t)handle;
-    return number >= FIRST_OWN && number - FIRST_OWN < (uintptr_t)me->info_count ? me->infos[number - FIRST_OWN] : 0;
+    return number >= FIRST_OWN && number - FIRST_OWN < (uintptr_t)um_me->info_count ? um_me->infos[number - FIRST_OWN] : 0;
 }
 
 /* What is only looked at may be MPI_INFO_ENV too, which has none of its keys: each may be left out (11.2.1). */
@@ -26,7 +26,7 @@ static const struct info *seen_at(MPI_Info handle) {
     return handle == MPI_INFO_ENV ? &environment : info_at(handle);
 }
 
-bool is_info(MPI_Info handle) { return handle == MPI_INFO_NULL || seen_at(handle); }
+bool um_is_info(MPI_Info handle) { return handle == MPI_INFO_NULL || seen_at(handle); }
 
 static bool is_text(const char *text, size_t most) { return text && strlen(text) <= most; }
 
@@ -39,7 +39,7 @@ static int place_of(const struct info *info, const char *key) {
 static int put(struct info *info, const char *key, const char *value) {
     int place = place_of(info, key);
     struct pair made = {strdup(key), strdup(value)};
-    if (!made.key || !made.value || (place < 0 && !grow(&info->pairs, info->count, sizeof *info->pairs))) {
+    if (!made.key || !made.value || (place < 0 && !um_grow(&info->pairs, info->count, sizeof *info->pairs))) {
         free(made.key);
         free(made.value);
         return MPI_ERR_NO_MEM;
@@ -56,18 +56,18 @@ static void free_info(struct info *info) {
     free(info);
 }
 
-void clear_infos(void) {
-    for (int k = 0; k < me->info_count; k++) free_info(me->infos[k]);
-    free(me->infos);
-    me->infos = 0;
-    me->info_count = 0;
+void um_clear_infos(void) {
+    for (int k = 0; k < um_me->info_count; k++) free_info(um_me->infos[k]);
+    free(um_me->infos);
+    um_me->infos = 0;
+    um_me->info_count = 0;
 }
 
 /* Makes one with the pairs of another, or with none where that is null. */
 static int make_info(const struct info *like, MPI_Info *made) {
     int place = 0, code = MPI_SUCCESS;
-    while (place < me->info_count && me->infos[place]) place++;
-    if (place == me->info_count && !grow(&me->infos, place, sizeof *me->infos)) return MPI_ERR_NO_MEM;
+    while (place < um_me->info_count && um_me->infos[place]) place++;
+    if (place == um_me->info_count && !um_grow(&um_me->infos, place, sizeof *um_me->infos)) return MPI_ERR_NO_MEM;
     struct info *info = calloc(1, sizeof *info);
     if (!info) return MPI_ERR_NO_MEM;
     for (int k = 0; like && k < like->count && code == MPI_SUCCESS; k++) code = put(info, like->pairs[k].key, like->pairs[k].value);
@@ -75,19 +75,19 @@ static int make_info(const struct info *like, MPI_Info *made) {
         free_info(info);
         return code;
     }
-    if (place == me->info_count) me->info_count++;
-    me->infos[place] = info;
+    if (place == um_me->info_count) um_me->info_count++;
+    um_me->infos[place] = info;
     *made = (MPI_Info)(uintptr_t)(FIRST_OWN + place);
     return MPI_SUCCESS;
 }
 
 /* These calls may be made before MPI_Init and after MPI_Finalize too (11.4.1); then there is no error handler. */
 #define LOOK() \
-    if (!me || (me->has_begun && !me->has_finalized)) ENTER_LOOK(0, MPI_UNDEFINED, MPI_UNDEFINED)
+    if (!um_me || (um_me->has_begun && !um_me->has_finalized)) ENTER_LOOK(0, MPI_UNDEFINED, MPI_UNDEFINED)
 #define NEEDS(pointer) \
     if (!(pointer)) return refuse(MPI_ERR_ARG)
 
-static int refuse(int code) { return me->has_begun && !me->has_finalized ? fail(0, code) : code; }
+static int refuse(int code) { return um_me->has_begun && !um_me->has_finalized ? um_fail(0, code) : code; }
 
 int MPI_Info_create(MPI_Info *made) {
     LOOK();
@@ -115,7 +115,7 @@ int MPI_Info_dup(MPI_Info info, MPI_Info *made) {
 
 int MPI_Info_free(MPI_Info *info) {
     INFO(info ? *info : MPI_INFO_NULL);
-    me->infos[(uintptr_t)*info - FIRST_OWN] = 0;
+    um_me->infos[(uintptr_t)*info - FIRST_OWN] = 0;
     free_info(of);
     *info = MPI_INFO_NULL;
     return MPI_SUCCESS;
@@ -192,16 +192,16 @@ int MPI_Info_get_nthkey(MPI_Info info, int n, char *key) {
 
 /* A communicator keeps no hints: an object with none (7.4.4). */
 int MPI_Comm_set_info(MPI_Comm comm, MPI_Info info) {
-    struct comm *of = comm_at(comm);
+    struct comm *of = um_comm_at(comm);
     ENTER_LOOK(of, MPI_UNDEFINED, MPI_UNDEFINED);
-    if (!of) return fail(0, MPI_ERR_COMM);
-    return seen_at(info) ? MPI_SUCCESS : fail(of, MPI_ERR_INFO);
+    if (!of) return um_fail(0, MPI_ERR_COMM);
+    return seen_at(info) ? MPI_SUCCESS : um_fail(of, MPI_ERR_INFO);
 }
 
 int MPI_Comm_get_info(MPI_Comm comm, MPI_Info *made) {
-    struct comm *of = comm_at(comm);
+    struct comm *of = um_comm_at(comm);
     ENTER_LOOK(of, MPI_UNDEFINED, MPI_UNDEFINED);
-    if (!of) return fail(0, MPI_ERR_COMM);
+    if (!of) return um_fail(0, MPI_ERR_COMM);
     WRITES(of, made);
-    return fail(of, make_info(0, made));
+    return um_fail(of, make_info(0, made));
 }

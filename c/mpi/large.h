@@ -21,10 +21,10 @@ struct packing {
     MPI_Count room;
 };
 
-void hold_count(struct large *large, MPI_Count *count, MPI_Datatype *type);
-int *hold_list(struct large *large, const void *from, int count);
-bool begin_large(struct large *large);
-int end_large(const struct large *large, int code);
-int small(MPI_Count count);
+void um_hold_count(struct large *large, MPI_Count *count, MPI_Datatype *type);
+int *um_hold_list(struct large *large, const void *from, int count);
+bool um_begin_large(struct large *large);
+int um_end_large(const struct large *large, int code);
+int um_small(MPI_Count count);
 
 #endif

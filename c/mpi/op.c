@@ -16,14 +16,14 @@ enum { FIRST_OWN = 32, LAST_BASIC = 14 };
 
 static const struct op *own_at(MPI_Op op) {
     uintptr_t number = (uintptr_t)op;
-    if (number < FIRST_OWN || number - FIRST_OWN >= (uintptr_t)me->op_count) return 0;
-    const struct op *own = &me->ops[number - FIRST_OWN];
+    if (number < FIRST_OWN || number - FIRST_OWN >= (uintptr_t)um_me->op_count) return 0;
+    const struct op *own = &um_me->ops[number - FIRST_OWN];
     return own->function || own->large ? own : 0;
 }
 
-bool is_basic_op(MPI_Op op) { return (uintptr_t)op && (uintptr_t)op <= LAST_BASIC; }
+bool um_is_basic_op(MPI_Op op) { return (uintptr_t)op && (uintptr_t)op <= LAST_BASIC; }
 
-bool is_op(MPI_Op op) { return is_basic_op(op) || own_at(op); }
+bool um_is_op(MPI_Op op) { return um_is_basic_op(op) || own_at(op); }
 
 #define EACH(operation) \
     for (int k = 0; k < count; k++) operation; \
@@ -101,16 +101,16 @@ static folding *const foldings[] = {
 
 /* Whether the operation is one for this type: MPI_SUCCESS, MPI_ERR_OP or MPI_ERR_TYPE. Those of MPI are for basic types alone (6.9.2); MPI_REPLACE
    and MPI_NO_OP are for one-sided calls. */
-int check_op(MPI_Op op, MPI_Datatype type) {
+int um_check_op(MPI_Op op, MPI_Datatype type) {
     uintptr_t base = (uintptr_t)type;
     if (own_at(op)) return type ? MPI_SUCCESS : MPI_ERR_TYPE;
     bool is_basic = base < sizeof foldings / sizeof *foldings && foldings[base];
-    return is_basic && is_op(op) && foldings[base](0, 0, 0, (int)(uintptr_t)op) ? MPI_SUCCESS : MPI_ERR_OP;
+    return is_basic && um_is_op(op) && foldings[base](0, 0, 0, (int)(uintptr_t)op) ? MPI_SUCCESS : MPI_ERR_OP;
 }
 
 /* into[k] becomes in[k] op into[k], where the operation is one for this type. A program's function may take it that there is an element, as with
    MPICH and Open MPI, so for none it isn't called. */
-int fold(const void *in, void *into, int count, MPI_Datatype type, MPI_Op op) {
+int um_fold(const void *in, void *into, int count, MPI_Datatype type, MPI_Op op) {
     const struct op *own = own_at(op);
     if (count == 0) return MPI_SUCCESS;
     if (own && own->large) own->large((void *)(uintptr_t)in, into, &(MPI_Count){count}, &type);
@@ -122,47 +122,47 @@ int fold(const void *in, void *into, int count, MPI_Datatype type, MPI_Op op) {
 /* A handle of an operation, or MPI_OP_NULL where there is no memory. */
 static MPI_Op add_op(struct op op) {
     int place = 0;
-    while (place < me->op_count && (me->ops[place].function || me->ops[place].large)) place++;
-    if (place == me->op_count) {
-        if (!grow(&me->ops, place, sizeof *me->ops)) return MPI_OP_NULL;
-        me->op_count++;
+    while (place < um_me->op_count && (um_me->ops[place].function || um_me->ops[place].large)) place++;
+    if (place == um_me->op_count) {
+        if (!um_grow(&um_me->ops, place, sizeof *um_me->ops)) return MPI_OP_NULL;
+        um_me->op_count++;
     }
-    me->ops[place] = op;
+    um_me->ops[place] = op;
     return (MPI_Op)(uintptr_t)(FIRST_OWN + place);
 }
 
 /* Another handle of an operation, which stays when the program frees its own (6.9.5); MPI_OP_NULL where there is no memory. */
-MPI_Op keep_op(MPI_Op op) { return own_at(op) ? add_op(*own_at(op)) : op; }
+MPI_Op um_keep_op(MPI_Op op) { return own_at(op) ? add_op(*own_at(op)) : op; }
 
-void drop_op(MPI_Op op) {
-    if (own_at(op)) me->ops[(uintptr_t)op - FIRST_OWN] = (struct op){0};
+void um_drop_op(MPI_Op op) {
+    if (own_at(op)) um_me->ops[(uintptr_t)op - FIRST_OWN] = (struct op){0};
 }
 
 int MPI_Op_create(MPI_User_function *function, int commutes, MPI_Op *op) {
     ENTER_LOOK(0, MPI_UNDEFINED, MPI_UNDEFINED);
     WRITES(0, function && op);
     *op = add_op((struct op){function, commutes != 0, 0});
-    return *op == MPI_OP_NULL ? fail(0, MPI_ERR_NO_MEM) : MPI_SUCCESS;
+    return *op == MPI_OP_NULL ? um_fail(0, MPI_ERR_NO_MEM) : MPI_SUCCESS;
 }
 
 int MPI_Op_create_c(MPI_User_function_c *function, int commutes, MPI_Op *op) {
     ENTER_LOOK(0, MPI_UNDEFINED, MPI_UNDEFINED);
     WRITES(0, function && op);
     *op = add_op((struct op){0, commutes != 0, function});
-    return *op == MPI_OP_NULL ? fail(0, MPI_ERR_NO_MEM) : MPI_SUCCESS;
+    return *op == MPI_OP_NULL ? um_fail(0, MPI_ERR_NO_MEM) : MPI_SUCCESS;
 }
 
 int MPI_Op_free(MPI_Op *op) {
     ENTER_LOOK(0, MPI_UNDEFINED, MPI_UNDEFINED);
-    if (!op || !own_at(*op)) return fail(0, MPI_ERR_OP);
-    drop_op(*op);
+    if (!op || !own_at(*op)) return um_fail(0, MPI_ERR_OP);
+    um_drop_op(*op);
     *op = MPI_OP_NULL;
     return MPI_SUCCESS;
 }
 
 int MPI_Op_commutative(MPI_Op op, int *commutes) {
     ENTER_LOOK(0, MPI_UNDEFINED, MPI_UNDEFINED);
-    if (!is_op(op)) return fail(0, MPI_ERR_OP);
+    if (!um_is_op(op)) return um_fail(0, MPI_ERR_OP);
     WRITES(0, commutes);
     *commutes = own_at(op) ? own_at(op)->commutes : op != MPI_REPLACE;
     return MPI_SUCCESS;
@@ -171,14 +171,14 @@ int MPI_Op_commutative(MPI_Op op, int *commutes) {
 int MPI_Reduce_local(const void *inbuf, void *inoutbuf, int count, MPI_Datatype type, MPI_Op op) {
     ENTER_LOOK(0, MPI_UNDEFINED, MPI_UNDEFINED);
     size_t bytes;
-    int code = check_op(op, type);
-    if (code != MPI_SUCCESS || !check_buffer(count, type, &bytes, &code)) return fail(0, code);
-    if (!is_buffer(inbuf, bytes, type) || !is_buffer(inoutbuf, bytes, type)) return fail(0, MPI_ERR_BUFFER);
-    return fail(0, fold(inbuf, inoutbuf, count, type, op));
+    int code = um_check_op(op, type);
+    if (code != MPI_SUCCESS || !um_check_buffer(count, type, &bytes, &code)) return um_fail(0, code);
+    if (!um_is_buffer(inbuf, bytes, type) || !um_is_buffer(inoutbuf, bytes, type)) return um_fail(0, MPI_ERR_BUFFER);
+    return um_fail(0, um_fold(inbuf, inoutbuf, count, type, op));
 }
 
-void clear_ops(void) {
-    free(me->ops);
-    me->ops = 0;
-    me->op_count = 0;
+void um_clear_ops(void) {
+    free(um_me->ops);
+    um_me->ops = 0;
+    um_me->op_count = 0;
 }

@@ -23,83 +23,83 @@ static void group_of_color(const struct comm *comm, const struct plans *plans, i
 }
 
 /* Makes the communicator of those of a color, or none at those of MPI_UNDEFINED. */
-int split_comm(struct comm *of, int color, int key, MPI_Comm *made) {
+int um_split_comm(struct comm *of, int color, int key, MPI_Comm *made) {
     struct plans plans = {.colors = {color}, .keys = {key}};
     struct group group;
     int plane = 0;
     *made = MPI_COMM_NULL;
-    int code = begin_collective(of);
-    if (code == MPI_SUCCESS) code = agree_on_plane(of, &plane, &plans);
+    int code = um_begin_collective(of);
+    if (code == MPI_SUCCESS) code = um_agree_on_plane(of, &plane, &plans);
     if (code != MPI_SUCCESS || color == MPI_UNDEFINED) return code;
     group_of_color(of, &plans, color, &group);
-    return make_on_plane(of, plane, &group, &plans, made);
+    return um_make_on_plane(of, plane, &group, &plans, made);
 }
 
 int MPI_Comm_split(MPI_Comm comm, int color, int key, MPI_Comm *made) {
-    struct comm *of = comm_at(comm);
+    struct comm *of = um_comm_at(comm);
     ENTER(of, MPI_UNDEFINED, MPI_UNDEFINED);
-    if (!of) return fail(0, MPI_ERR_COMM);
-    if (!made || (color < 0 && color != MPI_UNDEFINED)) return fail(of, refuse_collective(of, MPI_ERR_ARG));
-    return fail(of, split_comm(of, color, key, made));
+    if (!of) return um_fail(0, MPI_ERR_COMM);
+    if (!made || (color < 0 && color != MPI_UNDEFINED)) return um_fail(of, um_refuse_collective(of, MPI_ERR_ARG));
+    return um_fail(of, um_split_comm(of, color, key, made));
 }
 
 /* All ranks share memory, so MPI_COMM_TYPE_SHARED is one color. */
 int MPI_Comm_split_type(MPI_Comm comm, int type, int key, MPI_Info info, MPI_Comm *made) {
-    struct comm *of = comm_at(comm);
+    struct comm *of = um_comm_at(comm);
     ENTER(of, MPI_UNDEFINED, MPI_UNDEFINED);
-    if (!of) return fail(0, MPI_ERR_COMM);
-    if (!is_info(info)) return fail(of, refuse_collective(of, MPI_ERR_INFO));
-    if (!made || (type != MPI_COMM_TYPE_SHARED && type != MPI_UNDEFINED)) return fail(of, refuse_collective(of, MPI_ERR_ARG));
-    return fail(of, split_comm(of, type == MPI_UNDEFINED ? MPI_UNDEFINED : 0, key, made));
+    if (!of) return um_fail(0, MPI_ERR_COMM);
+    if (!um_is_info(info)) return um_fail(of, um_refuse_collective(of, MPI_ERR_INFO));
+    if (!made || (type != MPI_COMM_TYPE_SHARED && type != MPI_UNDEFINED)) return um_fail(of, um_refuse_collective(of, MPI_ERR_ARG));
+    return um_fail(of, um_split_comm(of, type == MPI_UNDEFINED ? MPI_UNDEFINED : 0, key, made));
 }
 
-static bool is_member(const struct group *group) { return position_in(group, me->number) != MPI_UNDEFINED; }
+static bool is_member(const struct group *group) { return um_position_in(group, um_me->number) != MPI_UNDEFINED; }
 
 /* Whether each member of a group is one of the communicator's. */
 static bool is_within(const struct group *group, const struct comm *of) {
     struct group all;
-    group_of(of, &all);
+    um_group_of(of, &all);
     for (int k = 0; k < group->size; k++)
-        if (position_in(&all, group->members[k]) == MPI_UNDEFINED) return false;
+        if (um_position_in(&all, group->members[k]) == MPI_UNDEFINED) return false;
     return true;
 }
 
 int MPI_Comm_create(MPI_Comm comm, MPI_Group group, MPI_Comm *made) {
-    struct comm *of = comm_at(comm);
-    const struct group *members = group_at(group);
+    struct comm *of = um_comm_at(comm);
+    const struct group *members = um_group_at(group);
     struct plans plans = {0};
     int plane = 0;
     ENTER(of, MPI_UNDEFINED, MPI_UNDEFINED);
-    if (!of) return fail(0, MPI_ERR_COMM);
+    if (!of) return um_fail(0, MPI_ERR_COMM);
     WRITES(of, made);
-    if (!members || !is_within(members, of)) return fail(of, refuse_collective(of, MPI_ERR_GROUP));
+    if (!members || !is_within(members, of)) return um_fail(of, um_refuse_collective(of, MPI_ERR_GROUP));
     *made = MPI_COMM_NULL;
-    int code = begin_collective(of);
-    if (code == MPI_SUCCESS) code = agree_on_plane(of, &plane, &plans);
-    if (code != MPI_SUCCESS || !is_member(members)) return fail(of, code);
-    return fail(of, make_on_plane(of, plane, members, &plans, made));
+    int code = um_begin_collective(of);
+    if (code == MPI_SUCCESS) code = um_agree_on_plane(of, &plane, &plans);
+    if (code != MPI_SUCCESS || !is_member(members)) return um_fail(of, code);
+    return um_fail(of, um_make_on_plane(of, plane, members, &plans, made));
 }
 
 /* Only the members call it. They speak by themselves, with a number of the plane of creations that the tag gives. */
 int MPI_Comm_create_group(MPI_Comm comm, MPI_Group group, int tag, MPI_Comm *made) {
-    struct comm *of = comm_at(comm);
-    const struct group *members = group_at(group);
+    struct comm *of = um_comm_at(comm);
+    const struct group *members = um_group_at(group);
     struct plans plans = {0};
     int plane = 0;
     ENTER(of, MPI_UNDEFINED, tag);
-    if (!of) return fail(0, MPI_ERR_COMM);
+    if (!of) return um_fail(0, MPI_ERR_COMM);
     WRITES(of, made);
-    if (!members || !is_within(members, of)) return fail(of, MPI_ERR_GROUP);
+    if (!members || !is_within(members, of)) return um_fail(of, MPI_ERR_GROUP);
     *made = MPI_COMM_NULL;
-    if (tag < 0 || tag > MPI_TAG_UB_VALUE) return fail(of, MPI_ERR_TAG);
+    if (tag < 0 || tag > MPI_TAG_UB_VALUE) return um_fail(of, MPI_ERR_TAG);
     if (!is_member(members)) return MPI_SUCCESS;
-    if (is_revoked(of)) return fail(of, MPIX_ERR_REVOKED);
-    if (of->hidden == NO_CONTEXT_LEFT) return fail(of, NO_COLLECTIVES);
+    if (um_is_revoked(of)) return um_fail(of, MPIX_ERR_REVOKED);
+    if (of->hidden == NO_CONTEXT_LEFT) return um_fail(of, NO_COLLECTIVES);
     struct comm team = *of;
-    if (!fill_comm(&team, members)) return fail(of, MPI_ERR_GROUP);
+    if (!um_fill_comm(&team, members)) return um_fail(of, MPI_ERR_GROUP);
     team.is_part = of->is_part;
     team.plane = CREATION;
     team.begun = (unsigned)tag % NUMBERS;
-    int code = agree_on_plane(&team, &plane, &plans);
-    return fail(of, code != MPI_SUCCESS ? code : make_on_plane(of, plane, members, &plans, made));
+    int code = um_agree_on_plane(&team, &plane, &plans);
+    return um_fail(of, code != MPI_SUCCESS ? code : um_make_on_plane(of, plane, members, &plans, made));
 }

@@ -11,68 +11,68 @@ struct start {
     MPI_Datatype type;
 };
 
-void free_start(struct start *start) {
-    if (start) drop_type(start->type);
+void um_free_start(struct start *start) {
+    if (start) um_drop_type(start->type);
     free(start);
 }
 
 static int init(const struct start *start, int peer, int tag, struct comm *comm, MPI_Request *handle) {
     WRITES(comm, handle);
     *handle = MPI_REQUEST_NULL;
-    int code = check_message(start->buf, start->count, start->type, peer, tag, comm, start->is_receive);
-    if (code != MPI_SUCCESS) return fail(comm, code);
-    struct request *request = new_request(PERSISTENT, comm, peer, tag);
+    int code = um_check_message(start->buf, start->count, start->type, peer, tag, comm, start->is_receive);
+    if (code != MPI_SUCCESS) return um_fail(comm, code);
+    struct request *request = um_new_request(PERSISTENT, comm, peer, tag);
     if (request) request->start = malloc(sizeof *start);
     if (!request || !request->start) {
-        if (request) free_request(request);
-        return fail(comm, MPI_ERR_NO_MEM);
+        if (request) um_free_request(request);
+        return um_fail(comm, MPI_ERR_NO_MEM);
     }
     *request->start = *start;
-    request->start->type = keep_type(start->type);
+    request->start->type = um_keep_type(start->type);
     *handle = (MPI_Request)(uintptr_t)request->handle;
     return MPI_SUCCESS;
 }
 
 int MPI_Send_init(const void *buf, int count, MPI_Datatype type, int dest, int tag, MPI_Comm comm, MPI_Request *request) {
-    struct comm *of = comm_at(comm);
+    struct comm *of = um_comm_at(comm);
     ENTER_LOOK(of, dest, tag);
-    return init(&(struct start){false, options.sends_wait, (void *)(uintptr_t)buf, count, type}, dest, tag, of, request);
+    return init(&(struct start){false, um_options.sends_wait, (void *)(uintptr_t)buf, count, type}, dest, tag, of, request);
 }
 
 int MPI_Rsend_init(const void *buf, int count, MPI_Datatype type, int dest, int tag, MPI_Comm comm, MPI_Request *request) {
-    struct comm *of = comm_at(comm);
+    struct comm *of = um_comm_at(comm);
     ENTER_LOOK(of, dest, tag);
-    return init(&(struct start){false, options.sends_wait, (void *)(uintptr_t)buf, count, type}, dest, tag, of, request);
+    return init(&(struct start){false, um_options.sends_wait, (void *)(uintptr_t)buf, count, type}, dest, tag, of, request);
 }
 
 int MPI_Bsend_init(const void *buf, int count, MPI_Datatype type, int dest, int tag, MPI_Comm comm, MPI_Request *request) {
-    struct comm *of = comm_at(comm);
+    struct comm *of = um_comm_at(comm);
     ENTER_LOOK(of, dest, tag);
     return init(&(struct start){false, false, (void *)(uintptr_t)buf, count, type}, dest, tag, of, request);
 }
 
 int MPI_Ssend_init(const void *buf, int count, MPI_Datatype type, int dest, int tag, MPI_Comm comm, MPI_Request *request) {
-    struct comm *of = comm_at(comm);
+    struct comm *of = um_comm_at(comm);
     ENTER_LOOK(of, dest, tag);
     return init(&(struct start){false, true, (void *)(uintptr_t)buf, count, type}, dest, tag, of, request);
 }
 
 int MPI_Recv_init(void *buf, int count, MPI_Datatype type, int source, int tag, MPI_Comm comm, MPI_Request *request) {
-    struct comm *of = comm_at(comm);
+    struct comm *of = um_comm_at(comm);
     ENTER_LOOK(of, source, tag);
     return init(&(struct start){true, false, buf, count, type}, source, tag, of, request);
 }
 
 /* Starts a persistent request that isn't active. */
 static int start(MPI_Request handle) {
-    struct request *request = request_at(handle);
-    if (!request || request->kind != PERSISTENT || request->active) return fail(0, MPI_ERR_REQUEST);
+    struct request *request = um_request_at(handle);
+    if (!request || request->kind != PERSISTENT || request->active) return um_fail(0, MPI_ERR_REQUEST);
     const struct start *of = request->start;
     int code;
-    if (request->repeated) return start_repeated(request->repeated, request->comm, &request->active);
-    if (of->is_receive) code = begin_receive(of->buf, of->count, of->type, request->peer, request->tag, request->comm, &request->active);
-    else code = begin_send(of->buf, of->count, of->type, request->peer, request->tag, request->comm, of->waits, &request->active);
-    return fail(request->comm, code);
+    if (request->repeated) return um_start_repeated(request->repeated, request->comm, &request->active);
+    if (of->is_receive) code = um_begin_receive(of->buf, of->count, of->type, request->peer, request->tag, request->comm, &request->active);
+    else code = um_begin_send(of->buf, of->count, of->type, request->peer, request->tag, request->comm, of->waits, &request->active);
+    return um_fail(request->comm, code);
 }
 
 int MPI_Start(MPI_Request *handle) {
@@ -83,7 +83,7 @@ int MPI_Start(MPI_Request *handle) {
 
 int MPI_Startall(int count, MPI_Request handles[]) {
     ENTER(0, MPI_UNDEFINED, MPI_UNDEFINED);
-    if (count < 0 || (count > 0 && !handles)) return fail(0, MPI_ERR_ARG);
+    if (count < 0 || (count > 0 && !handles)) return um_fail(0, MPI_ERR_ARG);
     int code = MPI_SUCCESS;
     for (int k = 0; k < count && code == MPI_SUCCESS; k++) code = start(handles[k]);
     return code;

@@ -24,7 +24,7 @@ struct probe {
 
 static void tell_found(struct probe *probe, const ulfm_status *told, size_t length) {
     probe->found = true;
-    probe->status = (MPI_Status){.MPI_SOURCE = position_at(probe->comm, told->source), .MPI_TAG = (int)told->tag, .bytes = length};
+    probe->status = (MPI_Status){.MPI_SOURCE = um_position_at(probe->comm, told->source), .MPI_TAG = (int)told->tag, .bytes = length};
 }
 
 /* Takes the message that a probe found. */
@@ -36,9 +36,9 @@ static void take_message(struct probe *probe, uint64_t id) {
     }
     message->comm = probe->comm;
     struct received *received = &message->received;
-    probe->code = class_of(ulfm_mrecv(me->slot, id, &received->told, &received->body.content, sizeof received->body));
+    probe->code = um_class_of(ulfm_mrecv(um_me->slot, id, &received->told, &received->body.content, sizeof received->body));
     probe->message = message;
-    tell_found(probe, &received->told, set_body_aside(received));
+    tell_found(probe, &received->told, um_set_body_aside(received));
 }
 
 /* Looks once. */
@@ -49,16 +49,16 @@ static void look(struct probe *probe) {
     uint32_t tag = probe->tag == MPI_ANY_TAG ? ULFM_ANY : (uint32_t)probe->tag, code;
     ulfm_status told;
     uint64_t id;
-    if (comm->is_part && is_revoked(comm)) code = ULFM_REVOKED;
-    else if (probe->takes) code = ulfm_improbe(me->slot, context, source, tag, &id, &told);
-    else code = ulfm_iprobe(me->slot, context, source, tag, &told);
+    if (comm->is_part && um_is_revoked(comm)) code = ULFM_REVOKED;
+    else if (probe->takes) code = ulfm_improbe(um_me->slot, context, source, tag, &id, &told);
+    else code = ulfm_iprobe(um_me->slot, context, source, tag, &told);
     probe->code = MPI_SUCCESS;
     if (code == ULFM_OK && probe->takes) take_message(probe, id);
     else if (code == ULFM_OK) {
-        look_at_all();
-        tell_found(probe, &told, length_of_probed(&told, context, comm->members[position_at(comm, told.source)]));
-    } else if (code != ULFM_NOT_YET) probe->code = class_of(code);
-    else if (probe->source == MPI_ANY_SOURCE && has_unacknowledged(comm)) probe->code = MPIX_ERR_PROC_FAILED_PENDING;
+        um_look_at_all();
+        tell_found(probe, &told, um_length_of_probed(&told, context, comm->members[um_position_at(comm, told.source)]));
+    } else if (code != ULFM_NOT_YET) probe->code = um_class_of(code);
+    else if (probe->source == MPI_ANY_SOURCE && um_has_unacknowledged(comm)) probe->code = MPIX_ERR_PROC_FAILED_PENDING;
 }
 
 static bool is_found(void *of, bool is_settled) {
@@ -84,31 +84,31 @@ static int run_probe(struct probe *probe, bool waits) {
         probe->status = (MPI_Status){.MPI_SOURCE = MPI_PROC_NULL, .MPI_TAG = MPI_ANY_TAG};
         return MPI_SUCCESS;
     }
-    if (waits) wait_until(is_found, probe, false);
+    if (waits) um_wait_until(is_found, probe, false);
     else {
-        progress();
+        um_progress();
         look(probe);
-        if (probe->found || probe->code != MPI_SUCCESS) plan_call();
+        if (probe->found || probe->code != MPI_SUCCESS) um_plan_call();
     }
     return waits && probe->code == MPIX_ERR_PROC_FAILED_PENDING ? MPIX_ERR_PROC_FAILED : probe->code;
 }
 
 int MPI_Probe(int source, int tag, MPI_Comm comm, MPI_Status *status) {
-    struct probe probe = {.comm = comm_at(comm), .source = source, .tag = tag};
+    struct probe probe = {.comm = um_comm_at(comm), .source = source, .tag = tag};
     ENTER(probe.comm, source, tag);
     int code = run_probe(&probe, true);
-    if (code == MPI_SUCCESS) tell_status(status, &probe.status);
-    return fail(probe.comm, code);
+    if (code == MPI_SUCCESS) um_tell_status(status, &probe.status);
+    return um_fail(probe.comm, code);
 }
 
 int MPI_Iprobe(int source, int tag, MPI_Comm comm, int *flag, MPI_Status *status) {
-    struct probe probe = {.comm = comm_at(comm), .source = source, .tag = tag};
+    struct probe probe = {.comm = um_comm_at(comm), .source = source, .tag = tag};
     ENTER_LOOK(probe.comm, source, tag);
     WRITES(probe.comm, flag);
     int code = run_probe(&probe, false);
     *flag = probe.found;
-    if (probe.found) tell_status(status, &probe.status);
-    return fail(probe.comm, code);
+    if (probe.found) um_tell_status(status, &probe.status);
+    return um_fail(probe.comm, code);
 }
 
 /* Gives a message a handle. */
@@ -118,43 +118,43 @@ static int keep(struct probe *probe, MPI_Message *handle) {
         return MPI_SUCCESS;
     }
     int place = 0;
-    while (place < me->message_count && me->messages[place]) place++;
-    if (place == me->message_count) {
-        if (!grow(&me->messages, me->message_count, sizeof *me->messages)) return MPI_ERR_NO_MEM;
-        me->message_count++;
+    while (place < um_me->message_count && um_me->messages[place]) place++;
+    if (place == um_me->message_count) {
+        if (!um_grow(&um_me->messages, um_me->message_count, sizeof *um_me->messages)) return MPI_ERR_NO_MEM;
+        um_me->message_count++;
     }
-    me->messages[place] = probe->message;
+    um_me->messages[place] = probe->message;
     *handle = (MPI_Message)(uintptr_t)(place + 2);
     return MPI_SUCCESS;
 }
 
 int MPI_Mprobe(int source, int tag, MPI_Comm comm, MPI_Message *message, MPI_Status *status) {
-    struct probe probe = {.comm = comm_at(comm), .source = source, .tag = tag, .takes = true};
+    struct probe probe = {.comm = um_comm_at(comm), .source = source, .tag = tag, .takes = true};
     ENTER(probe.comm, source, tag);
     WRITES(probe.comm, message);
     int code = run_probe(&probe, true);
     if (code == MPI_SUCCESS) code = keep(&probe, message);
-    if (code == MPI_SUCCESS) tell_status(status, &probe.status);
-    return fail(probe.comm, code);
+    if (code == MPI_SUCCESS) um_tell_status(status, &probe.status);
+    return um_fail(probe.comm, code);
 }
 
 int MPI_Improbe(int source, int tag, MPI_Comm comm, int *flag, MPI_Message *message, MPI_Status *status) {
-    struct probe probe = {.comm = comm_at(comm), .source = source, .tag = tag, .takes = true};
+    struct probe probe = {.comm = um_comm_at(comm), .source = source, .tag = tag, .takes = true};
     ENTER_LOOK(probe.comm, source, tag);
     WRITES(probe.comm, flag && message);
     int code = run_probe(&probe, false);
     *flag = probe.found;
     if (code == MPI_SUCCESS && probe.found) code = keep(&probe, message);
-    if (probe.found) tell_status(status, &probe.status);
-    return fail(probe.comm, code);
+    if (probe.found) um_tell_status(status, &probe.status);
+    return um_fail(probe.comm, code);
 }
 
 /* The message of a handle, which has none then; null: it isn't one. */
 static struct message *take_handle(MPI_Message *handle) {
     uintptr_t number = (uintptr_t)*handle;
-    if (number < 2 || number - 2 >= (uintptr_t)me->message_count) return 0;
-    struct message *message = me->messages[number - 2];
-    me->messages[number - 2] = 0;
+    if (number < 2 || number - 2 >= (uintptr_t)um_me->message_count) return 0;
+    struct message *message = um_me->messages[number - 2];
+    um_me->messages[number - 2] = 0;
     *handle = MPI_MESSAGE_NULL;
     return message;
 }
@@ -164,24 +164,24 @@ static int receive(void *buf, int count, MPI_Datatype type, MPI_Message *handle,
     size_t bytes;
     int code;
     *status = (MPI_Status){.MPI_SOURCE = MPI_PROC_NULL, .MPI_TAG = MPI_ANY_TAG};
-    if (!check_buffer(count, type, &bytes, &code)) return code;
-    if (!is_buffer(buf, bytes, type)) return MPI_ERR_BUFFER;
+    if (!um_check_buffer(count, type, &bytes, &code)) return code;
+    if (!um_is_buffer(buf, bytes, type)) return MPI_ERR_BUFFER;
     if (*handle == MPI_MESSAGE_NO_PROC) {
         *handle = MPI_MESSAGE_NULL;
         return MPI_SUCCESS;
     }
     struct landing *landing;
-    if (!make_landing(buf, count, type, &landing)) return MPI_ERR_NO_MEM;
+    if (!um_make_landing(buf, count, type, &landing)) return MPI_ERR_NO_MEM;
     struct message *message = take_handle(handle);
     if (!message) {
-        free_landing(landing);
+        um_free_landing(landing);
         return MPI_ERR_REQUEST;
     }
     *comm = message->comm;
-    take_body(&message->received, landing ? bytes_of_landing(landing) : buf, bytes, status, &code);
-    if (landing) land(landing, status->bytes);
-    free_landing(landing);
-    status->MPI_SOURCE = position_at(message->comm, message->received.told.source);
+    um_take_body(&message->received, landing ? um_bytes_of_landing(landing) : buf, bytes, status, &code);
+    if (landing) um_land(landing, status->bytes);
+    um_free_landing(landing);
+    status->MPI_SOURCE = um_position_at(message->comm, message->received.told.source);
     free(message);
     return code;
 }
@@ -192,8 +192,8 @@ int MPI_Mrecv(void *buf, int count, MPI_Datatype type, MPI_Message *message, MPI
     ENTER(0, MPI_UNDEFINED, MPI_UNDEFINED);
     WRITES(0, message);
     int code = receive(buf, count, type, message, &told, &comm);
-    tell_status(status, &told);
-    return fail(comm, code);
+    um_tell_status(status, &told);
+    return um_fail(comm, code);
 }
 
 int MPI_Imrecv(void *buf, int count, MPI_Datatype type, MPI_Message *message, MPI_Request *handle) {
@@ -203,9 +203,9 @@ int MPI_Imrecv(void *buf, int count, MPI_Datatype type, MPI_Message *message, MP
     WRITES(0, message && handle);
     *handle = MPI_REQUEST_NULL;
     int code = receive(buf, count, type, message, &told, &comm);
-    if (code != MPI_SUCCESS && code != MPI_ERR_TRUNCATE) return fail(comm, code);
-    struct request *request = new_request(NOTHING, comm ? comm : comm_at(MPI_COMM_WORLD), told.MPI_SOURCE, told.MPI_TAG);
-    if (!request) return fail(comm, MPI_ERR_NO_MEM);
+    if (code != MPI_SUCCESS && code != MPI_ERR_TRUNCATE) return um_fail(comm, code);
+    struct request *request = um_new_request(NOTHING, comm ? comm : um_comm_at(MPI_COMM_WORLD), told.MPI_SOURCE, told.MPI_TAG);
+    if (!request) return um_fail(comm, MPI_ERR_NO_MEM);
     request->over = true;
     request->code = code;
     request->status = told;
@@ -214,15 +214,15 @@ int MPI_Imrecv(void *buf, int count, MPI_Datatype type, MPI_Message *message, MP
 }
 
 /* Whether there are messages that were found and aren't received. */
-bool has_messages(void) {
-    for (int k = 0; k < me->message_count; k++)
-        if (me->messages[k]) return true;
+bool um_has_messages(void) {
+    for (int k = 0; k < um_me->message_count; k++)
+        if (um_me->messages[k]) return true;
     return false;
 }
 
-void clear_messages(void) {
-    for (int k = 0; k < me->message_count; k++) free(me->messages[k]);
-    free(me->messages);
-    me->messages = 0;
-    me->message_count = 0;
+void um_clear_messages(void) {
+    for (int k = 0; k < um_me->message_count; k++) free(um_me->messages[k]);
+    free(um_me->messages);
+    um_me->messages = 0;
+    um_me->message_count = 0;
 }

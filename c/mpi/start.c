@@ -10,34 +10,34 @@
 
 /* Says why a call can't be, where there is no communicator that could, and ends the run. */
 static void refuse(const char *call, const char *why) {
-    begin_report();
+    um_begin_report();
     fprintf(stderr, "ulfm-mpirun: ");
-    if (me || owner) fprintf(stderr, "rank %d: ", (me ? me : owner)->number);
+    if (um_me || um_owner) fprintf(stderr, "rank %d: ", (um_me ? um_me : um_owner)->number);
     fprintf(stderr, "%s %s\n", call, why);
-    end_run(STATUS_FATAL);
+    um_end_run(STATUS_FATAL);
 }
 
-void enter_call(const char *call, const void *from, struct comm *comm, int peer, int tag, bool counts) {
-    if (!me) refuse(call, "was called outside of a rank's first thread");
-    if (!me->has_begun) refuse(call, "was called before MPI_Init");
-    if (me->has_finalized) refuse(call, "was called after MPI_Finalize");
-    if (me->is_starting) return;
-    if (me->known_count < atomic_load_explicit(&stopped_ranks, memory_order_relaxed)) note_failures();
-    me->place = (struct place){.call = call, .from = from, .comm = comm, .peer = peer, .tag = tag};
-    me->looks = 0;
-    if (counts) plan_call();
+void um_enter_call(const char *call, const void *from, struct comm *comm, int peer, int tag, bool counts) {
+    if (!um_me) refuse(call, "was called outside of a rank's first thread");
+    if (!um_me->has_begun) refuse(call, "was called before MPI_Init");
+    if (um_me->has_finalized) refuse(call, "was called after MPI_Finalize");
+    if (um_me->is_starting) return;
+    if (um_me->known_count < atomic_load_explicit(&um_stopped_ranks, memory_order_relaxed)) um_note_failures();
+    um_me->place = (struct place){.call = call, .from = from, .comm = comm, .peer = peer, .tag = tag};
+    um_me->looks = 0;
+    if (counts) um_plan_call();
 }
 
 int MPI_Init_thread(int *argc, char ***argv, int required, int *provided) {
     (void)argc;
     (void)argv;
-    if (!me) refuse("MPI_Init", "was called outside of a rank's first thread");
-    if (me->has_begun) refuse("MPI_Init", "was called twice");
-    if ((options.is_alone && !begin_alone()) || !make_world()) refuse("MPI_Init", "found no memory");
-    me->has_begun = true;
-    me->place = (struct place){.call = "MPI_Init", .from = __builtin_return_address(0), .peer = MPI_UNDEFINED, .tag = MPI_UNDEFINED};
-    me->provided = required < MPI_THREAD_FUNNELED ? MPI_THREAD_SINGLE : MPI_THREAD_FUNNELED;
-    if (provided) *provided = me->provided;
+    if (!um_me) refuse("MPI_Init", "was called outside of a rank's first thread");
+    if (um_me->has_begun) refuse("MPI_Init", "was called twice");
+    if ((um_options.is_alone && !um_begin_alone()) || !um_make_world()) refuse("MPI_Init", "found no memory");
+    um_me->has_begun = true;
+    um_me->place = (struct place){.call = "MPI_Init", .from = __builtin_return_address(0), .peer = MPI_UNDEFINED, .tag = MPI_UNDEFINED};
+    um_me->provided = required < MPI_THREAD_FUNNELED ? MPI_THREAD_SINGLE : MPI_THREAD_FUNNELED;
+    if (provided) *provided = um_me->provided;
     return MPI_SUCCESS;
 }
 
@@ -46,30 +46,30 @@ int MPI_Init(int *argc, char ***argv) { return MPI_Init_thread(argc, argv, MPI_T
 /* What the start of the rank provided; a further thread of its program can be one of a rank that was given FUNNELED alone. */
 int MPI_Query_thread(int *provided) {
     if (!provided) return MPI_ERR_ARG;
-    *provided = me ? me->provided : MPI_THREAD_FUNNELED;
+    *provided = um_me ? um_me->provided : MPI_THREAD_FUNNELED;
     return MPI_SUCCESS;
 }
 
 int MPI_Is_thread_main(int *flag) {
     if (!flag) return MPI_ERR_ARG;
-    *flag = me != 0;
+    *flag = um_me != 0;
     return MPI_SUCCESS;
 }
 
 /* Where no rank asks, but a further thread of a program, or the launcher's own after the run: whether some rank has begun. */
 int MPI_Initialized(int *flag) {
-    bool has_begun = me && me->has_begun;
+    bool has_begun = um_me && um_me->has_begun;
     if (!flag) return MPI_ERR_ARG;
-    for (int k = 0; k < options.ranks && !me; k++) has_begun = has_begun || ranks[k].has_begun;
+    for (int k = 0; k < um_options.ranks && !um_me; k++) has_begun = has_begun || um_ranks[k].has_begun;
     *flag = has_begun;
     return MPI_SUCCESS;
 }
 
 /* So too: whether all of them have finalized, or stopped. */
 int MPI_Finalized(int *flag) {
-    bool has_finalized = !me || me->has_finalized;
+    bool has_finalized = !um_me || um_me->has_finalized;
     if (!flag) return MPI_ERR_ARG;
-    for (int k = 0; k < options.ranks && !me; k++) has_finalized = has_finalized && (ranks[k].has_finalized || ranks[k].has_stopped);
+    for (int k = 0; k < um_options.ranks && !um_me; k++) has_finalized = has_finalized && (um_ranks[k].has_finalized || um_ranks[k].has_stopped);
     *flag = has_finalized;
     return MPI_SUCCESS;
 }
@@ -77,24 +77,24 @@ int MPI_Finalized(int *flag) {
 /* Waits for each rank that hasn't failed: what others sent may need this rank to be handed on (11.2.2). */
 int MPI_Finalize(void) {
     ENTER(0, MPI_UNDEFINED, MPI_UNDEFINED);
-    delete_attributes(comm_at(MPI_COMM_SELF));   /* before all else (11.2.4) */
-    delete_attributes(comm_at(MPI_COMM_WORLD));
-    drain();
-    me->has_finalized = true;
+    um_delete_attributes(um_comm_at(MPI_COMM_SELF));   /* before all else (11.2.4) */
+    um_delete_attributes(um_comm_at(MPI_COMM_WORLD));
+    um_drain();
+    um_me->has_finalized = true;
     return MPI_SUCCESS;
 }
 
 int MPI_Abort(MPI_Comm comm, int errorcode) {
     (void)comm;
-    if (me) {
+    if (um_me) {
         char line[256];
-        me->place.from = __builtin_return_address(0);
-        begin_report();
-        fprintf(stderr, "ulfm-mpirun: rank %d called MPI_Abort with %d%s: the run ends\n", me->number, errorcode, line_of(me, line, sizeof line));
-        write_rests(true);
-        report("abort %d %d\n", me->number, errorcode);
+        um_me->place.from = __builtin_return_address(0);
+        um_begin_report();
+        fprintf(stderr, "ulfm-mpirun: rank %d called MPI_Abort with %d%s: the run ends\n", um_me->number, errorcode, um_line_of(um_me, line, sizeof line));
+        um_write_rests(true);
+        um_report("abort %d %d\n", um_me->number, errorcode);
     }
-    end_run((errorcode & 255) ? errorcode & 255 : 1);
+    um_end_run((errorcode & 255) ? errorcode & 255 : 1);
 }
 
 int MPI_Get_version(int *version, int *subversion) {
@@ -122,7 +122,7 @@ int MPI_Get_processor_name(char *name, int *length) {
 /* In a run that is played the clock isn't asked: each call is a millisecond after the last one. */
 double MPI_Wtime(void) {
     struct timespec now;
-    if (is_played && me) return 1e-3 * (double)++me->times_asked;
+    if (um_is_played && um_me) return 1e-3 * (double)++um_me->times_asked;
     clock_gettime(CLOCK_MONOTONIC, &now);
     return (double)now.tv_sec + 1e-9 * (double)now.tv_nsec;
 }
@@ -131,9 +131,9 @@ double MPI_Wtick(void) { return 1e-9; }
 
 int MPI_Alloc_mem(MPI_Aint size, MPI_Info info, void *base) {
     (void)info;
-    if (size < 0 || !base) return fail(0, MPI_ERR_ARG);
+    if (size < 0 || !base) return um_fail(0, MPI_ERR_ARG);
     void *made = malloc(size > 0 ? (size_t)size : 1);
-    if (!made) return fail(0, MPI_ERR_NO_MEM);
+    if (!made) return um_fail(0, MPI_ERR_NO_MEM);
     *(void **)base = made;
     return MPI_SUCCESS;
 }

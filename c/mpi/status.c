@@ -37,8 +37,8 @@ static MPI_Count elements_in(const struct type *type, size_t bytes) {
 
 int MPI_Get_elements(const MPI_Status *status, MPI_Datatype type, int *count) {
     ENTER_LOOK(0, MPI_UNDEFINED, MPI_UNDEFINED);
-    const struct type *of = type_at(type);
-    if (!of) return fail(0, MPI_ERR_TYPE);
+    const struct type *of = um_type_at(type);
+    if (!of) return um_fail(0, MPI_ERR_TYPE);
     WRITES(0, status && count);
     MPI_Count all = elements_in(of, status->bytes);
     *count = all > INT_MAX ? MPI_UNDEFINED : (int)all;
@@ -47,18 +47,18 @@ int MPI_Get_elements(const MPI_Status *status, MPI_Datatype type, int *count) {
 
 int MPI_Get_elements_x(const MPI_Status *status, MPI_Datatype type, MPI_Count *count) {
     ENTER_LOOK(0, MPI_UNDEFINED, MPI_UNDEFINED);
-    const struct type *of = type_at(type);
-    if (!of) return fail(0, MPI_ERR_TYPE);
+    const struct type *of = um_type_at(type);
+    if (!of) return um_fail(0, MPI_ERR_TYPE);
     WRITES(0, status && count);
     *count = elements_in(of, status->bytes);
     return MPI_SUCCESS;
 }
 
 static int set_elements(MPI_Status *status, MPI_Datatype type, MPI_Count count) {
-    const struct type *of = type_at(type);
-    if (!of) return fail(0, MPI_ERR_TYPE);
+    const struct type *of = um_type_at(type);
+    if (!of) return um_fail(0, MPI_ERR_TYPE);
     WRITES(0, status);
-    if (count < 0) return fail(0, MPI_ERR_COUNT);
+    if (count < 0) return um_fail(0, MPI_ERR_COUNT);
     status->bytes = bytes_of(of, (size_t)count);
     return MPI_SUCCESS;
 }

@@ -6,7 +6,7 @@
 #include <stdlib.h>
 
 /* The status of no request (3.7.3), with its error. */
-const MPI_Status empty_status = {.MPI_SOURCE = MPI_ANY_SOURCE, .MPI_TAG = MPI_ANY_TAG};
+const MPI_Status um_empty_status = {.MPI_SOURCE = MPI_ANY_SOURCE, .MPI_TAG = MPI_ANY_TAG};
 
 struct waiting {
     struct request *request;
@@ -16,82 +16,82 @@ struct waiting {
 static bool is_over(void *of, bool is_settled) {
     struct waiting *waiting = of;
     (void)is_settled;
-    waiting->pends = look_at(waiting->request);
-    me->place.waits_for = waiting->request->over ? 0 : awaited_by(waiting->request);
+    waiting->pends = um_look_at(waiting->request);
+    um_me->place.waits_for = waiting->request->over ? 0 : um_awaited_by(waiting->request);
     return waiting->request->over || waiting->pends;
 }
 
 /* Waits until a request is over, or pends: then MPIX_ERR_PROC_FAILED_PENDING, else MPI_SUCCESS. */
-int wait_for(struct request *request) {
+int um_wait_for(struct request *request) {
     struct waiting waiting = {request, 0};
-    if (!request->over) wait_until(is_over, &waiting, false);
+    if (!request->over) um_wait_until(is_over, &waiting, false);
     return request->over ? MPI_SUCCESS : waiting.pends;
 }
 
 /* Tells how a request ended, and releases it; the handle of a persistent one stays. Its error code. */
 static int release(MPI_Request *handle, struct request *request, MPI_Status *status) {
     int code = request->code;
-    struct request *own = request_at(*handle);
-    tell_status(status, &request->status);
+    struct request *own = um_request_at(*handle);
+    um_tell_status(status, &request->status);
     if (own == request) *handle = MPI_REQUEST_NULL;
     else own->active = 0;
-    free_request(request);
+    um_free_request(request);
     return code;
 }
 
 static int pending(struct request *request, MPI_Status *status) {
-    tell_status(status, &request->status);
+    um_tell_status(status, &request->status);
     return MPIX_ERR_PROC_FAILED_PENDING;
 }
 
 static void tell_place(const struct request *request) {
     if (!request) return;
-    me->place.comm = request->comm;
-    me->place.peer = request->peer;
-    me->place.tag = request->tag;
+    um_me->place.comm = request->comm;
+    um_me->place.peer = request->peer;
+    um_me->place.tag = request->tag;
 }
 
 /* Where there is nothing to wait for: no request, or a persistent one that isn't active. */
 static int tell_idle(MPI_Request handle, MPI_Status *status) {
-    if (status) *status = empty_status;
-    return handle == MPI_REQUEST_NULL || request_at(handle) ? MPI_SUCCESS : fail(0, MPI_ERR_REQUEST);
+    if (status) *status = um_empty_status;
+    return handle == MPI_REQUEST_NULL || um_request_at(handle) ? MPI_SUCCESS : um_fail(0, MPI_ERR_REQUEST);
 }
 
 int MPI_Wait(MPI_Request *handle, MPI_Status *status) {
     ENTER(0, MPI_UNDEFINED, MPI_UNDEFINED);
     WRITES(0, handle);
-    struct request *request = active_at(*handle);
+    struct request *request = um_active_at(*handle);
     if (!request) return tell_idle(*handle, status);
     tell_place(request);
     struct comm *comm = request->comm;
-    return fail(comm, wait_for(request) ? pending(request, status) : release(handle, request, status));
+    return um_fail(comm, um_wait_for(request) ? pending(request, status) : release(handle, request, status));
 }
 
 int MPI_Test(MPI_Request *handle, int *flag, MPI_Status *status) {
     ENTER_LOOK(0, MPI_UNDEFINED, MPI_UNDEFINED);
     WRITES(0, handle && flag);
-    struct request *request = active_at(*handle);
+    struct request *request = um_active_at(*handle);
     *flag = 1;
     if (!request) return tell_idle(*handle, status);
     struct comm *comm = request->comm;
-    progress();
-    int pends = look_at(request);
+    um_progress();
+    int pends = um_look_at(request);
     *flag = request->over;
-    if (request->over || pends) plan_call();
-    if (request->over) return fail(comm, release(handle, request, status));
-    return pends ? fail(comm, pending(request, status)) : MPI_SUCCESS;
+    if (request->over || pends) um_plan_call();
+    if (request->over) return um_fail(comm, release(handle, request, status));
+    return pends ? um_fail(comm, pending(request, status)) : MPI_SUCCESS;
 }
 
 int MPI_Request_get_status(MPI_Request handle, int *flag, MPI_Status *status) {
-    struct request *request = active_at(handle);
+    struct request *request = um_active_at(handle);
     ENTER_LOOK(0, MPI_UNDEFINED, MPI_UNDEFINED);
     WRITES(0, flag);
     *flag = 1;
     if (!request) return tell_idle(handle, status);
-    progress();
-    look_at(request);
+    um_progress();
+    um_look_at(request);
     *flag = request->over;
-    if (request->over) tell_status(status, &request->status);
+    if (request->over) um_tell_status(status, &request->status);
     return MPI_SUCCESS;
 }
 
@@ -117,10 +117,10 @@ static void look_at_several(struct several *several) {
     several->active = several->over = several->failed = several->broken = 0;
     several->first = -1;
     for (int k = 0; k < several->count; k++) {
-        struct request *request = active_at(several->handles[k]);
+        struct request *request = um_active_at(several->handles[k]);
         if (!request) continue;
         several->active++;
-        int pends = look_at(request);
+        int pends = um_look_at(request);
         several->over += request->over;
         several->failed += pends || (request->over && request->code != MPI_SUCCESS);
         several->broken += pends || is_broken(request);
@@ -133,11 +133,11 @@ static void look_at_several(struct several *several) {
 static bool are_next_done(struct several *several) {
     several->came++;
     for (; several->next < several->count; several->next++) {
-        struct request *request = active_at(several->handles[several->next]);
+        struct request *request = um_active_at(several->handles[several->next]);
         if (!request) continue;
         bool was_over = request->over;
         if (!was_over && several->came == 0) return false;
-        int pends = look_at(request);
+        int pends = um_look_at(request);
         several->failed = pends || (request->over && request->code != MPI_SUCCESS);
         if (several->failed) return true;
         if (!request->over) return false;
@@ -161,12 +161,12 @@ static bool are_done(void *of, bool is_settled) {
 static struct comm *comm_of_error(const struct several *several) {
     if (!several->failed) return 0;
     for (int k = 0; k < several->count; k++) {
-        struct request *request = active_at(several->handles[k]);
+        struct request *request = um_active_at(several->handles[k]);
         if (request && request->over && request->code != MPI_SUCCESS) return request->comm;
     }
     for (int k = 0; k < several->count; k++) {
-        struct request *request = active_at(several->handles[k]);
-        if (request && look_at(request)) return request->comm;
+        struct request *request = um_active_at(several->handles[k]);
+        if (request && um_look_at(request)) return request->comm;
     }
     return 0;
 }
@@ -175,7 +175,7 @@ static struct comm *comm_of_error(const struct several *several) {
 static int check_requests(int count, const MPI_Request handles[], bool writes) {
     if (count < 0 || (count > 0 && !handles) || !writes) return MPI_ERR_ARG;
     for (int k = 0; k < count; k++)
-        if (handles[k] != MPI_REQUEST_NULL && !request_at(handles[k])) return MPI_ERR_REQUEST;
+        if (handles[k] != MPI_REQUEST_NULL && !um_request_at(handles[k])) return MPI_ERR_REQUEST;
     return MPI_SUCCESS;
 }
 
@@ -184,25 +184,25 @@ static int release_all(struct several *several, MPI_Status statuses[]) {
     struct comm *comm = comm_of_error(several);
     int result = several->failed ? MPI_ERR_IN_STATUS : MPI_SUCCESS;
     for (int k = 0; k < several->count; k++) {
-        struct request *request = active_at(several->handles[k]);
+        struct request *request = um_active_at(several->handles[k]);
         MPI_Status *status = statuses ? &statuses[k] : 0;
-        int error = !request ? MPI_SUCCESS : look_at(request) ? MPIX_ERR_PROC_FAILED_PENDING : MPI_ERR_PENDING;
+        int error = !request ? MPI_SUCCESS : um_look_at(request) ? MPIX_ERR_PROC_FAILED_PENDING : MPI_ERR_PENDING;
         if (request && request->over) error = release(&several->handles[k], request, status);
-        else if (request) tell_status(status, &request->status);
-        else if (status) *status = empty_status;
+        else if (request) um_tell_status(status, &request->status);
+        else if (status) *status = um_empty_status;
         if (status && result != MPI_SUCCESS) status->MPI_ERROR = error;
     }
-    return fail(comm, result);
+    return um_fail(comm, result);
 }
 
 int MPI_Waitall(int count, MPI_Request handles[], MPI_Status statuses[]) {
     struct several several = {.count = count, .handles = handles, .wants_all = true};
     ENTER(0, MPI_UNDEFINED, MPI_UNDEFINED);
     int code = check_requests(count, handles, true);
-    if (code != MPI_SUCCESS) return fail(0, code);
+    if (code != MPI_SUCCESS) return um_fail(0, code);
     for (int k = 0; k < count; k++)
-        if (active_at(handles[k]) && !active_at(handles[k])->over) tell_place(active_at(handles[k]));
-    wait_until(are_done, &several, false);
+        if (um_active_at(handles[k]) && !um_active_at(handles[k])->over) tell_place(um_active_at(handles[k]));
+    um_wait_until(are_done, &several, false);
     return release_all(&several, statuses);
 }
 
@@ -210,31 +210,31 @@ int MPI_Testall(int count, MPI_Request handles[], int *flag, MPI_Status statuses
     struct several several = {.count = count, .handles = handles};
     ENTER_LOOK(0, MPI_UNDEFINED, MPI_UNDEFINED);
     int code = check_requests(count, handles, flag);
-    if (code != MPI_SUCCESS) return fail(0, code);
-    progress();
+    if (code != MPI_SUCCESS) return um_fail(0, code);
+    um_progress();
     look_at_several(&several);
     *flag = several.over == several.active || several.broken;
     if (!*flag) return MPI_SUCCESS;
-    if (several.active) plan_call();
+    if (several.active) um_plan_call();
     return release_all(&several, statuses);
 }
 
 /* Tells of one that is over or pends. */
 static int release_one(struct several *several, int *index, MPI_Status *status) {
     *index = several->first < 0 ? MPI_UNDEFINED : several->first;
-    if (several->first < 0 && status) *status = empty_status;
+    if (several->first < 0 && status) *status = um_empty_status;
     if (several->first < 0) return MPI_SUCCESS;
-    struct request *request = active_at(several->handles[several->first]);
+    struct request *request = um_active_at(several->handles[several->first]);
     struct comm *comm = request->comm;
-    return fail(comm, request->over ? release(&several->handles[several->first], request, status) : pending(request, status));
+    return um_fail(comm, request->over ? release(&several->handles[several->first], request, status) : pending(request, status));
 }
 
 int MPI_Waitany(int count, MPI_Request handles[], int *index, MPI_Status *status) {
     struct several several = {.count = count, .handles = handles, .wants_one = true};
     ENTER(0, MPI_UNDEFINED, MPI_UNDEFINED);
     int code = check_requests(count, handles, index);
-    if (code != MPI_SUCCESS) return fail(0, code);
-    wait_until(are_done, &several, false);
+    if (code != MPI_SUCCESS) return um_fail(0, code);
+    um_wait_until(are_done, &several, false);
     return release_one(&several, index, status);
 }
 
@@ -242,10 +242,10 @@ int MPI_Testany(int count, MPI_Request handles[], int *index, int *flag, MPI_Sta
     struct several several = {.count = count, .handles = handles, .wants_one = true};
     ENTER_LOOK(0, MPI_UNDEFINED, MPI_UNDEFINED);
     int code = check_requests(count, handles, index && flag);
-    if (code != MPI_SUCCESS) return fail(0, code);
-    progress();
+    if (code != MPI_SUCCESS) return um_fail(0, code);
+    um_progress();
     *flag = are_done(&several, true);
-    if (*flag && several.active) plan_call();
+    if (*flag && several.active) um_plan_call();
     return release_one(&several, index, status);
 }
 
@@ -255,23 +255,23 @@ static int release_some(struct several *several, int *outcount, int indices[], M
     int found = 0;
     *outcount = several->active ? 0 : MPI_UNDEFINED;
     for (int k = 0; several->active && k < several->count; k++) {
-        struct request *request = active_at(several->handles[k]);
-        if (!request || (!request->over && !(several->failed && look_at(request)))) continue;   /* where none failed, none pends */
+        struct request *request = um_active_at(several->handles[k]);
+        if (!request || (!request->over && !(several->failed && um_look_at(request)))) continue;   /* where none failed, none pends */
         MPI_Status *status = statuses ? &statuses[found] : 0;
         int error = request->over ? release(&several->handles[k], request, status) : pending(request, status);
         if (status && several->failed) status->MPI_ERROR = error;
         indices[found++] = k;
     }
     if (several->active) *outcount = found;
-    return fail(comm, several->failed ? MPI_ERR_IN_STATUS : MPI_SUCCESS);
+    return um_fail(comm, several->failed ? MPI_ERR_IN_STATUS : MPI_SUCCESS);
 }
 
 int MPI_Waitsome(int incount, MPI_Request handles[], int *outcount, int indices[], MPI_Status statuses[]) {
     struct several several = {.count = incount, .handles = handles};
     ENTER(0, MPI_UNDEFINED, MPI_UNDEFINED);
     int code = check_requests(incount, handles, outcount && (indices || incount == 0));
-    if (code != MPI_SUCCESS) return fail(0, code);
-    wait_until(are_done, &several, true);
+    if (code != MPI_SUCCESS) return um_fail(0, code);
+    um_wait_until(are_done, &several, true);
     return release_some(&several, outcount, indices, statuses);
 }
 
@@ -279,8 +279,8 @@ int MPI_Testsome(int incount, MPI_Request handles[], int *outcount, int indices[
     struct several several = {.count = incount, .handles = handles};
     ENTER_LOOK(0, MPI_UNDEFINED, MPI_UNDEFINED);
     int code = check_requests(incount, handles, outcount && (indices || incount == 0));
-    if (code != MPI_SUCCESS) return fail(0, code);
-    progress();
-    if (are_done(&several, true) && several.active) plan_call();
+    if (code != MPI_SUCCESS) return um_fail(0, code);
+    um_progress();
+    if (are_done(&several, true) && several.active) um_plan_call();
     return release_some(&several, outcount, indices, statuses);
 }

@@ -3,18 +3,18 @@
 #include "progress/progress.h"
 #include "search/search.h"
 
-struct player players[MAX_RANKS];
+struct player um_players[MAX_RANKS];
 
 /* What a look is told by: what is looked at, from where in the program, and the number of the look in its call of MPI. */
 static uint64_t look_of(const struct event *call, uint64_t request) {
     uint64_t look = 14695981039346656037u;
-    uint64_t words[] = {call->kind, call->comm, call->peer, (uint64_t)call->tag, request, (uintptr_t)me->place.from, me->looks++};
+    uint64_t words[] = {call->kind, call->comm, call->peer, (uint64_t)call->tag, request, (uintptr_t)um_me->place.from, um_me->looks++};
     for (size_t k = 0; k < sizeof words / sizeof *words; k++) look = (look ^ words[k]) * 1099511628211u;
     return look | 1;
 }
 
 /* Something came, or the rank did something: a look may find another answer. */
-void forget_looks(struct player *player) {
+void um_forget_looks(struct player *player) {
     if (!player->look_count) return;
     for (int k = 0; k < LOOKS; k++) player->looks[k] = 0;
     player->look_count = 0;
@@ -28,14 +28,14 @@ static uint64_t *place_of_look(struct player *player, uint64_t look) {
 }
 
 /* Whether the call that a rank stands before is a look that it made before, with nothing new since. */
-bool looks_again(struct player *player) {
-    if (player->marks_at_look != count_of_marks()) forget_looks(player);
+bool um_looks_again(struct player *player) {
+    if (player->marks_at_look != um_count_of_marks()) um_forget_looks(player);
     return player->look && (player->look_count > LOOKS / 2 || *place_of_look(player, player->look));
 }
 
 static void remember_look(struct player *player) {
-    if (player->marks_at_look != count_of_marks()) forget_looks(player);
-    player->marks_at_look = count_of_marks();
+    if (player->marks_at_look != um_count_of_marks()) um_forget_looks(player);
+    player->marks_at_look = um_count_of_marks();
     uint64_t *place = place_of_look(player, player->look);
     if (*place || player->look_count > LOOKS / 2) return;
     *place = player->look;
@@ -44,33 +44,33 @@ static void remember_look(struct player *player) {
 
 /* The rank stands before a call until the controller lets it go on. */
 static void stand_before(struct event call, uint64_t look) {
-    struct player *own = &players[me->number];
+    struct player *own = &um_players[um_me->number];
     if (!own->is_granted) {
         own->call = call;
         own->look = look;
         own->state = AT_CALL;
-        to_controller();
+        um_to_controller();
     }
     own->is_granted = own->is_first = false;
-    if (footprints) begin_call(&call);
+    if (um_footprints) um_begin_call(&call);
 }
 
 static struct event event_of(enum kind_of_event kind, uint32_t comm, uint32_t peer, uint32_t tag) {
-    return (struct event){.kind = (uint8_t)kind, .rank = (uint8_t)me->number, .peer = peer > MAX_RANKS ? NOBODY : (uint8_t)peer,
+    return (struct event){.kind = (uint8_t)kind, .rank = (uint8_t)um_me->number, .peer = peer > MAX_RANKS ? NOBODY : (uint8_t)peer,
                           .comm = (uint8_t)comm, .tag = tag == ULFM_ANY ? -1 : (int32_t)tag};
 }
 
 /* Before a call that does something. */
 static void before(struct event call) {
     stand_before(call, 0);
-    forget_looks(&players[me->number]);
+    um_forget_looks(&um_players[um_me->number]);
 }
 
 /* Before a look, which changes nothing where it is in vain. False: it is made no event. In a wait that is so where it would be in vain, and where
    something came since the rank began to look: then all of it is looked at, anew, and this look finds nothing more. */
 static bool before_look(struct event call, uint64_t request, bool is_vain) {
-    struct player *own = &players[me->number];
-    if (footprints && own->in_wait && is_vain) note_silent(&call);
+    struct player *own = &um_players[um_me->number];
+    if (um_footprints && own->in_wait && is_vain) um_note_silent(&call);
     if (own->in_wait && (is_vain || own->looks_anew)) return false;
     bool is_first = own->is_first;
     int taken = own->taken;
@@ -86,7 +86,7 @@ static bool before_look(struct event call, uint64_t request, bool is_vain) {
 static void push(ulfm_slot *slot) {
     uint32_t moved;
     ulfm_push(slot, &moved);
-    block_rings(me->number);
+    um_block_rings(um_me->number);
 }
 
 static uint32_t bits_of_group(const ulfm_group *group) {
@@ -99,160 +99,160 @@ static uint32_t bits_of_group(const ulfm_group *group) {
 
 REAL(isend);
 uint32_t __wrap_ulfm_isend(ulfm_slot *slot, uint32_t comm, uint32_t dest, uint32_t tag, const uint8_t *body, size_t length) {
-    if (!is_played) return __real_ulfm_isend(slot, comm, dest, tag, body, length);
+    if (!um_is_played) return __real_ulfm_isend(slot, comm, dest, tag, body, length);
     before(event_of(SENDS, comm, dest, tag));
     uint32_t code = __real_ulfm_isend(slot, comm, dest, tag, body, length);
-    if (footprints) end_send(dest, code);
+    if (um_footprints) um_end_send(dest, code);
     push(slot);
     return code;
 }
 
 REAL(irecv);
 uint32_t __wrap_ulfm_irecv(ulfm_slot *slot, uint32_t comm, uint32_t source, uint32_t tag, uint32_t room, uint64_t *request) {
-    if (is_played) before(event_of(POSTS, comm, source, tag));
+    if (um_is_played) before(event_of(POSTS, comm, source, tag));
     uint32_t code = __real_ulfm_irecv(slot, comm, source, tag, room, request);
-    if (footprints) end_post(source, *request, code);
+    if (um_footprints) um_end_post(source, *request, code);
     return code;
 }
 
 REAL(test);
 uint32_t __wrap_ulfm_test(ulfm_slot *slot, uint64_t request, ulfm_status *status, uint8_t *body, size_t size) {
     uint32_t would = ULFM_NOT_YET;
-    if (!is_played) return __real_ulfm_test(slot, request, status, body, size);
-    if (players[me->number].in_wait && ulfm_would(slot, request, &would) != ULFM_OK) would = ULFM_OK;
+    if (!um_is_played) return __real_ulfm_test(slot, request, status, body, size);
+    if (um_players[um_me->number].in_wait && ulfm_would(slot, request, &would) != ULFM_OK) would = ULFM_OK;
     if (!before_look(event_of(TESTS, 0, NOBODY, (uint32_t)request), request, would == ULFM_NOT_YET)) return ULFM_NOT_YET;
     uint32_t code = __real_ulfm_test(slot, request, status, body, size);
-    if (footprints) end_look(request, code, status);
-    if (code == ULFM_OK) forget_looks(&players[me->number]);
+    if (um_footprints) um_end_look(request, code, status);
+    if (code == ULFM_OK) um_forget_looks(&um_players[um_me->number]);
     return code;
 }
 
 REAL(cancel);
 uint32_t __wrap_ulfm_cancel(ulfm_slot *slot, uint64_t request, ulfm_status *status, uint8_t *body, size_t size) {
-    if (is_played) before(event_of(CANCELS, 0, NOBODY, (uint32_t)request));
+    if (um_is_played) before(event_of(CANCELS, 0, NOBODY, (uint32_t)request));
     uint32_t code = __real_ulfm_cancel(slot, request, status, body, size);
-    if (footprints) end_look(request, code, status);
+    if (um_footprints) um_end_look(request, code, status);
     return code;
 }
 
 REAL(iprobe);
 uint32_t __wrap_ulfm_iprobe(ulfm_slot *slot, uint32_t comm, uint32_t source, uint32_t tag, ulfm_status *status) {
-    if (!is_played) return __real_ulfm_iprobe(slot, comm, source, tag, status);
-    bool is_vain = players[me->number].in_wait && __real_ulfm_iprobe(slot, comm, source, tag, status) == ULFM_NOT_YET;
+    if (!um_is_played) return __real_ulfm_iprobe(slot, comm, source, tag, status);
+    bool is_vain = um_players[um_me->number].in_wait && __real_ulfm_iprobe(slot, comm, source, tag, status) == ULFM_NOT_YET;
     if (!before_look(event_of(PROBES, comm, source, tag), 0, is_vain)) return ULFM_NOT_YET;
     uint32_t code = __real_ulfm_iprobe(slot, comm, source, tag, status);
-    if (footprints) end_probe(source, code, false);
+    if (um_footprints) um_end_probe(source, code, false);
     return code;
 }
 
 REAL(improbe);
 uint32_t __wrap_ulfm_improbe(ulfm_slot *slot, uint32_t comm, uint32_t source, uint32_t tag, uint64_t *message, ulfm_status *status) {
-    if (!is_played) return __real_ulfm_improbe(slot, comm, source, tag, message, status);
-    bool is_vain = players[me->number].in_wait && __real_ulfm_iprobe(slot, comm, source, tag, status) == ULFM_NOT_YET;
+    if (!um_is_played) return __real_ulfm_improbe(slot, comm, source, tag, message, status);
+    bool is_vain = um_players[um_me->number].in_wait && __real_ulfm_iprobe(slot, comm, source, tag, status) == ULFM_NOT_YET;
     if (!before_look(event_of(PROBES, comm, source, tag), 1, is_vain)) return ULFM_NOT_YET;
     uint32_t code = __real_ulfm_improbe(slot, comm, source, tag, message, status);
-    if (footprints) end_probe(source, code, true);
-    if (code == ULFM_OK) forget_looks(&players[me->number]);
+    if (um_footprints) um_end_probe(source, code, true);
+    if (code == ULFM_OK) um_forget_looks(&um_players[um_me->number]);
     return code;
 }
 
 REAL(revoke);
 uint32_t __wrap_ulfm_revoke(ulfm_slot *slot, uint32_t comm) {
-    if (!is_played) return __real_ulfm_revoke(slot, comm);
+    if (!um_is_played) return __real_ulfm_revoke(slot, comm);
     before(event_of(REVOKES, comm, NOBODY, ULFM_ANY));
     uint32_t code = __real_ulfm_revoke(slot, comm);
-    if (footprints) end_revoke(code != ULFM_OK || is_known_revoked(me->number, comm));
-    if (code == ULFM_OK) note_revoked(me->number, comm);
+    if (um_footprints) um_end_revoke(code != ULFM_OK || um_is_known_revoked(um_me->number, comm));
+    if (code == ULFM_OK) um_note_revoked(um_me->number, comm);
     push(slot);
     return code;
 }
 
 REAL(is_revoked);
 uint32_t __wrap_ulfm_is_revoked(ulfm_slot *slot, uint32_t comm, uint32_t *answer) {
-    bool is_event = is_played && before_look(event_of(ASKS_REVOKED, comm, NOBODY, ULFM_ANY), 0, !is_known_revoked(me->number, comm));
+    bool is_event = um_is_played && before_look(event_of(ASKS_REVOKED, comm, NOBODY, ULFM_ANY), 0, !um_is_known_revoked(um_me->number, comm));
     uint32_t code = __real_ulfm_is_revoked(slot, comm, answer);
-    if (is_played && players[me->number].looks_anew) *answer = 0;
-    if (footprints && is_event) end_question(*answer);
+    if (um_is_played && um_players[um_me->number].looks_anew) *answer = 0;
+    if (um_footprints && is_event) um_end_question(*answer);
     return code;
 }
 
 REAL(get_failed);
 uint32_t __wrap_ulfm_get_failed(ulfm_slot *slot, uint32_t comm, ulfm_group *failed) {
-    bool is_event = is_played && before_look(event_of(ASKS_FAILED, comm, NOBODY, ULFM_ANY), 0, true);
+    bool is_event = um_is_played && before_look(event_of(ASKS_FAILED, comm, NOBODY, ULFM_ANY), 0, true);
     uint32_t code = __real_ulfm_get_failed(slot, comm, failed);
-    if (is_played && players[me->number].looks_anew) failed->size = 0;
-    if (footprints && is_event) end_question(bits_of_group(failed));
+    if (um_is_played && um_players[um_me->number].looks_anew) failed->size = 0;
+    if (um_footprints && is_event) um_end_question(bits_of_group(failed));
     return code;
 }
 
 REAL(ack_failed);
 uint32_t __wrap_ulfm_ack_failed(ulfm_slot *slot, uint32_t comm, uint32_t count, uint32_t *total) {
-    bool is_event = is_played && before_look(event_of(ACKNOWLEDGES, comm, NOBODY, ULFM_ANY), count, false);
+    bool is_event = um_is_played && before_look(event_of(ACKNOWLEDGES, comm, NOBODY, ULFM_ANY), count, false);
     uint32_t code = __real_ulfm_ack_failed(slot, comm, count, total);
-    if (footprints && is_event) end_question(*total);
+    if (um_footprints && is_event) um_end_question(*total);
     return code;
 }
 
 REAL(dup);
 uint32_t __wrap_ulfm_dup(ulfm_slot *slot, uint32_t comm, uint32_t *made) {
-    bool is_event = is_played && me->has_begun;   /* nothing comes before MPI_Init is over */
+    bool is_event = um_is_played && um_me->has_begun;   /* nothing comes before MPI_Init is over */
     if (is_event) before(event_of(DUPLICATES, comm, NOBODY, ULFM_ANY));
     uint32_t code = __real_ulfm_dup(slot, comm, made);
-    if (footprints && is_event) end_question(code);
+    if (um_footprints && is_event) um_end_question(code);
     return code;
 }
 
 REAL(enter_shrink);
 uint32_t __wrap_ulfm_enter_shrink(ulfm_slot *slot, uint32_t comm) {
-    if (!is_played) return __real_ulfm_enter_shrink(slot, comm);
+    if (!um_is_played) return __real_ulfm_enter_shrink(slot, comm);
     before(event_of(ENTERS_SHRINK, comm, NOBODY, ULFM_ANY));
     uint32_t code = __real_ulfm_enter_shrink(slot, comm);
-    if (code == ULFM_OK) note_entry(me->number, comm, false, 0);
-    if (footprints) end_entry(false, 0, code);
+    if (code == ULFM_OK) um_note_entry(um_me->number, comm, false, 0);
+    if (um_footprints) um_end_entry(false, 0, code);
     push(slot);
     return code;
 }
 
 REAL(enter_agree);
 uint32_t __wrap_ulfm_enter_agree(ulfm_slot *slot, uint32_t comm, uint32_t flag) {
-    if (!is_played) return __real_ulfm_enter_agree(slot, comm, flag);
+    if (!um_is_played) return __real_ulfm_enter_agree(slot, comm, flag);
     before(event_of(ENTERS_AGREE, comm, NOBODY, ULFM_ANY));
     uint32_t code = __real_ulfm_enter_agree(slot, comm, flag);
-    if (code == ULFM_OK) note_entry(me->number, comm, true, flag);
-    if (footprints) end_entry(true, flag, code);
+    if (code == ULFM_OK) um_note_entry(um_me->number, comm, true, flag);
+    if (um_footprints) um_end_entry(true, flag, code);
     push(slot);
     return code;
 }
 
 REAL(poll_shrink);
 uint32_t __wrap_ulfm_poll_shrink(ulfm_slot *slot, uint32_t comm, uint32_t *made) {
-    if (!is_played) return __real_ulfm_poll_shrink(slot, comm, made);
-    if (!before_look(event_of(POLLS_SHRINK, comm, NOBODY, ULFM_ANY), 0, !has_heard_all(me->number, comm, false))) return ULFM_NOT_YET;
-    struct proposal own = proposal_of(me->number, comm, false);
+    if (!um_is_played) return __real_ulfm_poll_shrink(slot, comm, made);
+    if (!before_look(event_of(POLLS_SHRINK, comm, NOBODY, ULFM_ANY), 0, !um_has_heard_all(um_me->number, comm, false))) return ULFM_NOT_YET;
+    struct proposal own = um_proposal_of(um_me->number, comm, false);
     uint32_t code = __real_ulfm_poll_shrink(slot, comm, made);
-    if (footprints) end_poll(false, &own, code);
-    if (code == ULFM_OK) forget_looks(&players[me->number]);
+    if (um_footprints) um_end_poll(false, &own, code);
+    if (code == ULFM_OK) um_forget_looks(&um_players[um_me->number]);
     return code;
 }
 
 REAL(poll_agree);
 uint32_t __wrap_ulfm_poll_agree(ulfm_slot *slot, uint32_t comm, uint32_t *value, ulfm_group *missing) {
-    if (!is_played) return __real_ulfm_poll_agree(slot, comm, value, missing);
-    if (!before_look(event_of(POLLS_AGREE, comm, NOBODY, ULFM_ANY), 0, !has_heard_all(me->number, comm, true))) return ULFM_NOT_YET;
-    struct proposal own = proposal_of(me->number, comm, true);
+    if (!um_is_played) return __real_ulfm_poll_agree(slot, comm, value, missing);
+    if (!before_look(event_of(POLLS_AGREE, comm, NOBODY, ULFM_ANY), 0, !um_has_heard_all(um_me->number, comm, true))) return ULFM_NOT_YET;
+    struct proposal own = um_proposal_of(um_me->number, comm, true);
     uint32_t code = __real_ulfm_poll_agree(slot, comm, value, missing);
-    if (footprints) end_poll(true, &own, code == ULFM_OK ? *value ^ bits_of_group(missing) << 24 : code);
-    if (code == ULFM_OK) forget_looks(&players[me->number]);
+    if (um_footprints) um_end_poll(true, &own, code == ULFM_OK ? *value ^ bits_of_group(missing) << 24 : code);
+    if (code == ULFM_OK) um_forget_looks(&um_players[um_me->number]);
     return code;
 }
 
 REAL(stop);
 uint32_t __wrap_ulfm_stop(ulfm_slot *slot) {
-    if (!is_played) return __real_ulfm_stop(slot);
+    if (!um_is_played) return __real_ulfm_stop(slot);
     before(event_of(STOPS, 0, NOBODY, ULFM_ANY));
     uint32_t code = __real_ulfm_stop(slot);
-    players[me->number].has_stopped = true;
-    if (footprints) end_stop();
+    um_players[um_me->number].has_stopped = true;
+    if (um_footprints) um_end_stop();
     push(slot);
     return code;
 }

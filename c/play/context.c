@@ -50,10 +50,10 @@ __attribute__((weak)) void __sanitizer_start_switch_fiber(void **kept, const voi
 __attribute__((weak)) void __sanitizer_finish_switch_fiber(void *kept, const void **low, size_t *room);
 static bool has_sanitizer(void) { return __sanitizer_start_switch_fiber != 0; }
 
-bool has_valgrind(void) { return RUNNING_ON_VALGRIND != 0; }
+bool um_has_valgrind(void) { return RUNNING_ON_VALGRIND != 0; }
 
 /* Whether AddressSanitizer or memcheck look at the process: they know what memory is in use, so it can't be put back under them. */
-bool is_looked_at(void) { return has_sanitizer() || has_valgrind(); }
+bool um_is_looked_at(void) { return has_sanitizer() || um_has_valgrind(); }
 
 #if defined __x86_64__
 /* Goes to another stack: what a call has to keep is kept on the own one. */
@@ -101,15 +101,15 @@ static void switch_to(struct context *from, struct context *to) {
 
 /* The exceptions of the C++ library that the rank's program is linked with; null where there is none. */
 static struct exceptions *exceptions_of(struct context *context) {
-    if (!context->knows_exceptions && me->program) {
-        *(void **)&context->find_exceptions = dlsym(me->program, "__cxa_get_globals");
+    if (!context->knows_exceptions && um_me->program) {
+        *(void **)&context->find_exceptions = dlsym(um_me->program, "__cxa_get_globals");
         context->knows_exceptions = true;
     }
     return context->find_exceptions ? context->find_exceptions() : 0;
 }
 
 /* The rank that runs gives the processor to the controller. */
-void to_controller(void) {
+void um_to_controller(void) {
     struct context *own = &contexts[present];
     struct exceptions *exceptions = exceptions_of(own);
     own->error = errno;
@@ -124,34 +124,34 @@ void to_controller(void) {
 }
 
 /* The controller gives the processor to a rank. */
-void resume(int rank) {
+void um_resume(int rank) {
     present = rank;
-    me = &ranks[rank];
+    um_me = &um_ranks[rank];
     switch_to(&controller, &contexts[rank]);
-    me = 0;
+    um_me = 0;
 }
 
 static void begin(void) {
     if (has_sanitizer()) __sanitizer_finish_switch_fiber(0, (const void **)&controller.low, &controller.room);
-    live();
-    players[present].state = OVER;
-    for (;;) to_controller();
+    um_live();
+    um_players[present].state = OVER;
+    for (;;) um_to_controller();
 }
 
 /* A context that begins a rank. False where there is no memory. */
-bool make_context(int rank) {
+bool um_make_context(int rank) {
     struct context *context = &contexts[rank];
     size_t page = (size_t)sysconf(_SC_PAGESIZE);
     char *low = mmap(0, STACK, PROT_READ | PROT_WRITE, MAP_PRIVATE | MAP_ANONYMOUS | MAP_STACK | MAP_NORESERVE, -1, 0);
     if (low == MAP_FAILED || mprotect(low, page, PROT_NONE)) return false;
     (void)VALGRIND_STACK_REGISTER(low, low + STACK);
     *context = (struct context){.low = low + page, .room = STACK - page};
-    ranks[rank].stack = low + page;
+    um_ranks[rank].stack = low + page;
     return lay_out(context, begin);
 }
 
 /* The stack of a rank that has the processor no more: its ends, and from where on it is in use. */
-void stack_of(int rank, char **low, char **used, char **high) {
+void um_stack_of(int rank, char **low, char **used, char **high) {
     const struct context *context = &contexts[rank];
     *low = context->low;
     *high = context->low + context->room;

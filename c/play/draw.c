@@ -36,17 +36,17 @@ static const char marks[] =
     "<marker id=\"lost\" viewBox=\"0 0 12 12\" refX=\"1\" refY=\"6\" markerWidth=\"12\" markerHeight=\"12\" markerUnits=\"userSpaceOnUse\" orient=\"auto\"><path d=\"M2 1V11M6 2V10M10 4V8\" fill=\"none\" stroke=\"#1b1b1b\" stroke-width=\"1.5\"/></marker>\n"
     "</defs>\n";
 
-bool begin_drawing(void) {
+bool um_begin_drawing(void) {
     drawn = calloc(MOST_STEPS, sizeof *drawn);
-    return drawn && (footprints || begin_search());   /* which event sent an item is in its footprint */
+    return drawn && (um_footprints || um_begin_search());   /* which event sent an item is in its footprint */
 }
 
 /* An event comes. */
-void note_drawn(const struct event *event) {
-    const struct rank *rank = &ranks[event->rank];
+void um_note_drawn(const struct event *event) {
+    const struct rank *rank = &um_ranks[event->rank];
     if (!drawn) return;
-    drawn[step] = (struct drawn){rank->place.call ? rank->place.call : "its start", rank->place.from, rank->calls, 0, NO_STEP};
-    if (event->kind == LOSES) drawn[step].lost = first_lost(event->peer, event->rank);
+    drawn[um_step] = (struct drawn){rank->place.call ? rank->place.call : "its start", rank->place.from, rank->calls, 0, NO_STEP};
+    if (event->kind == LOSES) drawn[um_step].lost = um_first_lost(event->peer, event->rank);
 }
 
 static int column(int rank) { return LEFT + COLUMN * rank; }
@@ -58,7 +58,7 @@ static const char *line_at(const void *from) {
     while (k < MOST_LINES - 1 && lines[k].from && lines[k].from != from) k++;
     if (lines[k].from == from) return lines[k].text;
     lines[k].from = from;
-    return line_before(from, lines[k].text, sizeof lines[k].text);
+    return um_line_before(from, lines[k].text, sizeof lines[k].text);
 }
 
 static void put_text(FILE *to, int x, int y, const char *color, const char *text) {
@@ -80,8 +80,8 @@ static void put_call(FILE *to, int rank, int row, const char *before, const char
 static void lay_out_rows(void) {
     int last[MAX_RANKS], row_of_call[MAX_RANKS] = {0};
     memset(last, -1, sizeof last);
-    for (int k = 0; k < step; k++) {
-        const struct footprint *e = &footprints[k];
+    for (int k = 0; k < um_step; k++) {
+        const struct footprint *e = &um_footprints[k];
         bool is_new = e->kind >= STOPS || drawn[k].calls != last[e->rank];
         if (is_new && e->kind < TAKES) row_of_call[e->rank] = rows, last[e->rank] = drawn[k].calls;
         drawn[k].row = is_new ? rows++ : row_of_call[e->rank];
@@ -94,7 +94,7 @@ static void put_arrow(FILE *to, const struct look_of_item *look, int x, int y, i
 }
 
 static void put_event(FILE *to, int k, int *shown) {
-    const struct footprint *e = &footprints[k];
+    const struct footprint *e = &um_footprints[k];
     int x = column(e->rank), y = height(drawn[k].row);
     if (e->kind == TAKES && e->pushed >= 0) put_arrow(to, &looks[e->item], column(e->source), height(drawn[e->pushed].row), x, y);
     if (e->kind == LOSES) {
@@ -114,19 +114,19 @@ static void put_event(FILE *to, int k, int *shown) {
 
 /* What became of a rank, in the last row. */
 static void put_end(FILE *to, int rank) {
-    const struct rank *own = &ranks[rank];
+    const struct rank *own = &um_ranks[rank];
     char text[64];
     fprintf(to, "<path d=\"M%d %dh16\" stroke=\"#1b1b1b\" stroke-width=\"3\"/>\n", column(rank) - 8, height(rows));
-    if (players[rank].state == OVER) {
+    if (um_players[rank].state == OVER) {
         snprintf(text, sizeof text, own->has_stopped ? "stopped" : "ended with %d", own->status);
         put_text(to, column(rank) + 12, height(rows) + 4, own->status && !own->is_planned ? "#a31621" : "#1b1b1b", text);
     } else if (own->has_stopped) put_text(to, column(rank) + 12, height(rows) + 4, "#1b1b1b", "stopped");
-    else put_call(to, rank, rows, players[rank].state == AT_CALL ? "loops over " : "waits in ", own->place.call ? own->place.call : "its start", own->place.from, own->calls, "#a31621");
+    else put_call(to, rank, rows, um_players[rank].state == AT_CALL ? "loops over " : "waits in ", own->place.call ? own->place.call : "its start", own->place.from, own->calls, "#a31621");
 }
 
 /* Draws the schedule that was played. False where the file can't be written. */
-bool draw_schedule(const char *path) {
-    int shown[MAX_RANKS], width = column(options.ranks) + 20;
+bool um_draw_schedule(const char *path) {
+    int shown[MAX_RANKS], width = column(um_options.ranks) + 20;
     FILE *to = fopen(path, "w");
     if (!to) return false;
     memset(shown, -1, sizeof shown);
@@ -134,15 +134,15 @@ bool draw_schedule(const char *path) {
     fprintf(to, "<svg xmlns=\"http://www.w3.org/2000/svg\" width=\"%d\" height=\"%d\" viewBox=\"0 0 %d %d\" font-family=\"ui-monospace, 'DejaVu Sans Mono', Menlo, Consolas, monospace\" font-size=\"13\">\n",
             width, height(rows + 1), width, height(rows + 1));
     fprintf(to, "%s<rect width=\"%d\" height=\"%d\" rx=\"6\" fill=\"#fff\"/>\n", marks, width, height(rows + 1));
-    for (int k = 0; k < options.ranks; k++) {
+    for (int k = 0; k < um_options.ranks; k++) {
         char name[16];
         snprintf(name, sizeof name, "rank %d", k);
         fprintf(to, "<path d=\"M%d 34V%d\" stroke=\"#777\" stroke-width=\"1.5\"/>\n", column(k), height(rows));
         fprintf(to, "<rect x=\"%d\" y=\"10\" width=\"68\" height=\"24\" rx=\"3\" fill=\"#eef1f5\" stroke=\"#555\"/>\n", column(k) - 34);
         put_text(to, column(k) - 24, 27, "#1b1b1b", name);
     }
-    for (int k = 0; k < step; k++) put_event(to, k, shown);
-    for (int k = 0; k < options.ranks; k++) put_end(to, k);
+    for (int k = 0; k < um_step; k++) put_event(to, k, shown);
+    for (int k = 0; k < um_options.ranks; k++) put_end(to, k);
     fputs("</svg>\n", to);
     return fclose(to) == 0;
 }

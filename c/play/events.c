@@ -14,7 +14,7 @@ static const char *const words_of_items[] = {
     "nothing", "a message", "word of failure", "word of revocation", "an entry into the shrink", "an entry into agreement"};
 
 /* The line of an event. */
-void text_of_event(const struct event *event, char *text, size_t room) {
+void um_text_of_event(const struct event *event, char *text, size_t room) {
     char peer[24] = "", tag[24] = "", comm[24] = "";
     if (event->kind == LOSES) {
         snprintf(text, room, "rank %d loses what %d sent", event->rank, event->peer);
@@ -45,17 +45,17 @@ static bool plan_losses_of_file(void) {
     while (fgets(line, LINE, schedule)) {
         if (sscanf(line, "rank %1d takes of %1d", &to, &from) == 2 && to < MAX_RANKS && from < MAX_RANKS) taken[from][to]++;
         if (sscanf(line, "rank %1d loses what %1d", &to, &from) != 2 || to >= MAX_RANKS || from >= MAX_RANKS) continue;
-        plan_loss(from, to, taken[from][to]);
+        um_plan_loss(from, to, taken[from][to]);
         is_any = true;
     }
     rewind(schedule);
     return is_any;
 }
 
-bool open_schedule(void) {
-    schedule = fopen(options.schedule, "r");
-    if (!schedule) fprintf(stderr, "ulfm-mpirun: %s can't be read\n", options.schedule);
-    return schedule && (!plan_losses_of_file() || begin_search());   /* what was sent is counted by footprints */
+bool um_open_schedule(void) {
+    schedule = fopen(um_options.schedule, "r");
+    if (!schedule) fprintf(stderr, "ulfm-mpirun: %s can't be read\n", um_options.schedule);
+    return schedule && (!plan_losses_of_file() || um_begin_search());   /* what was sent is counted by footprints */
 }
 
 /* The next event of the file; false at its end. */
@@ -72,25 +72,25 @@ static bool read_event(char *line) {
 static void tell_other(const char *line) {
     char text[LINE], place[256];
     int number;
-    fprintf(stderr, "ulfm-mpirun: not the same again: line %d of %s is '%s', but ", line_number, options.schedule, line);
-    if (sscanf(line, "rank %d", &number) != 1 || number < 0 || number >= options.ranks) {
+    fprintf(stderr, "ulfm-mpirun: not the same again: line %d of %s is '%s', but ", line_number, um_options.schedule, line);
+    if (sscanf(line, "rank %d", &number) != 1 || number < 0 || number >= um_options.ranks) {
         fprintf(stderr, "there is no such event\n");
-        end_run(STATUS_OTHER);
+        um_end_run(STATUS_OTHER);
     }
-    const struct rank *rank = &ranks[number];
-    text_of_event(&players[number].call, text, sizeof text);
-    const char *state = players[number].state == WAITS ? "waits" : players[number].state == OVER ? "has ended" : strchr(text + 5, ' ') + 1;
+    const struct rank *rank = &um_ranks[number];
+    um_text_of_event(&um_players[number].call, text, sizeof text);
+    const char *state = um_players[number].state == WAITS ? "waits" : um_players[number].state == OVER ? "has ended" : strchr(text + 5, ' ') + 1;
     const char *call = rank->place.call ? rank->place.call : "its start";
-    fprintf(stderr, "now rank %d %s, in %s%s (call %d)\n", number, state, call, line_of(rank, place, sizeof place), rank->calls);
-    end_run(STATUS_OTHER);
+    fprintf(stderr, "now rank %d %s, in %s%s (call %d)\n", number, state, call, um_line_of(rank, place, sizeof place), rank->calls);
+    um_end_run(STATUS_OTHER);
 }
 
 /* Which of the choices is the next line of the file; -1 at its end. */
-int choose_by_schedule(const struct event *choices, int count) {
+int um_choose_by_schedule(const struct event *choices, int count) {
     char line[LINE], text[LINE];
     if (!read_event(line)) return -1;
     for (int k = 0; k < count; k++) {
-        text_of_event(&choices[k], text, sizeof text);
+        um_text_of_event(&choices[k], text, sizeof text);
         if (!strcmp(line, text)) return k;
     }
     tell_other(line);
@@ -106,25 +106,25 @@ static struct {
 } *kept;
 
 /* Adds an event to those that are kept: they stand in memory that isn't put back. */
-void record(const struct event *event) {
+void um_record(const struct event *event) {
     if (kept && kept->count < MOST_EVENTS) kept->events[kept->count++] = *event;
 }
 
-bool begin_record(void) {
-    if (!kept) kept = shared_memory(sizeof *kept + MOST_EVENTS * sizeof *kept->events);
+bool um_begin_record(void) {
+    if (!kept) kept = um_shared_memory(sizeof *kept + MOST_EVENTS * sizeof *kept->events);
     if (kept) kept->count = 0;
     return kept != 0;
 }
 
 /* Writes the file of a schedule, with the command that it is of. False where it can't be written. */
-bool keep_schedule(const char *path) {
+bool um_keep_schedule(const char *path) {
     char text[LINE];
     FILE *file = fopen(path, "w");
     if (!file) return false;
     fputs("#", file);
-    tell_command(file, 0, options.sends_wait);
+    um_tell_command(file, 0, um_options.sends_wait);
     for (int k = 0; k < kept->count; k++) {
-        text_of_event(&kept->events[k], text, sizeof text);
+        um_text_of_event(&kept->events[k], text, sizeof text);
         fprintf(file, "%s\n", text);
     }
     if (kept->count == MOST_EVENTS) fprintf(file, "# more events weren't kept\n");

@@ -18,33 +18,33 @@ static int heard[MAX_RANKS][MAX_RANKS][CONTEXTS][2];   /* how many of them came 
 static uint8_t known[MAX_RANKS];
 static uint64_t revoked[MAX_RANKS];
 
-void note_entry(int rank, uint32_t comm, bool agrees, uint32_t flag) {
+void um_note_entry(int rank, uint32_t comm, bool agrees, uint32_t flag) {
     struct entries *own = &entries[rank][comm][agrees];
-    if (!grow(&own->at, own->count, sizeof *own->at)) return;
+    if (!um_grow(&own->at, own->count, sizeof *own->at)) return;
     own->at[own->count].flag = flag;
     own->at[own->count++].known = known[rank];
 }
 
-bool knows_failed(int rank, int other) { return known[rank] >> other & 1; }
+bool um_knows_failed(int rank, int other) { return known[rank] >> other & 1; }
 
-void note_revoked(int rank, uint32_t comm) { revoked[rank] |= 1ull << comm; }
+void um_note_revoked(int rank, uint32_t comm) { revoked[rank] |= 1ull << comm; }
 
-bool is_known_revoked(int rank, uint32_t comm) { return revoked[rank] >> comm & 1; }
+bool um_is_known_revoked(int rank, uint32_t comm) { return revoked[rank] >> comm & 1; }
 
 /* A rank takes an item. */
-void note_item(int rank, int from, const ulfm_next_item *item) {
+void um_note_item(int rank, int from, const ulfm_next_item *item) {
     if (item->kind == ULFM_STOP_NOTICE) known[rank] |= (uint8_t)(1u << from);
-    if (item->kind == ULFM_REVOCATION) note_revoked(rank, item->comm);
+    if (item->kind == ULFM_REVOCATION) um_note_revoked(rank, item->comm);
     if (item->kind == ULFM_SHRINK_ENTRY) heard[rank][from][item->comm][false] = 1;
     if (item->kind == ULFM_AGREE_ENTRY) heard[rank][from][item->comm][true] = (int)item->round + 1;
 }
 
 /* What the rank would propose for its last shrink or agreement. */
-struct proposal proposal_of(int rank, uint32_t comm, bool agrees) {
+struct proposal um_proposal_of(int rank, uint32_t comm, bool agrees) {
     ulfm_group group;
     const struct entries *own = &entries[rank][comm][agrees];
     int round = own->count - 1;
-    if (round < 0 || ulfm_group_of(&ranks[rank].home, comm, &group) != ULFM_OK) return (struct proposal){.is_possible = true};
+    if (round < 0 || ulfm_group_of(&um_ranks[rank].home, comm, &group) != ULFM_OK) return (struct proposal){.is_possible = true};
     struct proposal made = {.listed = (uint8_t)(1u << rank), .by_entries = own->at[round].known, .value = own->at[round].flag, .round = round};
     for (uint32_t k = 0; k < group.size; k++) {
         int member = group.members[k];
@@ -61,4 +61,4 @@ struct proposal proposal_of(int rank, uint32_t comm, bool agrees) {
 }
 
 /* Whether it could be decided there now. */
-bool has_heard_all(int rank, uint32_t comm, bool agrees) { return proposal_of(rank, comm, agrees).is_possible; }
+bool um_has_heard_all(int rank, uint32_t comm, bool agrees) { return um_proposal_of(rank, comm, agrees).is_possible; }

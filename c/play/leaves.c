@@ -21,12 +21,12 @@
     va_end(more)
 
 static int opened(int file, const void *from) {
-    if (file >= 0) note_opened(file, from);
+    if (file >= 0) um_note_opened(file, from);
     return file;
 }
 
 static FILE *opened_stream(FILE *file, const void *from) {
-    if (file) note_opened(fileno(file), from);
+    if (file) um_note_opened(fileno(file), from);
     return file;
 }
 
@@ -76,16 +76,16 @@ FILE *tmpfile(void) {
 }
 
 int close(int file) {
-    note_closed(file, FROM);
+    um_note_closed(file, FROM);
     return (int)syscall(SYS_close, file);
 }
 
 void *mmap(void *at, size_t bytes, int access, int flags, int file, off_t from) {
     void *mapped = (void *)syscall(SYS_mmap, at, bytes, access, flags, file, from);
-    if (mapped != MAP_FAILED) note_mapped(mapped, bytes, FROM);
+    if (mapped != MAP_FAILED) um_note_mapped(mapped, bytes, FROM);
     return mapped;
 }
 
 void *mmap64(void *at, size_t bytes, int access, int flags, int file, off_t from) __attribute__((alias("mmap")));
 
-int munmap(void *at, size_t bytes) { return note_unmapped(at, bytes, FROM) ? (int)syscall(SYS_munmap, at, bytes) : 0; }
+int munmap(void *at, size_t bytes) { return um_note_unmapped(at, bytes, FROM) ? (int)syscall(SYS_munmap, at, bytes) : 0; }

@@ -14,66 +14,66 @@ static struct loss {
 
 __typeof__(ulfm_isend) __real_ulfm_isend;
 
-void clear_losses(void) {
+void um_clear_losses(void) {
     for (int from = 0; from < MAX_RANKS; from++)
         for (int to = 0; to < MAX_RANKS; to++) losses[from][to] = (struct loss){0};
 }
 
-void plan_loss(int from, int to, int kept) { losses[from][to] = (struct loss){.kept = kept, .is_planned = true}; }
+void um_plan_loss(int from, int to, int kept) { losses[from][to] = (struct loss){.kept = kept, .is_planned = true}; }
 
 /* Whether what a rank sent may be lost where it stops. */
-bool can_lose(int from) {
+bool um_can_lose(int from) {
     ulfm_group group;
-    return options.limit && !options.no_loss && ulfm_group_of(&ranks[from].home, OF_LETTERS, &group) == ULFM_OK;
+    return um_options.limit && !um_options.no_loss && ulfm_group_of(&um_ranks[from].home, OF_LETTERS, &group) == ULFM_OK;
 }
 
 /* It has stopped. */
-bool may_lose(int from) { return players[from].has_stopped && can_lose(from); }
+bool um_may_lose(int from) { return um_players[from].has_stopped && um_can_lose(from); }
 
 /* Whether a letter that nobody receives is first. */
-bool is_blocked(int from, int to) {
-    const ulfm_next_item *head = &heads[from][to];
+bool um_is_blocked(int from, int to) {
+    const ulfm_next_item *head = &um_heads[from][to];
     return losses[from][to].is_blocked && head->kind == ULFM_MESSAGE && head->comm == OF_LETTERS && head->tag == TAG;
 }
 
 /* What a rank sent went out: nothing more does where the rest is to be lost. */
-void block_rings(int from) {
+void um_block_rings(int from) {
     uint32_t moved;
-    for (int to = 0; to < options.ranks; to++) {
+    for (int to = 0; to < um_options.ranks; to++) {
         struct loss *loss = &losses[from][to];
-        if (!loss->is_planned || loss->is_blocked || count_of_pushed(from, to) < loss->kept) continue;
+        if (!loss->is_planned || loss->is_blocked || um_count_of_pushed(from, to) < loss->kept) continue;
         loss->is_blocked = true;
-        for (int k = 0; k < options.capacity; k++) __real_ulfm_isend(&ranks[from].home, OF_LETTERS, (uint32_t)to, TAG, 0, 0);
-        ulfm_push(&ranks[from].home, &moved);
+        for (int k = 0; k < um_options.capacity; k++) __real_ulfm_isend(&um_ranks[from].home, OF_LETTERS, (uint32_t)to, TAG, 0, 0);
+        ulfm_push(&um_ranks[from].home, &moved);
     }
 }
 
 /* Takes the letters away where they are first. What waits behind them comes. */
-void unblock(int from, int to) {
+void um_unblock(int from, int to) {
     uint32_t moved;
-    if (is_blocked(from, to)) losses[from][to].is_planned = false;
-    while (is_blocked(from, to)) {
-        ulfm_take(&ranks[to].home, (uint32_t)from, &moved);
-        ulfm_push(&ranks[from].home, &moved);
-        ulfm_next(&ranks[to].home, (uint32_t)from, &heads[from][to]);
+    if (um_is_blocked(from, to)) losses[from][to].is_planned = false;
+    while (um_is_blocked(from, to)) {
+        ulfm_take(&um_ranks[to].home, (uint32_t)from, &moved);
+        ulfm_push(&um_ranks[from].home, &moved);
+        ulfm_next(&um_ranks[to].home, (uint32_t)from, &um_heads[from][to]);
     }
 }
 
 /* Plans a loss by chance, for a schedule that is the one that was played up to its stops: of what wasn't taken there. False: nothing can be lost. */
-bool choose_losses(int kept[MAX_RANKS][MAX_RANKS]) {
+bool um_choose_losses(int kept[MAX_RANKS][MAX_RANKS]) {
     bool is_any = false;
-    for (int from = 0; from < options.ranks; from++)
-        for (int to = 0; to < options.ranks; to++) {
-            int taken, sent = count_at_stop(from, to, &taken);
-            bool is_lost = may_lose(from) && sent > taken && choose_by_chance(2);
-            kept[from][to] = is_lost ? taken + choose_by_chance(sent - taken) : -1;
+    for (int from = 0; from < um_options.ranks; from++)
+        for (int to = 0; to < um_options.ranks; to++) {
+            int taken, sent = um_count_at_stop(from, to, &taken);
+            bool is_lost = um_may_lose(from) && sent > taken && um_choose_by_chance(2);
+            kept[from][to] = is_lost ? taken + um_choose_by_chance(sent - taken) : -1;
             is_any = is_any || is_lost;
         }
     return is_any;
 }
 
-void plan_losses(int kept[MAX_RANKS][MAX_RANKS]) {
-    for (int from = 0; from < options.ranks; from++)
-        for (int to = 0; to < options.ranks; to++)
-            if (kept[from][to] >= 0) plan_loss(from, to, kept[from][to]);
+void um_plan_losses(int kept[MAX_RANKS][MAX_RANKS]) {
+    for (int from = 0; from < um_options.ranks; from++)
+        for (int to = 0; to < um_options.ranks; to++)
+            if (kept[from][to] >= 0) um_plan_loss(from, to, kept[from][to]);
 }

@@ -47,28 +47,28 @@ static unsigned long count_pages(void) {
     return strtoul(text, 0, 10);
 }
 
-bool begin_outside(void) { return (outside = shared_memory(sizeof *outside)) != 0; }
+bool um_begin_outside(void) { return (outside = um_shared_memory(sizeof *outside)) != 0; }
 
 /* ---- What a rank does (leaves.c) ---- */
 
-static bool is_noted(void) { return outside && outside->is_begun && me; }
+static bool is_noted(void) { return outside && outside->is_begun && um_me; }
 
-static struct call_of present_call(const void *from) { return (struct call_of){from, me->number}; }
+static struct call_of present_call(const void *from) { return (struct call_of){from, um_me->number}; }
 
-void note_opened(int file, const void *from) {
+void um_note_opened(int file, const void *from) {
     if (is_noted() && file < FILES) outside->opened[file] = present_call(from);
 }
 
-void note_closed(int file, const void *from) {
+void um_note_closed(int file, const void *from) {
     if (is_noted() && file >= 0 && file < FILES) outside->closed[file] = present_call(from);
 }
 
-void note_mapped(void *at, size_t bytes, const void *from) {
+void um_note_mapped(void *at, size_t bytes, const void *from) {
     if (is_noted() && outside->mapping_count < MAPPINGS) outside->mappings[outside->mapping_count++] = (struct mapping){at, bytes, present_call(from)};
 }
 
 /* Whether it may be unmapped: what was there before stays, since it is put back. */
-bool note_unmapped(void *at, size_t bytes, const void *from) {
+bool um_note_unmapped(void *at, size_t bytes, const void *from) {
     if (!is_noted()) return true;
     for (int k = 0; k < outside->mapping_count; k++) {
         const struct mapping *mapping = &outside->mappings[k];
@@ -76,14 +76,14 @@ bool note_unmapped(void *at, size_t bytes, const void *from) {
         if (bytes >= mapping->bytes) outside->mappings[k] = outside->mappings[--outside->mapping_count];
         return true;
     }
-    tell_left("unmaps memory", present_call(from));
+    um_tell_left("unmaps memory", present_call(from));
     return false;
 }
 
 /* ---- What is left ---- */
 
 /* Notes how it stands when memory was kept. */
-void note_outside(void) {
+void um_note_outside(void) {
     for (int k = 0; k < FILES; k++) {
         outside->is_open[k] = fcntl(k, F_GETFD) >= 0;
         if (!outside->is_open[k]) continue;
@@ -100,8 +100,8 @@ static const struct call_of not_known = {0, -1};
 
 static void put_back_places(void) {
     for (int k = 0; k < outside->files; k++) {
-        if (k == options.report || !outside->is_open[k] || outside->at[k] < 0 || lseek(k, 0, SEEK_CUR) == outside->at[k] || fcntl(k, F_GETFD) < 0) continue;
-        tell_left(k == 0 ? "reads input" : "reads or writes a file that was open before", not_known);
+        if (k == um_options.report || !outside->is_open[k] || outside->at[k] < 0 || lseek(k, 0, SEEK_CUR) == outside->at[k] || fcntl(k, F_GETFD) < 0) continue;
+        um_tell_left(k == 0 ? "reads input" : "reads or writes a file that was open before", not_known);
         lseek(k, outside->at[k], SEEK_SET);
     }
 }
@@ -112,7 +112,7 @@ static void put_back_files(void) {
     for (int k = 0; k < FILES; k++) {
         bool is_open = fcntl(k, F_GETFD) >= 0;
         if (is_open == outside->is_open[k]) continue;
-        tell_left(is_open ? "leaves a file open" : "closes a file that was open before", is_open ? outside->opened[k] : outside->closed[k]);
+        um_tell_left(is_open ? "leaves a file open" : "closes a file that was open before", is_open ? outside->opened[k] : outside->closed[k]);
         if (is_open) close(k);
     }
 }
@@ -120,24 +120,24 @@ static void put_back_files(void) {
 static void put_back_mappings(void) {
     static const char what[] = "leaves memory mapped";
     for (int k = 0; k < outside->mapping_count; k++) {
-        tell_left(what, outside->mappings[k].call);
+        um_tell_left(what, outside->mappings[k].call);
         munmap(outside->mappings[k].at, outside->mappings[k].bytes);
     }
     outside->mapping_count = 0;
-    if (count_pages() != outside->pages) tell_left(what, not_known);
+    if (count_pages() != outside->pages) um_tell_left(what, not_known);
 }
 
 static void put_back_signals(void) {
     struct sigaction action;
     for (int k = 1; k <= SIGNALS; k++) {
         if (sigaction(k, 0, &action) || action.sa_handler == outside->actions[k].sa_handler) continue;
-        tell_left("changes what a signal does", not_known);
+        um_tell_left("changes what a signal does", not_known);
         sigaction(k, &outside->actions[k], 0);
     }
 }
 
 /* When memory was put back. */
-void put_back_outside(void) {
+void um_put_back_outside(void) {
     put_back_files();
     put_back_signals();
     put_back_mappings();

@@ -42,109 +42,109 @@ struct player {
     uint64_t looks[LOOKS];    /* what it looked at since something came; 0: nothing */
     int look_count;
 };
-extern struct player players[MAX_RANKS];
+extern struct player um_players[MAX_RANKS];
 
 /* played.c */
-int play(void);
-void fix_addresses(char **words);
-void set_alarm(void);
-void end_schedule(int status);
+int um_play(void);
+void um_fix_addresses(char **words);
+void um_set_alarm(void);
+void um_end_schedule(int status);
 
 /* controller.c */
-void wait_as_played(bool (*is_done)(void *, bool is_settled), void *of);
-void look_as_played(void);
+void um_wait_as_played(bool (*is_done)(void *, bool is_settled), void *of);
+void um_look_as_played(void);
 
 /* context.c */
-bool make_context(int rank);
-void resume(int rank);
-void to_controller(void);
-void stack_of(int rank, char **low, char **used, char **high);
-bool has_valgrind(void);
-bool is_looked_at(void);
+bool um_make_context(int rank);
+void um_resume(int rank);
+void um_to_controller(void);
+void um_stack_of(int rank, char **low, char **used, char **high);
+bool um_has_valgrind(void);
+bool um_is_looked_at(void);
 
 /* choice.c */
-bool looks_again(struct player *player);
-void forget_looks(struct player *player);
+bool um_looks_again(struct player *player);
+void um_forget_looks(struct player *player);
 
 /* heard.c */
-void note_entry(int rank, uint32_t comm, bool agrees, uint32_t flag);
-void note_revoked(int rank, uint32_t comm);
-void note_item(int rank, int from, const ulfm_next_item *item);
-bool knows_failed(int rank, int other);
-bool is_known_revoked(int rank, uint32_t comm);
-bool has_heard_all(int rank, uint32_t comm, bool agrees);
+void um_note_entry(int rank, uint32_t comm, bool agrees, uint32_t flag);
+void um_note_revoked(int rank, uint32_t comm);
+void um_note_item(int rank, int from, const ulfm_next_item *item);
+bool um_knows_failed(int rank, int other);
+bool um_is_known_revoked(int rank, uint32_t comm);
+bool um_has_heard_all(int rank, uint32_t comm, bool agrees);
 
 /* controller.c */
-extern ulfm_next_item heads[MAX_RANKS][MAX_RANKS];   /* what is first, from each rank to each */
-int list_choices(struct event *choices);
-void settle(void);
-void look_ahead(int from);
-void perform(const struct event *event);
+extern ulfm_next_item um_heads[MAX_RANKS][MAX_RANKS];   /* what is first, from each rank to each */
+int um_list_choices(struct event *choices);
+void um_settle(void);
+void um_look_ahead(int from);
+void um_perform(const struct event *event);
 enum { MOST_CHOICES = MAX_RANKS * (MAX_RANKS + 1) };
 
 /* played.c */
-void begin_chance(uint64_t seed);
-int choose_by_chance(int count);
-bool begin_ranks(void);
-int play_once(void);
+void um_begin_chance(uint64_t seed);
+int um_choose_by_chance(int count);
+bool um_begin_ranks(void);
+int um_play_once(void);
 
 /* losses.c */
-void clear_losses(void);
-void plan_loss(int from, int to, int kept);
-bool can_lose(int from);
-bool may_lose(int from);
-bool is_blocked(int from, int to);
-void block_rings(int from);
-void unblock(int from, int to);
-bool choose_losses(int kept[MAX_RANKS][MAX_RANKS]);
-void plan_losses(int kept[MAX_RANKS][MAX_RANKS]);
+void um_clear_losses(void);
+void um_plan_loss(int from, int to, int kept);
+bool um_can_lose(int from);
+bool um_may_lose(int from);
+bool um_is_blocked(int from, int to);
+void um_block_rings(int from);
+void um_unblock(int from, int to);
+bool um_choose_losses(int kept[MAX_RANKS][MAX_RANKS]);
+void um_plan_losses(int kept[MAX_RANKS][MAX_RANKS]);
 
 /* snapshot.c */
-void *shared_memory(size_t bytes);
-bool take_snapshot(void);
-void put_back(void);
+void *um_shared_memory(size_t bytes);
+bool um_take_snapshot(void);
+void um_put_back(void);
 
 /* outside.c */
-bool begin_outside(void);
-void note_opened(int file, const void *from);
-void note_closed(int file, const void *from);
-void note_mapped(void *at, size_t bytes, const void *from);
-bool note_unmapped(void *at, size_t bytes, const void *from);
-void note_outside(void);
-void put_back_outside(void);
+bool um_begin_outside(void);
+void um_note_opened(int file, const void *from);
+void um_note_closed(int file, const void *from);
+void um_note_mapped(void *at, size_t bytes, const void *from);
+bool um_note_unmapped(void *at, size_t bytes, const void *from);
+void um_note_outside(void);
+void um_put_back_outside(void);
 
 /* explore.c */
-int explore(void);
-bool is_searching(void);
+int um_explore(void);
+bool um_is_searching(void);
 
 /* seeds.c */
-bool note_report(const char *line, size_t length);
-bool stop_soon(void);
-int play_seeds(void);
-void refuse_seeds(const char *why) __attribute__((noreturn));
+bool um_note_report(const char *line, size_t length);
+bool um_stop_soon(void);
+int um_play_seeds(void);
+void um_refuse_seeds(const char *why) __attribute__((noreturn));
 
 /* events.c */
-void text_of_event(const struct event *event, char *text, size_t room);
-bool open_schedule(void);
-int choose_by_schedule(const struct event *choices, int count);
-bool begin_record(void);
-void record(const struct event *event);
-bool keep_schedule(const char *path);
+void um_text_of_event(const struct event *event, char *text, size_t room);
+bool um_open_schedule(void);
+int um_choose_by_schedule(const struct event *choices, int count);
+bool um_begin_record(void);
+void um_record(const struct event *event);
+bool um_keep_schedule(const char *path);
 
 /* draw.c */
-bool begin_drawing(void);
-void note_drawn(const struct event *event);
-bool draw_schedule(const char *path);
+bool um_begin_drawing(void);
+void um_note_drawn(const struct event *event);
+bool um_draw_schedule(const char *path);
 
 /* unfollowed.c */
-void meet_thread(const void *from);
+void um_meet_thread(const void *from);
 struct call_of {
     const void *from;   /* an address in the program; null: not known */
     int rank;
 };
-bool begin_notes(void);
-void tell_unfollowed(const char *what, const void *from);
-void tell_left(const char *what, struct call_of call);
-void tell_notes(FILE *to);
+bool um_begin_notes(void);
+void um_tell_unfollowed(const char *what, const void *from);
+void um_tell_left(const char *what, struct call_of call);
+void um_tell_notes(FILE *to);
 
 #endif

@@ -8,13 +8,13 @@
 
 static void play_seed(uint64_t seed, bool is_apart) {
     int which, bad = 0;
-    begin_chance(seed);
-    play_next(is_apart);
-    if (count_ending(seed, &which) && tally->endings[which].outcome != RIGHT) {
-        for (int k = 0; k < tally->count; k++) bad += tally->endings[k].outcome != RIGHT;
-        if (options.keep && bad == 1) keep_schedule(options.keep);
+    um_begin_chance(seed);
+    um_play_next(is_apart);
+    if (um_count_ending(seed, &which) && um_tally->endings[which].outcome != RIGHT) {
+        for (int k = 0; k < um_tally->count; k++) bad += um_tally->endings[k].outcome != RIGHT;
+        if (um_options.keep && bad == 1) um_keep_schedule(um_options.keep);
     }
-    put_all_back(is_apart);
+    um_put_all_back(is_apart);
 }
 
 static int compare_endings(const void *a, const void *b) {
@@ -24,35 +24,35 @@ static int compare_endings(const void *a, const void *b) {
 
 static int tell_tally(void) {
     long right = 0;
-    qsort(tally->endings, (size_t)tally->count, sizeof *tally->endings, compare_endings);
+    qsort(um_tally->endings, (size_t)um_tally->count, sizeof *um_tally->endings, compare_endings);
     printf("%-10s %s\n", "schedules", "what came out");
-    for (int k = 0; k < tally->count; k++) {
-        const struct ending *ending = &tally->endings[k];
-        printf("%-10ld %s%s\n", ending->count, words_of_outcome(ending->outcome), ending->why);
-        options.seed = ending->seed;
+    for (int k = 0; k < um_tally->count; k++) {
+        const struct ending *ending = &um_tally->endings[k];
+        printf("%-10ld %s%s\n", ending->count, um_words_of_outcome(ending->outcome), ending->why);
+        um_options.seed = ending->seed;
         if (ending->outcome == RIGHT) right += ending->count;
-        else tell_command(stdout, 0, options.sends_wait);
+        else um_tell_command(stdout, 0, um_options.sends_wait);
     }
-    printf("%ld of %ld schedules right\n", right, tally->played);
+    printf("%ld of %ld schedules right\n", right, um_tally->played);
     fflush(stdout);
-    tell_notes(stderr);
-    return right == tally->played ? 0 : 1;
+    um_tell_notes(stderr);
+    return right == um_tally->played ? 0 : 1;
 }
 
 /* The program does what can't be put back. */
-void refuse_seeds(const char *why) {
-    unmute();
-    tell_notes(stderr);
+void um_refuse_seeds(const char *why) {
+    um_unmute();
+    um_tell_notes(stderr);
     fprintf(stderr, "ulfm-mpirun: %s\n", why);
-    remove_copies();
-    leave_process(STATUS_USAGE);
+    um_remove_copies();
+    um_leave_process(STATUS_USAGE);
 }
 
-int play_seeds(void) {
-    uint64_t first = options.seed ? options.seed : 1;
-    bool is_apart = is_looked_at();
-    if (!begin_tally() || !begin_many(is_apart)) refuse_seeds("no memory for the ranks");
-    for (long k = 0; k < options.seeds && !tally->is_over; k++) play_seed(first + (uint64_t)k, is_apart);
-    unmute();
+int um_play_seeds(void) {
+    uint64_t first = um_options.seed ? um_options.seed : 1;
+    bool is_apart = um_is_looked_at();
+    if (!um_begin_tally() || !um_begin_many(is_apart)) um_refuse_seeds("no memory for the ranks");
+    for (long k = 0; k < um_options.seeds && !um_tally->is_over; k++) play_seed(first + (uint64_t)k, is_apart);
+    um_unmute();
     return tell_tally();
 }

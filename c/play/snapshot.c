@@ -36,7 +36,7 @@ struct scan {
 #define SCAN_PAGES _IOWR('f', 16, struct scan)
 enum { WRITTEN = 2, TELLS_WRITES = 1 << 15, KNOWS_EMPTY = 1 << 13, IN_USER_MODE = 1 };
 
-void *shared_memory(size_t bytes) {
+void *um_shared_memory(size_t bytes) {
     void *made = mmap(0, bytes, PROT_READ | PROT_WRITE, MAP_SHARED | MAP_ANONYMOUS | MAP_NORESERVE, -1, 0);
     return made == MAP_FAILED ? 0 : made;
 }
@@ -63,7 +63,7 @@ static bool is_zero(const char *bytes, size_t count) { return *bytes == 0 && mem
 static void save(char *from, char *to) {
     if (from >= to) return;
     struct region *region = &snapshot->regions[snapshot->count];
-    *region = (struct region){.from = from, .bytes = (size_t)(to - from), .saved = shared_memory((size_t)(to - from))};
+    *region = (struct region){.from = from, .bytes = (size_t)(to - from), .saved = um_shared_memory((size_t)(to - from))};
     snapshot->is_whole = snapshot->is_whole && region->saved && snapshot->count < MOST_REGIONS - 1;
     if (!snapshot->is_whole) return;
     snapshot->count++;
@@ -75,9 +75,9 @@ static void save(char *from, char *to) {
 
 /* Saves a mapping; of the stack of a rank what is in use. */
 static void save_mapping(char *from, char *to) {
-    for (int k = 0; k < options.ranks; k++) {
+    for (int k = 0; k < um_options.ranks; k++) {
         char *low, *used, *high;
-        stack_of(k, &low, &used, &high);
+        um_stack_of(k, &low, &used, &high);
         if (low < from || low >= to) continue;
         save_mapping(from, low);
         save(used, high);
@@ -98,8 +98,8 @@ static bool read_maps(void) {
 }
 
 /* Keeps all memory. False where that can't be. */
-bool take_snapshot(void) {
-    snapshot = shared_memory(sizeof *snapshot);
+bool um_take_snapshot(void) {
+    snapshot = um_shared_memory(sizeof *snapshot);
     if (!snapshot) return false;
     open_watcher();
     snapshot->end_of_heap = (void *)syscall(SYS_brk, 0);
@@ -140,7 +140,7 @@ static bool put_back_written(const struct region *region) {
     return true;
 }
 
-void put_back(void) {
+void um_put_back(void) {
     if ((void *)syscall(SYS_brk, 0) != snapshot->end_of_heap) syscall(SYS_brk, snapshot->end_of_heap);
     for (int k = 0; k < snapshot->count; k++) {
         const struct region *region = &snapshot->regions[k];

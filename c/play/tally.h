@@ -27,12 +27,12 @@ struct tally {
 };
 
 /* tally.c */
-extern struct tally *tally;   /* null where one schedule is played */
-bool begin_tally(void);
-bool play_next(bool is_apart);
-bool count_ending(uint64_t seed, int *which);
-void put_all_back(bool is_apart);
-bool begin_many(bool is_apart);
-void unmute(void);
+extern struct tally *um_tally;   /* null where one schedule is played */
+bool um_begin_tally(void);
+bool um_play_next(bool is_apart);
+bool um_count_ending(uint64_t seed, int *which);
+void um_put_all_back(bool is_apart);
+bool um_begin_many(bool is_apart);
+void um_unmute(void);
 
 #endif

@@ -12,7 +12,7 @@
 #include <unistd.h>
 
 #define REAL(name) static __typeof__(name) *real_##name;  if (!real_##name) real_##name = (__typeof__(name) *)dlsym(RTLD_NEXT, #name)
-#define TELL(what) tell_unfollowed(what, __builtin_return_address(0))
+#define TELL(what) um_tell_unfollowed(what, __builtin_return_address(0))
 
 enum { MOST_NOTES = 32 };
 
@@ -23,16 +23,16 @@ static struct notes {
     char text[MOST_NOTES][240];
 } *notes;
 
-bool begin_notes(void) { return (notes = shared_memory(sizeof *notes)) != 0; }
+bool um_begin_notes(void) { return (notes = um_shared_memory(sizeof *notes)) != 0; }
 
-void tell_notes(FILE *to) {
+void um_tell_notes(FILE *to) {
     for (int k = 0; k < notes->count; k++) fputs(notes->text[k], to);
 }
 
 /* Room for a note on something; null where there is one, or where it is of a sanitizer. */
 static char *new_note(const char *what, const void *from) {
     Dl_info info;
-    if (!is_played || (from && dladdr(from, &info) && strstr(info.dli_fname, "san.so"))) return 0;
+    if (!um_is_played || (from && dladdr(from, &info) && strstr(info.dli_fname, "san.so"))) return 0;
     for (int k = 0; k < notes->count; k++)
         if (!strcmp(notes->what[k], what)) return 0;
     if (notes->count == MOST_NOTES) return 0;
@@ -41,18 +41,18 @@ static char *new_note(const char *what, const void *from) {
 }
 
 /* A rank does it: told where it is met, or where many schedules are played below their table. */
-void tell_unfollowed(const char *what, const void *from) {
-    char line[120], *text = me ? new_note(what, from) : 0;
+void um_tell_unfollowed(const char *what, const void *from) {
+    char line[120], *text = um_me ? new_note(what, from) : 0;
     if (!text) return;
-    snprintf(text, sizeof *notes->text, "ulfm-mpirun: rank %d %s%s: that isn't followed, so another run of this schedule may differ\n", me->number, what,
-             line_before(from, line, sizeof line));
-    if (!(options.seeds || options.limit)) fputs(text, stderr);
+    snprintf(text, sizeof *notes->text, "ulfm-mpirun: rank %d %s%s: that isn't followed, so another run of this schedule may differ\n", um_me->number, what,
+             um_line_before(from, line, sizeof line));
+    if (!(um_options.seeds || um_options.limit)) fputs(text, stderr);
 }
 
 /* It is what is left when a schedule of many is over. */
-void tell_left(const char *what, struct call_of call) {
+void um_tell_left(const char *what, struct call_of call) {
     char line[120], by[160] = "", *text = new_note(what, call.from);
-    if (call.from) snprintf(by, sizeof by, ", by rank %d%s", call.rank, line_before(call.from, line, sizeof line));
+    if (call.from) snprintf(by, sizeof by, ", by rank %d%s", call.rank, um_line_before(call.from, line, sizeof line));
     if (text) snprintf(text, sizeof *notes->text, "ulfm-mpirun: a schedule %s%s: that isn't followed, so the next ones may differ\n", what, by);
 }
 
@@ -85,7 +85,7 @@ pid_t fork(void) {
     REAL(fork);
     TELL("begins a process");
     pid_t pid = real_fork();
-    if (pid == 0 && me) is_played = false;
+    if (pid == 0 && um_me) um_is_played = false;
     return pid;
 }
 
@@ -96,9 +96,9 @@ int system(const char *command) {
 }
 
 /* A rank begins a thread (threads.c). */
-void meet_thread(const void *from) {
-    tell_unfollowed("begins a thread", from);
-    if (is_played && me && (options.seeds || options.limit)) refuse_seeds("a program with further threads is played once, by --seed");
+void um_meet_thread(const void *from) {
+    um_tell_unfollowed("begins a thread", from);
+    if (um_is_played && um_me && (um_options.seeds || um_options.limit)) um_refuse_seeds("a program with further threads is played once, by --seed");
 }
 
 /* ---- Input ---- */

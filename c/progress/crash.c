@@ -12,7 +12,7 @@
 
 enum { FRAMES = 64, GUARD = 1 << 20, PAGE = 4096 };
 
-volatile sig_atomic_t is_crashed;
+volatile sig_atomic_t um_is_crashed;
 static pthread_t crashed_thread;
 
 /* Where a crash is in the program, and the library that the program called there, if it isn't one of the system. */
@@ -54,7 +54,7 @@ static void find_spot(const struct rank *rank, void *at, struct spot_of_crash *s
     for (int k = first < count ? first : 0; k < count; k++) {
         if (!dladdr(frames[k], &info) || !info.dli_fname) continue;
         if (rank->path && !strcmp(info.dli_fname, rank->path)) {
-            line_before((char *)frames[k] + (frames[k] == at), spot->line, sizeof spot->line);
+            um_line_before((char *)frames[k] + (frames[k] == at), spot->line, sizeof spot->line);
             return;
         }
         if (!spot->library && is_shared_library(info.dli_fname)) spot->library = info.dli_fname;
@@ -71,37 +71,37 @@ static const char *words_of_signal(int number, const struct rank *rank, const ch
 static void crashed(int number, siginfo_t *told, void *context) {
     char line[512];
     struct spot_of_crash spot = {"", 0};
-    const struct rank *rank = me ? me : owner;
+    const struct rank *rank = um_me ? um_me : um_owner;
     int length = 0;
-    if (!is_launcher()) end_child(number);
-    bool is_first = !is_crashed;
+    if (!um_is_launcher()) end_child(number);
+    bool is_first = !um_is_crashed;
     if (!is_first && !pthread_equal(crashed_thread, pthread_self())) for (;;) pause();
     crashed_thread = pthread_self();
-    is_crashed = 1;
-    if (is_first && rank && !options.seeds && !options.limit) find_spot(rank, address_of(context), &spot);
-    const char *words = words_of_signal(number, me, told->si_addr);
+    um_is_crashed = 1;
+    if (is_first && rank && !um_options.seeds && !um_options.limit) find_spot(rank, address_of(context), &spot);
+    const char *words = words_of_signal(number, um_me, told->si_addr);
     if (!rank) length = snprintf(line, sizeof line, "ulfm-mpirun: crashed by signal %d (%s)\n", number, words);
-    else if (!me) length = snprintf(line, sizeof line, "ulfm-mpirun: a further thread of rank %d crashed by signal %d (%s)%s\n", rank->number, number, words, spot.line);
+    else if (!um_me) length = snprintf(line, sizeof line, "ulfm-mpirun: a further thread of rank %d crashed by signal %d (%s)%s\n", rank->number, number, words, spot.line);
     else
         length = snprintf(line, sizeof line, "ulfm-mpirun: rank %d crashed by signal %d (%s)%s, in or after %s (call %d)\n", rank->number, number, words, spot.line,
                           rank->place.call ? rank->place.call : "its start", rank->calls);
-    if (spot.library && options.ranks > 1)
+    if (spot.library && um_options.ranks > 1)
         length += snprintf(line + length, sizeof line - (size_t)length,
                            "ulfm-mpirun: it was in %.200s, whose variables all ranks share: linked statically, each rank has its own\n", spot.library);
     if (write(2, line, (size_t)length) < 0) length = 0;
-    report("crash %d %d\n", rank ? rank->number : -1, number);
-    if (is_first) write_rests(false);
-    if (!is_played) remove_copies();
-    if (!is_played) signal(number, SIG_DFL);
-    end_run(128 + number);
+    um_report("crash %d %d\n", rank ? rank->number : -1, number);
+    if (is_first) um_write_rests(false);
+    if (!um_is_played) um_remove_copies();
+    if (!um_is_played) signal(number, SIG_DFL);
+    um_end_run(128 + number);
 }
 
 /* The run is ended from outside. */
 static void ended(int number) {
-    if (!is_launcher()) end_child(number);
-    if (stop_soon()) return;
-    is_crashed = 1;   /* the copies go, which a rank may be about to load */
-    end_run(128 + number);
+    if (!um_is_launcher()) end_child(number);
+    if (um_stop_soon()) return;
+    um_is_crashed = 1;   /* the copies go, which a rank may be about to load */
+    um_end_run(128 + number);
 }
 
 static void handle(int number, struct sigaction action) {
@@ -110,7 +110,7 @@ static void handle(int number, struct sigaction action) {
     if (sigaction(number, 0, &old) == 0 && !(old.sa_flags & SA_SIGINFO) && old.sa_handler == SIG_DFL) sigaction(number, &action, 0);
 }
 
-void handle_signals(void) {
+void um_handle_signals(void) {
     static const int crashes[] = {SIGSEGV, SIGBUS, SIGFPE, SIGILL, SIGABRT};
     static const int ends[] = {SIGINT, SIGTERM, SIGHUP, SIGQUIT, SIGPIPE, SIGALRM, SIGUSR1, SIGUSR2, SIGVTALRM, SIGPROF, SIGXCPU, SIGXFSZ};
     void *frame;
@@ -120,4 +120,4 @@ void handle_signals(void) {
 }
 
 /* Whether a signal's handler is the launcher's, and not the program's. */
-bool is_own_handler(const struct sigaction *action) { return action->sa_flags & SA_SIGINFO ? action->sa_sigaction == crashed : action->sa_handler == ended; }
+bool um_is_own_handler(const struct sigaction *action) { return action->sa_flags & SA_SIGINFO ? action->sa_sigaction == crashed : action->sa_handler == ended; }

@@ -19,7 +19,7 @@ static uint32_t missing_from(const struct rank *waiting) {
     bool agrees = !strcmp(place->call, "MPIX_Comm_agree");
     if (!place->comm || (strcmp(place->call, "MPIX_Comm_shrink") && !agrees)) return 0;
     for (int k = 0; k < place->comm->size; k++) {
-        const struct rank *rank = &ranks[place->comm->members[k]];
+        const struct rank *rank = &um_ranks[place->comm->members[k]];
         uint32_t context = place->comm->context, first = place->comm->chain->plane[0].context;
         bool is_there = rank->place.call == place->call && rank->place.comm && rank->place.comm->chain->plane[0].context == first;
         if (agrees) is_there = atomic_load(&rank->agreed[context]) >= atomic_load(&waiting->agreed[context]);
@@ -37,7 +37,7 @@ static void tell_peer(const struct rank *rank, char *text, size_t room) {
     else if (place->peer >= 0) used += snprintf(text + used, room - used, " with %d", place->peer);
     if (place->tag == MPI_ANY_TAG && place->peer != MPI_UNDEFINED) used += snprintf(text + used, room - used, " any tag");
     else if (place->tag >= 0) used += snprintf(text + used, room - used, " tag %d", place->tag);
-    for (int k = 0; k < options.ranks; k++)
+    for (int k = 0; k < um_options.ranks; k++)
         if (waits_for >> k & 1) used += snprintf(text + used, room - used, "%s %d", used ? "," : " for rank", k);
 }
 
@@ -52,19 +52,19 @@ static uint32_t known_by(struct rank *rank) {
     return bits;
 }
 
-void note_failures(void) {
-    if (is_played) return;
-    uint32_t bits = known_by(me);
-    atomic_store(&me->known, bits);
-    me->known_count = __builtin_popcount(bits);
+void um_note_failures(void) {
+    if (um_is_played) return;
+    uint32_t bits = known_by(um_me);
+    atomic_store(&um_me->known, bits);
+    um_me->known_count = __builtin_popcount(bits);
 }
 
 /* What a rank knows of failures when the time is over. */
 static const char *failures_of(struct rank *rank, char *text, size_t room) {
-    uint32_t bits = is_played ? known_by(rank) : atomic_load(&rank->known);
+    uint32_t bits = um_is_played ? known_by(rank) : atomic_load(&rank->known);
     size_t used = 0;
     *text = 0;
-    for (int k = 0; k < options.ranks; k++)
+    for (int k = 0; k < um_options.ranks; k++)
         if (bits >> k & 1) used += (size_t)snprintf(text + used, room - used, "%s %d", used ? "," : " (knows that", k);
     if (used) snprintf(text + used, room - used, " failed%s)", rank->is_told ? "" : ", and no call told it");
     return text;
@@ -74,7 +74,7 @@ static void tell_place(struct rank *rank, bool is_late) {
     char line[256], name[128], peer[128] = "", failures[96] = "";
     const struct place *place = &rank->place;
     fprintf(stderr, "  rank %d: ", rank->number);
-    line_of(rank, line, sizeof line);
+    um_line_of(rank, line, sizeof line);
     if (rank->has_stopped) {
         fprintf(stderr, "stopped%s, %s %s%s (call %d)\n", rank->is_planned ? " by plan" : "", rank->is_planned ? "in" : "after",
                 place->call ? place->call : "its start", line, rank->calls);
@@ -85,30 +85,30 @@ static void tell_place(struct rank *rank, bool is_late) {
         return;
     }
     if (is_late) failures_of(rank, failures, sizeof failures);
-    report("at %d %s%s\n", rank->number, place->call, failures);
+    um_report("at %d %s%s\n", rank->number, place->call, failures);
     tell_peer(rank, peer, sizeof peer);
     fprintf(stderr, "%s %s%s%s%s (call %d)%s\n", rank->loops ? "loops over" : rank->idle ? "waits in" : "runs, after", place->call, peer,
             name_of(place->comm, name, sizeof name), line, rank->calls, failures);
 }
 
-void tell_places(bool is_late) {
-    for (int k = 0; k < options.ranks; k++) tell_place(&ranks[k], is_late);
+void um_tell_places(bool is_late) {
+    for (int k = 0; k < um_options.ranks; k++) tell_place(&um_ranks[k], is_late);
 }
 
 /* What ends the run is told once: who comes second waits for that end. */
-void begin_report(void) {
+void um_begin_report(void) {
     static pthread_mutex_t lock = PTHREAD_MUTEX_INITIALIZER;
     pthread_mutex_lock(&lock);
 }
 
 /* Nobody can move: says so, and ends the run. */
-void tell_stuck(void) {
-    begin_report();
+void um_tell_stuck(void) {
+    um_begin_report();
     fprintf(stderr, "ulfm-mpirun: nobody can move any more:\n");
-    tell_places(false);
-    write_rests(true);
+    um_tell_places(false);
+    um_write_rests(true);
     bool loops = false;
-    for (int k = 0; k < options.ranks; k++) loops = loops || ranks[k].loops;
-    report(loops ? "loops\n" : "stuck\n");
-    end_run(STATUS_STUCK);
+    for (int k = 0; k < um_options.ranks; k++) loops = loops || um_ranks[k].loops;
+    um_report(loops ? "loops\n" : "stuck\n");
+    um_end_run(STATUS_STUCK);
 }

@@ -37,7 +37,7 @@ static void ask(const char *file, const char *offset, char *line, size_t room) {
 }
 
 /* " at FILE:LINE" of the call before an address, or "" where that isn't known. */
-char *line_before(const void *at, char *text, size_t room) {
+char *um_line_before(const void *at, char *text, size_t room) {
     char line[256], offset[32];
     Dl_info info;
     *text = 0;
@@ -49,4 +49,4 @@ char *line_before(const void *at, char *text, size_t room) {
 }
 
 /* That of the rank's present call; of many schedules it isn't wanted. */
-char *line_of(const struct rank *rank, char *text, size_t room) { return line_before(options.seeds || options.limit ? 0 : rank->place.from, text, room); }
+char *um_line_of(const struct rank *rank, char *text, size_t room) { return um_line_before(um_options.seeds || um_options.limit ? 0 : rank->place.from, text, room); }

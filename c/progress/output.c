@@ -13,7 +13,7 @@
 static pthread_mutex_t lock = PTHREAD_MUTEX_INITIALIZER, closing = PTHREAD_MUTEX_INITIALIZER;
 
 /* Whether lines stay whole, though a program flushes parts: each has a tag, or they are compared. */
-static bool keeps_lines(void) { return options.tag || options.report >= 0; }
+static bool keeps_lines(void) { return um_options.tag || um_options.report >= 0; }
 
 static void write_all(const char *bytes, size_t length) {
     while (length) {
@@ -28,7 +28,7 @@ static void write_all(const char *bytes, size_t length) {
 static void hand_on(struct rank *rank) {
     char tag[16];
     pthread_mutex_lock(&lock);
-    if (options.tag) write_all(tag, snprintf(tag, sizeof tag, "[%d] ", rank->number));
+    if (um_options.tag) write_all(tag, snprintf(tag, sizeof tag, "[%d] ", rank->number));
     write_all(rank->line, rank->line_length);
     pthread_mutex_unlock(&lock);
     rank->line_length = 0;
@@ -55,7 +55,7 @@ static ssize_t take(void *of, const char *bytes, size_t length) {
     return (ssize_t)length;
 }
 
-bool open_output(struct rank *rank) {
+bool um_open_output(struct rank *rank) {
     rank->out = fopencookie(rank, "w", (cookie_io_functions_t){.write = take});
     return rank->out && setvbuf(rank->out, 0, _IOLBF, BUFSIZ) == 0;
 }
@@ -65,7 +65,7 @@ static void write_rest(struct rank *rank) {
     if (rank->line_length && (!keeps_lines() || add(rank, '\n'))) hand_on(rank);
 }
 
-void close_output(struct rank *rank) {
+void um_close_output(struct rank *rank) {
     pthread_mutex_lock(&closing);
     if (rank->out) fclose(rank->out);
     rank->out = 0;
@@ -77,20 +77,20 @@ void close_output(struct rank *rank) {
 
 /* Before the run is ended: writes what is left of each rank's line, where nobody writes there. With `all` also what wasn't flushed; where a rank crashed,
    its stream may be broken. */
-void write_rests(bool all) {
+void um_write_rests(bool all) {
     REAL(fflush);
-    if (all && options.is_alone) real_fflush(0);
+    if (all && um_options.is_alone) real_fflush(0);
     if (pthread_mutex_trylock(&closing)) return;
-    for (int k = 0; k < options.ranks; k++) {
-        if (!ranks[k].out || ftrylockfile(ranks[k].out)) continue;
-        if (all) real_fflush(ranks[k].out);
-        write_rest(&ranks[k]);
-        funlockfile(ranks[k].out);
+    for (int k = 0; k < um_options.ranks; k++) {
+        if (!um_ranks[k].out || ftrylockfile(um_ranks[k].out)) continue;
+        if (all) real_fflush(um_ranks[k].out);
+        write_rest(&um_ranks[k]);
+        funlockfile(um_ranks[k].out);
     }
     pthread_mutex_unlock(&closing);
 }
 
-static FILE *stream(FILE *file) { return me && file == stdout && me->out ? me->out : file; }
+static FILE *stream(FILE *file) { return um_me && file == stdout && um_me->out ? um_me->out : file; }
 
 int vfprintf(FILE *file, const char *format, va_list words) {
     REAL(vfprintf);
@@ -115,10 +115,10 @@ int fputc(int byte, FILE *file) {
 int fflush(FILE *file) {
     REAL(fflush);
     int code = real_fflush(stream(file));
-    if (me && me->out && (!file || file == stdout) && !keeps_lines()) {
-        flockfile(me->out);
-        write_rest(me);
-        funlockfile(me->out);
+    if (um_me && um_me->out && (!file || file == stdout) && !keeps_lines()) {
+        flockfile(um_me->out);
+        write_rest(um_me);
+        funlockfile(um_me->out);
     }
     return code;
 }
@@ -126,15 +126,15 @@ int fflush(FILE *file) {
 /* The rank's own stream ends, and not that of the others. */
 int fclose(FILE *file) {
     REAL(fclose);
-    if (!me || !me->out || file != stdout) return real_fclose(file);
+    if (!um_me || !um_me->out || file != stdout) return real_fclose(file);
     int code = fflush(stdout);
-    me->has_closed = true;
+    um_me->has_closed = true;
     return code;
 }
 
 int setvbuf(FILE *file, char *buffer, int mode, size_t size) {
     REAL(setvbuf);
-    return me && me->out && file == stdout ? 0 : real_setvbuf(file, buffer, mode, size);
+    return um_me && um_me->out && file == stdout ? 0 : real_setvbuf(file, buffer, mode, size);
 }
 
 void setbuf(FILE *file, char *buffer) { setvbuf(file, buffer, buffer ? _IOFBF : _IONBF, BUFSIZ); }

@@ -9,15 +9,15 @@
 #include <time.h>
 
 static uint64_t next_random(void) {
-    me->random ^= me->random << 13;
-    me->random ^= me->random >> 7;
-    me->random ^= me->random << 17;
-    return me->random;
+    um_me->random ^= um_me->random << 13;
+    um_me->random ^= um_me->random >> 7;
+    um_me->random ^= um_me->random << 17;
+    return um_me->random;
 }
 
 /* Lets others go first, by the seed. */
 static void vary(void) {
-    if (!options.yields) return;
+    if (!um_options.yields) return;
     uint64_t random = next_random();
     if (random % 16 == 0) {
         struct timespec wait = {0, (long)(random >> 8) % 200000};
@@ -28,38 +28,38 @@ static void vary(void) {
 }
 
 static void stop_by_plan(void) {
-    me->is_planned = true;
-    report("stopped %d\n", me->number);
-    stop_here(0);
+    um_me->is_planned = true;
+    um_report("stopped %d\n", um_me->number);
+    um_stop_here(0);
 }
 
 /* Whether a stop of the plan is at this place. */
 static bool is_at(struct stop *stop) {
-    if (stop->rank != me->number) return false;
-    if (stop->call) return stop->call == me->calls && stop->inside == me->insides;
-    if (strcmp(stop->name, me->place.call)) return false;
-    if (me->insides == 0) stop->nth--;
-    return stop->nth == 0 && stop->inside == me->insides;
+    if (stop->rank != um_me->number) return false;
+    if (stop->call) return stop->call == um_me->calls && stop->inside == um_me->insides;
+    if (strcmp(stop->name, um_me->place.call)) return false;
+    if (um_me->insides == 0) stop->nth--;
+    return stop->nth == 0 && stop->inside == um_me->insides;
 }
 
 static void look_at_plan(void) {
-    for (int k = 0; k < options.stops; k++)
-        if (is_at(&options.stop[k])) stop_by_plan();
-    if (options.branches >= 0 && is_branch()) stop_by_plan();
+    for (int k = 0; k < um_options.stops; k++)
+        if (is_at(&um_options.stop[k])) stop_by_plan();
+    if (um_options.branches >= 0 && um_is_branch()) stop_by_plan();
 }
 
 /* A call that counts is reached. */
-void plan_call(void) {
-    me->calls++;
-    me->insides = 0;
-    if (options.calls) report("call %d %d %s\n", me->number, me->calls, me->place.call);
+void um_plan_call(void) {
+    um_me->calls++;
+    um_me->insides = 0;
+    if (um_options.calls) um_report("call %d %d %s\n", um_me->number, um_me->calls, um_me->place.call);
     vary();
     look_at_plan();
 }
 
 /* A place inside the call is reached. */
-void plan_inside(void) {
-    me->insides++;
-    if (options.calls) report("inside %d %d %d\n", me->number, me->calls, me->insides);
+void um_plan_inside(void) {
+    um_me->insides++;
+    if (um_options.calls) um_report("inside %d %d %d\n", um_me->number, um_me->calls, um_me->insides);
     look_at_plan();
 }

@@ -32,48 +32,48 @@ static void wake(void) {
 }
 
 /* The rank's engine changed what other ranks may see. */
-void moved(void) {
-    _Atomic uint64_t *own = &moves[me->number].count;
+void um_moved(void) {
+    _Atomic uint64_t *own = &moves[um_me->number].count;
     atomic_store(own, atomic_load_explicit(own, memory_order_relaxed) + 1);   /* before the look at who sleeps */
     wake();
 }
 
 /* A mark of this layer changed that other ranks look at. */
-void marked(void) {
+void um_marked(void) {
     atomic_fetch_add(&marks.count, 1);
     wake();
 }
 
 /* How often marks changed. */
-uint64_t count_of_marks(void) { return atomic_load(&marks.count); }
+uint64_t um_count_of_marks(void) { return atomic_load(&marks.count); }
 
 /* How much all ranks did. Counts only rise, so where two sums are the same, no rank did anything from the first one's end to the other's begin. */
 static uint64_t all_moves(void) {
-    uint64_t sum = count_of_marks();
-    for (int k = 0; k < options.ranks; k++) sum += atomic_load(&moves[k].count);
+    uint64_t sum = um_count_of_marks();
+    for (int k = 0; k < um_options.ranks; k++) sum += atomic_load(&moves[k].count);
     return sum;
 }
 
 static bool turn(void) {
     uint32_t did = 0;
-    if (ulfm_turn(me->slot, &did) != ULFM_OK || !did) return false;
-    me->vain = 0;
-    moved();
+    if (ulfm_turn(um_me->slot, &did) != ULFM_OK || !did) return false;
+    um_me->vain = 0;
+    um_moved();
     return true;
 }
 
 /* Something came, perhaps: tells the senders that wait for a match, and looks at shrinks and agreements that are open. */
-void look_at_open(void) {
-    if (me->has_stopped) return;
-    if (atomic_load(&me->waited_for) > 0) look_at_all();
-    if (me->recoveries > 0) look_at_recoveries();
+void um_look_at_open(void) {
+    if (um_me->has_stopped) return;
+    if (atomic_load(&um_me->waited_for) > 0) um_look_at_all();
+    if (um_me->recoveries > 0) um_look_at_recoveries();
 }
 
 /* Moves what goes out, and takes one item that came. Whether anything moved. */
-bool move_once(void) {
-    if (is_played) look_as_played();
-    if (is_played || !turn()) return false;
-    look_at_open();
+bool um_move_once(void) {
+    if (um_is_played) um_look_as_played();
+    if (um_is_played || !turn()) return false;
+    um_look_at_open();
     return true;
 }
 
@@ -81,16 +81,16 @@ bool move_once(void) {
 static bool move_much(void) {
     int turns = 0;
     while (turns < TURNS && turn()) turns++;
-    if (turns) look_at_open();
+    if (turns) um_look_at_open();
     return turns > 0;
 }
 
 /* Whether each rank found nothing since all moves were `seen`, and they still are. */
 static bool can_nobody_move(uint64_t seen) {
     bool all_gone = true;
-    for (int k = 0; k < options.ranks; k++) {
-        if (!atomic_load(&ranks[k].is_gone)) all_gone = false;
-        if (!atomic_load(&ranks[k].is_ended) && atomic_load(&ranks[k].idle) != seen + 1) return false;
+    for (int k = 0; k < um_options.ranks; k++) {
+        if (!atomic_load(&um_ranks[k].is_gone)) all_gone = false;
+        if (!atomic_load(&um_ranks[k].is_ended) && atomic_load(&um_ranks[k].idle) != seen + 1) return false;
     }
     return !all_gone && all_moves() == seen;
 }
@@ -98,10 +98,10 @@ static bool can_nobody_move(uint64_t seen) {
 static void sleep_until_moved(uint64_t seen) {
     atomic_fetch_add(&beds.sleepers, 1);
     uint32_t wakes = atomic_load(&beds.wakes);   /* who moves from now on wakes this rank */
-    atomic_store(&me->idle, seen + 1);
-    if (can_nobody_move(seen)) tell_stuck();
+    atomic_store(&um_me->idle, seen + 1);
+    if (can_nobody_move(seen)) um_tell_stuck();
     if (all_moves() == seen) syscall(SYS_futex, &beds.wakes, FUTEX_WAIT_PRIVATE, wakes, 0, 0, 0);
-    atomic_store(&me->idle, 0);
+    atomic_store(&um_me->idle, 0);
     atomic_fetch_sub(&beds.sleepers, 1);
 }
 
@@ -111,31 +111,31 @@ static int looks_before_yield(void) {
         cpu_set_t set;
         processors = sched_getaffinity(0, sizeof set, &set) == 0 ? CPU_COUNT(&set) : 1;
     }
-    if (options.ranks > processors) return 1;
-    return FEW_LOOKS + MOST_LOOKS - me->impatience;
+    if (um_options.ranks > processors) return 1;
+    return FEW_LOOKS + MOST_LOOKS - um_me->impatience;
 }
 
 /* Moves what goes out and comes in, for a call that looks once. A program may loop over such calls: where so many looks were in vain that a wait would
    yield, so does the loop. */
-void progress(void) {
-    if (is_played) look_as_played();
-    if (is_played || move_much()) return;
-    if (me->vain < looks_before_yield()) me->vain++;
+void um_progress(void) {
+    if (um_is_played) um_look_as_played();
+    if (um_is_played || move_much()) return;
+    if (um_me->vain < looks_before_yield()) um_me->vain++;
     else sched_yield();
 }
 
 /* A rank whose looks were in vain, so that it slept, looks less the next time, and more again where looks served. The few that stay are as long as a
    collective takes, so that ranks which all slept come together again. */
 static void learn(bool has_slept) {
-    if (has_slept) me->impatience += (MOST_LOOKS - me->impatience) / 2;
-    else me->impatience -= me->impatience / 4;
+    if (has_slept) um_me->impatience += (MOST_LOOKS - um_me->impatience) / 2;
+    else um_me->impatience -= um_me->impatience / 4;
 }
 
 /* Makes progress until `is_done` says so, which looks once each time: when something came, and `is_settled` where nothing did for some time. What it looks
    at changes by what comes, and by marks. A look that is dear is made when all that came was taken. */
-void wait_until(bool (*is_done)(void *, bool is_settled), void *of, bool is_dear) {
-    if (is_played) {
-        wait_as_played(is_done, of);
+void um_wait_until(bool (*is_done)(void *, bool is_settled), void *of, bool is_dear) {
+    if (um_is_played) {
+        um_wait_as_played(is_done, of);
         return;
     }
     int looks = 0, most = looks_before_yield();
@@ -143,8 +143,8 @@ void wait_until(bool (*is_done)(void *, bool is_settled), void *of, bool is_dear
     uint64_t seen = 0, asked_at = UINT64_MAX;
     for (;;) {
         if (looks >= most + YIELDS) seen = all_moves();   /* before the look: what comes after it is a further move */
-        bool has_moved = is_dear ? move_much() : move_once();
-        uint64_t marked_at = count_of_marks();
+        bool has_moved = is_dear ? move_much() : um_move_once();
+        uint64_t marked_at = um_count_of_marks();
         bool is_settled = !has_moved && (looks == most || marked_at != asked_at);
         if ((has_moved || is_settled) && is_done(of, is_settled)) break;
         asked_at = marked_at;
@@ -157,18 +157,18 @@ void wait_until(bool (*is_done)(void *, bool is_settled), void *of, bool is_dear
 }
 
 /* Whether each rank has finalized or stopped. */
-bool all_are_gone(void *unused, bool is_settled) {
+bool um_all_are_gone(void *unused, bool is_settled) {
     (void)unused;
     (void)is_settled;
-    for (int k = 0; k < options.ranks; k++)
-        if (!atomic_load(&ranks[k].is_gone)) return false;
+    for (int k = 0; k < um_options.ranks; k++)
+        if (!atomic_load(&um_ranks[k].is_gone)) return false;
     return true;
 }
 
 /* Leaves the others, and moves what goes out and comes in until all have left. */
-void drain(void) {
-    atomic_store(&me->is_gone, 1);
-    marked();
-    wait_until(all_are_gone, 0, false);
-    progress();
+void um_drain(void) {
+    atomic_store(&um_me->is_gone, 1);
+    um_marked();
+    um_wait_until(um_all_are_gone, 0, false);
+    um_progress();
 }

@@ -197,13 +197,13 @@ struct rank {
     _Atomic uint32_t agreed[CONTEXTS];   /* how many agreements it entered */
 };
 
-/* A rank is a thread; `me` is the rank of the thread that runs, null outside of ranks. */
-extern struct rank ranks[MAX_RANKS];
-extern __thread struct rank *me __attribute__((tls_model("initial-exec")));
+/* A rank is a thread; `um_me` is the rank of the thread that runs, null outside of ranks. */
+extern struct rank um_ranks[MAX_RANKS];
+extern __thread struct rank *um_me __attribute__((tls_model("initial-exec")));
 /* Of a further thread of a rank: whose it is. */
-extern __thread struct rank *owner __attribute__((tls_model("initial-exec")));
+extern __thread struct rank *um_owner __attribute__((tls_model("initial-exec")));
 
 /* Whether a controller plays the run (play/play.h). */
-extern bool is_played;
+extern bool um_is_played;
 
 #endif

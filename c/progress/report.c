@@ -6,16 +6,16 @@
 #include <unistd.h>
 
 /* A line for --every-stop. */
-void report(const char *format, ...) {
+void um_report(const char *format, ...) {
     static pthread_mutex_t lock = PTHREAD_MUTEX_INITIALIZER;
     char line[160];
     va_list words;
-    if (options.report < 0 && !options.seeds && !options.limit) return;
+    if (um_options.report < 0 && !um_options.seeds && !um_options.limit) return;
     va_start(words, format);
     int length = vsnprintf(line, sizeof line, format, words);
     va_end(words);
-    if (note_report(line, (size_t)length) || note_past(line, (size_t)length)) return;
+    if (um_note_report(line, (size_t)length) || um_note_past(line, (size_t)length)) return;
     pthread_mutex_lock(&lock);
-    if (write(options.report, line, (size_t)length) != length) options.report = -1;
+    if (write(um_options.report, line, (size_t)length) != length) um_options.report = -1;
     pthread_mutex_unlock(&lock);
 }

@@ -15,29 +15,29 @@
 #include <unistd.h>
 
 static pid_t launcher;
-_Atomic int stopped_ranks;   /* how many there are */
+_Atomic int um_stopped_ranks;   /* how many there are */
 
-void be_launcher(void) {
-    if (!launcher) atexit(remove_copies);
+void um_be_launcher(void) {
+    if (!launcher) atexit(um_remove_copies);
     launcher = getpid();
 }
 
 /* Whether this process has the ranks, and isn't one that a rank forked: that ends as any process does. */
-bool is_launcher(void) { return getpid() == launcher; }
+bool um_is_launcher(void) { return getpid() == launcher; }
 
 /* Whether what ends a process ends a rank alone. */
-static bool is_rank(void) { return me && !options.is_alone && is_launcher(); }
+static bool is_rank(void) { return um_me && !um_options.is_alone && um_is_launcher(); }
 
 /* The rank stops here; its thread goes on at its bottom. */
-void stop_here(int status) {
-    struct rank *rank = me;
+void um_stop_here(int status) {
+    struct rank *rank = um_me;
     rank->status = status;
     if (!rank->has_finalized && !rank->has_stopped) {
         rank->has_stopped = true;
-        atomic_fetch_add(&stopped_ranks, 1);
-        if (!rank->is_planned) report("failed %d %d\n", rank->number, status);
+        atomic_fetch_add(&um_stopped_ranks, 1);
+        if (!rank->is_planned) um_report("failed %d %d\n", rank->number, status);
         ulfm_stop(rank->slot);
-        drain();
+        um_drain();
     }
     longjmp(rank->bottom, 1);
 }
@@ -57,52 +57,52 @@ struct farewell {
 /* What a rank's program leaves is done by the rank, since it may make calls of MPI; the C library would do it when the run is over. */
 int __cxa_atexit(void (*function)(void *), void *of, void *object) {
     Dl_info info;
-    if (me && me->path && object && dladdr(object, &info) && !strcmp(info.dli_fname, me->path)) {
+    if (um_me && um_me->path && object && dladdr(object, &info) && !strcmp(info.dli_fname, um_me->path)) {
         struct farewell *made = malloc(sizeof *made);
         if (!made) return -1;
-        *made = (struct farewell){me->farewells, function, of};
-        me->farewells = made;
+        *made = (struct farewell){um_me->farewells, function, of};
+        um_me->farewells = made;
         return 0;
     }
     int (*keep)(void (*)(void *), void *, void *) = (int (*)(void (*)(void *), void *, void *))real("__cxa_atexit");
     return keep(function, of, object);
 }
 
-void say_farewells(void) {
-    while (me->farewells) {
-        struct farewell *last = me->farewells, said = *last;
-        me->farewells = said.next;
+void um_say_farewells(void) {
+    while (um_me->farewells) {
+        struct farewell *last = um_me->farewells, said = *last;
+        um_me->farewells = said.next;
         free(last);
         said.function(said.of);
     }
 }
 
 /* A rank that was stopped says none. */
-void clear_farewells(void) {
-    while (me->farewells) {
-        struct farewell *next = me->farewells->next;
-        free(me->farewells);
-        me->farewells = next;
+void um_clear_farewells(void) {
+    while (um_me->farewells) {
+        struct farewell *next = um_me->farewells->next;
+        free(um_me->farewells);
+        um_me->farewells = next;
     }
 }
 
 /* A further thread of a rank ends the process: it can't end its rank, which runs beside it. */
 static void end_by_thread(const char *call, int status) {
-    if (me || !owner || options.is_alone || !is_launcher()) return;
-    begin_report();
-    fprintf(stderr, "ulfm-mpirun: rank %d called %s with %d in a further thread: the run ends\n", owner->number, call, status);
-    write_rests(true);
-    report("abort %d %d\n", owner->number, status);
-    end_run(status & 255);
+    if (um_me || !um_owner || um_options.is_alone || !um_is_launcher()) return;
+    um_begin_report();
+    fprintf(stderr, "ulfm-mpirun: rank %d called %s with %d in a further thread: the run ends\n", um_owner->number, call, status);
+    um_write_rests(true);
+    um_report("abort %d %d\n", um_owner->number, status);
+    um_end_run(status & 255);
 }
 
 void exit(int status) {
     end_by_thread("exit", status);
     if (is_rank()) {
-        say_farewells();
-        stop_here(status);
+        um_say_farewells();
+        um_stop_here(status);
     }
-    if (me && me->out) close_output(me);
+    if (um_me && um_me->out) um_close_output(um_me);
     ending *end = (ending *)real("exit");
     end(status);
     __builtin_unreachable();
@@ -110,7 +110,7 @@ void exit(int status) {
 
 void _exit(int status) {
     end_by_thread("_exit", status);
-    if (is_rank()) stop_here(status);
+    if (is_rank()) um_stop_here(status);
     ending *end = (ending *)real("_exit");
     end(status);
     __builtin_unreachable();
@@ -128,7 +128,7 @@ void pthread_exit(void *value) {
 }
 
 void abort(void) {
-    if (is_rank()) stop_here(128 + SIGABRT);
+    if (is_rank()) um_stop_here(128 + SIGABRT);
     ending *end = (ending *)real("abort");
     end(0);
     __builtin_unreachable();
@@ -182,32 +182,32 @@ static bool ends_by(int number) {
     if (number == SIGKILL) return true;
     if (number == 0 || number == SIGCHLD || number == SIGCONT || number == SIGURG || number == SIGWINCH) return false;
     if (sigaction(number, 0, &action)) return false;
-    if (is_own_handler(&action)) return true;
+    if (um_is_own_handler(&action)) return true;
     if (action.sa_flags & SA_SIGINFO) return number == SIGSEGV || number == SIGBUS || number == SIGFPE || number == SIGILL;   /* a sanitizer's */
     return action.sa_handler == SIG_DFL;
 }
 
 int raise(int number) {
-    if (is_rank() && ends_by(number)) stop_here(128 + number);
+    if (is_rank() && ends_by(number)) um_stop_here(128 + number);
     int (*send)(int) = (int (*)(int))real("raise");
     return send(number);
 }
 
 int kill(pid_t to, int number) {
-    if (is_rank() && to == launcher && ends_by(number)) stop_here(128 + number);
+    if (is_rank() && to == launcher && ends_by(number)) um_stop_here(128 + number);
     int (*send)(pid_t, int) = (int (*)(pid_t, int))real("kill");
     return send(to, number);
 }
 
 /* Ends the whole run, from any thread. */
-void end_run(int status) {
-    if (is_played && is_launcher()) end_schedule(status);   /* where a controller plays, it goes on */
-    remove_copies();
-    leave_process(status);
+void um_end_run(int status) {
+    if (um_is_played && um_is_launcher()) um_end_schedule(status);   /* where a controller plays, it goes on */
+    um_remove_copies();
+    um_leave_process(status);
 }
 
 /* Ends the process, whoever asks. */
-void leave_process(int status) {
+void um_leave_process(int status) {
     ending *end = (ending *)real("_exit");
     end(status);
     __builtin_unreachable();

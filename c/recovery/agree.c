@@ -18,9 +18,9 @@ struct agreement {
 /* Whether each member is in the agreement that this rank is in, was in it, or has left: else there can't be a decision, and the engine needn't be
    asked. In a run that is played a rank goes by what it heard alone. */
 static bool can_be_agreed(const struct agreement *agreement) {
-    uint32_t context = agreement->comm->context, own = atomic_load(&me->agreed[context]);
-    for (int k = 0; k < agreement->comm->size && !is_played; k++) {
-        const struct rank *rank = &ranks[agreement->comm->members[k]];
+    uint32_t context = agreement->comm->context, own = atomic_load(&um_me->agreed[context]);
+    for (int k = 0; k < agreement->comm->size && !um_is_played; k++) {
+        const struct rank *rank = &um_ranks[agreement->comm->members[k]];
         if (atomic_load(&rank->agreed[context]) < own && !atomic_load(&rank->is_gone)) return false;
     }
     return true;
@@ -30,22 +30,22 @@ static bool is_agreed(void *of, bool is_settled) {
     struct agreement *agreement = of;
     (void)is_settled;
     if (!can_be_agreed(agreement)) return false;
-    agreement->code = ulfm_poll_agree(me->slot, agreement->comm->context, &agreement->value, &agreement->missing);
-    if (agreement->code == ULFM_OK) moved();
+    agreement->code = ulfm_poll_agree(um_me->slot, agreement->comm->context, &agreement->value, &agreement->missing);
+    if (agreement->code == ULFM_OK) um_moved();
     return agreement->code != ULFM_NOT_YET;
 }
 
 static int code_of(uint32_t code) {
     if (code == ULFM_ALREADY_MADE) return ONE_AT_A_TIME;
-    return code == ULFM_OUT_OF_MEMORY ? TOO_MANY_ROUNDS : class_of(code);
+    return code == ULFM_OUT_OF_MEMORY ? TOO_MANY_ROUNDS : um_class_of(code);
 }
 
 /* Enters the next agreement of the engine: the AND of the words of all members but those that are missing. */
 static int enter(struct agreement *agreement, uint32_t word) {
-    uint32_t context = agreement->comm->context, code = ulfm_enter_agree(me->slot, context, word);
+    uint32_t context = agreement->comm->context, code = ulfm_enter_agree(um_me->slot, context, word);
     if (code != ULFM_OK) return code_of(code);
-    atomic_fetch_add(&me->agreed[context], 1);   /* before its word goes out */
-    progress();
+    atomic_fetch_add(&um_me->agreed[context], 1);   /* before its word goes out */
+    um_progress();
     return MPI_SUCCESS;
 }
 
@@ -58,7 +58,7 @@ static uint32_t bits_of(const ulfm_group *group, uint32_t count) {
 /* The world ranks whose failures this rank has acknowledged. */
 static uint32_t acknowledged_bits(const struct comm *comm) {
     ulfm_group failed;
-    return ulfm_get_failed(me->slot, comm->context, &failed) == ULFM_OK ? bits_of(&failed, comm->acknowledged) : 0;
+    return ulfm_get_failed(um_me->slot, comm->context, &failed) == ULFM_OK ? bits_of(&failed, comm->acknowledged) : 0;
 }
 
 /* The AND of all flags, and MPIX_ERR_PROC_FAILED alike at all members where one is missing whose failure isn't acknowledged at each. One agreement
@@ -90,36 +90,36 @@ static bool is_last(struct agreement *agreement, int *code) {
 }
 
 int MPIX_Comm_agree(MPI_Comm comm, int *flag) {
-    struct comm *of = comm_at(comm);
+    struct comm *of = um_comm_at(comm);
     struct agreement agreement;
     ENTER(of, MPI_UNDEFINED, MPI_UNDEFINED);
-    if (!of) return fail(0, MPI_ERR_COMM);
+    if (!of) return um_fail(0, MPI_ERR_COMM);
     WRITES(of, flag);
-    if (of->is_part) return fail(of, of->size > 1 ? NOT_ON_PARTS : MPI_SUCCESS);
+    if (of->is_part) return um_fail(of, of->size > 1 ? NOT_ON_PARTS : MPI_SUCCESS);
     int code = begin(&agreement, of, flag);
     for (bool is_over = code != MPI_SUCCESS; !is_over; is_over = is_last(&agreement, &code)) {
-        plan_inside();
-        wait_until(is_agreed, &agreement, true);
-        plan_inside();
+        um_plan_inside();
+        um_wait_until(is_agreed, &agreement, true);
+        um_plan_inside();
     }
-    return fail(of, code);
+    return um_fail(of, code);
 }
 
 static void look_at_agreement(struct request *request) {
     struct agreement *agreement = request->more;
     int code;
-    if (is_agreed(agreement, true) && is_last(agreement, &code)) end_request(request, code);
+    if (is_agreed(agreement, true) && is_last(agreement, &code)) um_end_request(request, code);
 }
 
 /* The world ranks that aren't in the agreement of a request yet, as bits; of a shrink nothing is known. */
-uint32_t missing_from_agreement(const struct request *request) {
+uint32_t um_missing_from_agreement(const struct request *request) {
     const struct agreement *agreement = request->more;
     uint32_t bits = 0;
     if (request->look != look_at_agreement || request->over) return 0;
     for (int k = 0; k < agreement->comm->size; k++) {
-        const struct rank *rank = &ranks[agreement->comm->members[k]];
+        const struct rank *rank = &um_ranks[agreement->comm->members[k]];
         uint32_t context = agreement->comm->context;
-        bool is_there = atomic_load(&rank->agreed[context]) >= atomic_load(&me->agreed[context]);
+        bool is_there = atomic_load(&rank->agreed[context]) >= atomic_load(&um_me->agreed[context]);
         if (!is_there && !atomic_load(&rank->is_gone)) bits |= 1u << rank->number;
     }
     return bits;
@@ -127,48 +127,48 @@ uint32_t missing_from_agreement(const struct request *request) {
 
 /* *flag is the result when the request is over. */
 int MPIX_Comm_iagree(MPI_Comm comm, int *flag, MPI_Request *handle) {
-    struct comm *of = comm_at(comm);
+    struct comm *of = um_comm_at(comm);
     struct request *request;
     ENTER(of, MPI_UNDEFINED, MPI_UNDEFINED);
-    if (!of) return fail(0, MPI_ERR_COMM);
+    if (!of) return um_fail(0, MPI_ERR_COMM);
     WRITES(of, flag && handle);
     *handle = MPI_REQUEST_NULL;
-    if (of->is_part && of->size > 1) return fail(of, NOT_ON_PARTS);
-    int code = new_recovery(of, look_at_agreement, sizeof(struct agreement), &request);
-    if (code == MPI_SUCCESS && of->is_part) end_request(request, MPI_SUCCESS);
+    if (of->is_part && of->size > 1) return um_fail(of, NOT_ON_PARTS);
+    int code = um_new_recovery(of, look_at_agreement, sizeof(struct agreement), &request);
+    if (code == MPI_SUCCESS && of->is_part) um_end_request(request, MPI_SUCCESS);
     else if (code == MPI_SUCCESS) code = begin(request->more, of, flag);
-    if (code == MPI_SUCCESS && !of->is_part) plan_inside();
-    return give_recovery(of, code, request, handle);
+    if (code == MPI_SUCCESS && !of->is_part) um_plan_inside();
+    return um_give_recovery(of, code, request, handle);
 }
 
 /* ---- Requests of recoveries ---- */
 
 /* A request with so many bytes for what it has to know, and what looks at it. */
-int new_recovery(struct comm *comm, void (*look)(struct request *), size_t bytes, struct request **made) {
-    *made = new_request(RECOVERY, comm, MPI_UNDEFINED, MPI_UNDEFINED);
+int um_new_recovery(struct comm *comm, void (*look)(struct request *), size_t bytes, struct request **made) {
+    *made = um_new_request(RECOVERY, comm, MPI_UNDEFINED, MPI_UNDEFINED);
     if (!*made) return MPI_ERR_NO_MEM;
     (*made)->status = (MPI_Status){0};
     (*made)->look = look;
     (*made)->more = calloc(1, bytes);
     if ((*made)->more) return MPI_SUCCESS;
-    free_request(*made);
+    um_free_request(*made);
     *made = 0;
     return MPI_ERR_NO_MEM;
 }
 
 /* Hands it to the program, where it was entered. */
-int give_recovery(struct comm *comm, int code, struct request *request, MPI_Request *handle) {
+int um_give_recovery(struct comm *comm, int code, struct request *request, MPI_Request *handle) {
     if (code != MPI_SUCCESS) {
-        if (request) free_request(request);
-        return fail(comm, code);
+        if (request) um_free_request(request);
+        return um_fail(comm, code);
     }
     *handle = (MPI_Request)(uintptr_t)request->handle;
-    look_at(request);
+    um_look_at(request);
     return MPI_SUCCESS;
 }
 
 /* A second agreement of the engine has to be entered by a rank that waits in another call, too. */
-void look_at_recoveries(void) {
-    for (int k = 0; k < me->request_count && me->recoveries > 0; k++)
-        if (me->requests[k] && me->requests[k]->kind == RECOVERY) look_at(me->requests[k]);
+void um_look_at_recoveries(void) {
+    for (int k = 0; k < um_me->request_count && um_me->recoveries > 0; k++)
+        if (um_me->requests[k] && um_me->requests[k]->kind == RECOVERY) um_look_at(um_me->requests[k]);
 }

@@ -8,23 +8,23 @@
 #include <string.h>
 
 int MPIX_Comm_revoke(MPI_Comm comm) {
-    struct comm *of = comm_at(comm);
+    struct comm *of = um_comm_at(comm);
     ENTER(of, MPI_UNDEFINED, MPI_UNDEFINED);
-    if (!of) return fail(0, MPI_ERR_COMM);
+    if (!of) return um_fail(0, MPI_ERR_COMM);
     if (of->is_part) atomic_store(of->revoked, 1);
-    int code = of->is_part ? MPI_SUCCESS : class_of(ulfm_revoke(me->slot, of->context));
-    marked();
-    progress();
-    return fail(of, code);
+    int code = of->is_part ? MPI_SUCCESS : um_class_of(ulfm_revoke(um_me->slot, of->context));
+    um_marked();
+    um_progress();
+    return um_fail(of, code);
 }
 
 int MPIX_Comm_is_revoked(MPI_Comm comm, int *flag) {
-    struct comm *of = comm_at(comm);
+    struct comm *of = um_comm_at(comm);
     ENTER_LOOK(of, MPI_UNDEFINED, MPI_UNDEFINED);
-    if (!of) return fail(0, MPI_ERR_COMM);
+    if (!of) return um_fail(0, MPI_ERR_COMM);
     WRITES(of, flag);
-    progress();
-    *flag = is_revoked(of);
+    um_progress();
+    *flag = um_is_revoked(of);
     return MPI_SUCCESS;
 }
 
@@ -40,8 +40,8 @@ struct shrink {
 static bool is_shrunk(void *of, bool is_settled) {
     struct shrink *shrink = of;
     (void)is_settled;
-    shrink->code = ulfm_poll_shrink(me->slot, shrink->context, &shrink->made);
-    if (shrink->code == ULFM_OK) moved();
+    shrink->code = ulfm_poll_shrink(um_me->slot, shrink->context, &shrink->made);
+    if (shrink->code == ULFM_OK) um_moved();
     return shrink->code != ULFM_NOT_YET;
 }
 
@@ -50,24 +50,24 @@ static bool is_shrunk(void *of, bool is_settled) {
 static int enter(struct shrink *shrink, struct comm *comm, MPI_Comm *handle) {
     *shrink = (struct shrink){.comm = comm, .context = comm->chain->plane[0].context, .handle = handle};
     if (comm->is_part) return NOT_ON_PARTS;
-    while (me->shrunk[shrink->context]) shrink->context = me->shrunk[shrink->context];
-    shrink->code = ulfm_enter_shrink(me->slot, shrink->context);
-    if (shrink->code != ULFM_OK) return shrink->code == ULFM_ALREADY_MADE ? ONE_AT_A_TIME : class_of(shrink->code);
-    progress();
-    plan_inside();
+    while (um_me->shrunk[shrink->context]) shrink->context = um_me->shrunk[shrink->context];
+    shrink->code = ulfm_enter_shrink(um_me->slot, shrink->context);
+    if (shrink->code != ULFM_OK) return shrink->code == ULFM_ALREADY_MADE ? ONE_AT_A_TIME : um_class_of(shrink->code);
+    um_progress();
+    um_plan_inside();
     return MPI_SUCCESS;
 }
 
 /* Makes the communicator of the members that run. */
 static int adopt(struct shrink *shrink) {
-    if (shrink->code != ULFM_OK) return class_of(shrink->code);
-    me->shrunk[shrink->context] = shrink->made;
-    struct chain *chain = new_chain(shrink->made);
+    if (shrink->code != ULFM_OK) return um_class_of(shrink->code);
+    um_me->shrunk[shrink->context] = shrink->made;
+    struct chain *chain = um_new_chain(shrink->made);
     struct group before;
-    group_of(shrink->comm, &before);
-    struct comm *shrunk = chain ? new_comm(chain, 0, shrink->comm->handler, &before) : 0;
+    um_group_of(shrink->comm, &before);
+    struct comm *shrunk = chain ? um_new_comm(chain, 0, shrink->comm->handler, &before) : 0;
     if (!shrunk) return MPI_ERR_NO_MEM;
-    *shrink->handle = handle_of(shrunk);
+    *shrink->handle = um_handle_of(shrunk);
     return MPI_SUCCESS;
 }
 
@@ -75,92 +75,92 @@ static int adopt(struct shrink *shrink) {
 static bool is_alone(const struct comm *comm) { return comm->is_part && comm->size == 1; }
 
 int MPIX_Comm_shrink(MPI_Comm comm, MPI_Comm *made) {
-    struct comm *of = comm_at(comm);
+    struct comm *of = um_comm_at(comm);
     struct shrink shrink;
     ENTER(of, MPI_UNDEFINED, MPI_UNDEFINED);
-    if (!of) return fail(0, MPI_ERR_COMM);
+    if (!of) return um_fail(0, MPI_ERR_COMM);
     WRITES(of, made);
-    if (is_alone(of)) return fail(of, make_another(of, made));
+    if (is_alone(of)) return um_fail(of, um_make_another(of, made));
     int code = enter(&shrink, of, made);
-    if (code != MPI_SUCCESS) return fail(of, code);
-    wait_until(is_shrunk, &shrink, true);
-    if (shrink.code == ULFM_OK) plan_inside();
-    return fail(of, adopt(&shrink));
+    if (code != MPI_SUCCESS) return um_fail(of, code);
+    um_wait_until(is_shrunk, &shrink, true);
+    if (shrink.code == ULFM_OK) um_plan_inside();
+    return um_fail(of, adopt(&shrink));
 }
 
 static void look_at_shrink(struct request *request) {
     struct shrink *shrink = request->more;
-    if (is_shrunk(shrink, true)) end_request(request, adopt(shrink));
+    if (is_shrunk(shrink, true)) um_end_request(request, adopt(shrink));
 }
 
 /* *made is there when the request is over. */
 int MPIX_Comm_ishrink(MPI_Comm comm, MPI_Comm *made, MPI_Request *handle) {
-    struct comm *of = comm_at(comm);
+    struct comm *of = um_comm_at(comm);
     struct request *request;
     ENTER(of, MPI_UNDEFINED, MPI_UNDEFINED);
-    if (!of) return fail(0, MPI_ERR_COMM);
+    if (!of) return um_fail(0, MPI_ERR_COMM);
     WRITES(of, made && handle);
     *handle = MPI_REQUEST_NULL;
-    int code = new_recovery(of, look_at_shrink, sizeof(struct shrink), &request);
-    if (code == MPI_SUCCESS && is_alone(of)) end_request(request, make_another(of, made));
+    int code = um_new_recovery(of, look_at_shrink, sizeof(struct shrink), &request);
+    if (code == MPI_SUCCESS && is_alone(of)) um_end_request(request, um_make_another(of, made));
     else if (code == MPI_SUCCESS) code = enter(request->more, of, made);
-    return give_recovery(of, code, request, handle);
+    return um_give_recovery(of, code, request, handle);
 }
 
 /* ---- Failures that are known ---- */
 
 int MPIX_Comm_get_failed(MPI_Comm comm, MPI_Group *group) {
-    struct comm *of = comm_at(comm);
+    struct comm *of = um_comm_at(comm);
     ulfm_group failed;
     ENTER_LOOK(of, MPI_UNDEFINED, MPI_UNDEFINED);
-    if (!of) return fail(0, MPI_ERR_COMM);
+    if (!of) return um_fail(0, MPI_ERR_COMM);
     WRITES(of, group);
-    progress();
-    int code = failed_of(of, &failed);
-    return fail(of, code != MPI_SUCCESS ? code : make_group(failed.members, (int)failed.size, group));
+    um_progress();
+    int code = um_failed_of(of, &failed);
+    return um_fail(of, code != MPI_SUCCESS ? code : um_make_group(failed.members, (int)failed.size, group));
 }
 
 /* Acknowledges the first `count` of them, or all, never fewer than before. */
 static int acknowledge(struct comm *comm, uint32_t count) {
     ulfm_group failed;
-    int code = failed_of(comm, &failed);
+    int code = um_failed_of(comm, &failed);
     uint32_t total = failed.size < count ? failed.size : count;
     if (total < comm->acknowledged) total = comm->acknowledged;
-    if (code == MPI_SUCCESS && !comm->is_part) code = class_of(ulfm_ack_failed(me->slot, comm->context, count, &total));
+    if (code == MPI_SUCCESS && !comm->is_part) code = um_class_of(ulfm_ack_failed(um_me->slot, comm->context, count, &total));
     if (code == MPI_SUCCESS) comm->acknowledged = total;
     return code;
 }
 
 /* A count past the number of known failures is wrong, as in Open MPI 5. */
 int MPIX_Comm_ack_failed(MPI_Comm comm, int count, int *acknowledged) {
-    struct comm *of = comm_at(comm);
+    struct comm *of = um_comm_at(comm);
     ulfm_group failed;
     ENTER_LOOK(of, MPI_UNDEFINED, MPI_UNDEFINED);
-    if (!of) return fail(0, MPI_ERR_COMM);
+    if (!of) return um_fail(0, MPI_ERR_COMM);
     WRITES(of, acknowledged);
-    progress();
-    int code = failed_of(of, &failed);
+    um_progress();
+    int code = um_failed_of(of, &failed);
     if (code == MPI_SUCCESS && (count < 0 || (uint32_t)count > failed.size)) code = MPI_ERR_ARG;
     if (code == MPI_SUCCESS) code = acknowledge(of, (uint32_t)count);
     if (code == MPI_SUCCESS) *acknowledged = (int)of->acknowledged;
-    return fail(of, code);
+    return um_fail(of, code);
 }
 
 int MPIX_Comm_failure_ack(MPI_Comm comm) {
-    struct comm *of = comm_at(comm);
+    struct comm *of = um_comm_at(comm);
     ENTER_LOOK(of, MPI_UNDEFINED, MPI_UNDEFINED);
-    if (!of) return fail(0, MPI_ERR_COMM);
-    progress();
-    return fail(of, acknowledge(of, MAX_RANKS));
+    if (!of) return um_fail(0, MPI_ERR_COMM);
+    um_progress();
+    return um_fail(of, acknowledge(of, MAX_RANKS));
 }
 
 int MPIX_Comm_failure_get_acked(MPI_Comm comm, MPI_Group *group) {
-    struct comm *of = comm_at(comm);
+    struct comm *of = um_comm_at(comm);
     ulfm_group failed;
     ENTER_LOOK(of, MPI_UNDEFINED, MPI_UNDEFINED);
-    if (!of) return fail(0, MPI_ERR_COMM);
+    if (!of) return um_fail(0, MPI_ERR_COMM);
     WRITES(of, group);
-    progress();
-    int code = failed_of(of, &failed);
-    return fail(of, code != MPI_SUCCESS ? code : make_group(failed.members, (int)of->acknowledged, group));
+    um_progress();
+    int code = um_failed_of(of, &failed);
+    return um_fail(of, code != MPI_SUCCESS ? code : um_make_group(failed.members, (int)of->acknowledged, group));
 }

@@ -5,9 +5,9 @@
 #include "progress/rank.h"
 
 /* agree.c */
-int new_recovery(struct comm *comm, void (*look)(struct request *), size_t bytes, struct request **made);
-int give_recovery(struct comm *comm, int code, struct request *request, MPI_Request *handle);
-void look_at_recoveries(void);
-uint32_t missing_from_agreement(const struct request *request);
+int um_new_recovery(struct comm *comm, void (*look)(struct request *), size_t bytes, struct request **made);
+int um_give_recovery(struct comm *comm, int code, struct request *request, MPI_Request *handle);
+void um_look_at_recoveries(void);
+uint32_t um_missing_from_agreement(const struct request *request);
 
 #endif

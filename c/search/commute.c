@@ -10,7 +10,7 @@ static struct wildcards {
     int use[MAX_RANKS][CONTEXTS], tag[MAX_RANKS][CONTEXTS];
 } *wildcards;
 
-bool begin_commute(void) { return (wildcards = shared_memory(sizeof *wildcards)) != 0; }
+bool um_begin_commute(void) { return (wildcards = um_shared_memory(sizeof *wildcards)) != 0; }
 
 static bool is_item(const struct footprint *e, int item) { return e->kind == TAKES && e->item == item; }
 static bool is_message(const struct footprint *e) { return is_item(e, ULFM_MESSAGE); }
@@ -102,7 +102,7 @@ static bool are_entry_and_poll(const struct footprint *a, const struct footprint
 }
 
 /* Whether a, of the number `at`, and a later event of another process don't commute. */
-bool is_dependent(const struct footprint *a, int at, const struct footprint *b) {
+bool um_is_dependent(const struct footprint *a, int at, const struct footprint *b) {
     bool have_found = a->flags & b->flags & FOUND;
     if (a->kind == LOSES || b->kind == LOSES) return false;   /* these are no races: see keep_nodes */
     if (a->rank != b->rank) return is_poll(a) && is_poll(b) && a->topic == b->topic && have_found && a->proposal != b->proposal;
@@ -117,12 +117,12 @@ static bool are_of_ring(const struct footprint *a, const struct footprint *b) {
     return ((a->kind == LOSES && b->kind == TAKES) || (a->kind == TAKES && b->kind == LOSES)) && a->rank == b->rank && a->source == b->source;
 }
 
-bool do_commute(const struct footprint *a, const struct footprint *b) {
-    return !are_of_ring(a, b) && a->process != b->process && !is_dependent(a, BEFORE, b) && !is_dependent(b, BEFORE, a);
+bool um_do_commute(const struct footprint *a, const struct footprint *b) {
+    return !are_of_ring(a, b) && a->process != b->process && !um_is_dependent(a, BEFORE, b) && !um_is_dependent(b, BEFORE, a);
 }
 
 /* Whether b couldn't be without a: then they are no race. */
-bool is_needed(const struct footprint *a, const struct footprint *b) {
+bool um_is_needed(const struct footprint *a, const struct footprint *b) {
     if (b->kind == ASKS_REVOKED && b->waits && is_revoker(a)) return true;
     if (!is_poll(b) || !(b->flags & FOUND) || a->rank != b->rank) return false;
     if (is_entry(a) && a->topic == b->topic) return !(b->excluded >> a->source & 1);
@@ -136,10 +136,10 @@ static bool differs(const struct footprint *e, const struct footprint *other, in
 }
 
 /* Learns which receives name no source, from the events that were run. Whether it learnt something: then the search begins anew. */
-bool learn_wildcards(int count) {
+bool um_learn_wildcards(int count) {
     bool has_learnt = false;
     for (int j = 0; j < count; j++) {
-        const struct footprint *e = &footprints[j];
+        const struct footprint *e = &um_footprints[j];
         if (e->kind != POSTS && e->kind != PROBES) continue;
         int *use = &wildcards->use[e->rank][e->comm], *tag = &wildcards->tag[e->rank][e->comm];
         if (e->flags & OF_ANY && *use == NAMED_ALONE) {
@@ -147,7 +147,7 @@ bool learn_wildcards(int count) {
             *tag = e->tag;
             has_learnt = true;
             for (int k = 0; k < count; k++)
-                if (differs(e, &footprints[k], e->tag)) *use = MANY_ANY;
+                if (differs(e, &um_footprints[k], e->tag)) *use = MANY_ANY;
         } else if (*use == ONE_ANY && differs(e, e, *tag)) {
             *use = MANY_ANY;
             has_learnt = true;

@@ -7,8 +7,8 @@
 
 enum { MOST_ROUNDS = 4096 };
 
-struct footprint *footprints;
-int step;
+struct footprint *um_footprints;
+int um_step;
 
 /* A receive that is open, or that ended and isn't told. */
 struct receive {
@@ -27,11 +27,11 @@ static struct waiting *waiting[MAX_RANKS];
 static int receive_count[MAX_RANKS], waiting_count[MAX_RANKS], silent_count[MAX_RANKS];
 static struct silence silent[MAX_RANKS][SILENT];
 
-static struct footprint *present(void) { return &footprints[step]; }
+static struct footprint *present(void) { return &um_footprints[um_step]; }
 static uint32_t members_of(int rank, uint32_t comm) {
     ulfm_group group;
     uint32_t bits = 0;
-    if (ulfm_group_of(&ranks[rank].home, comm, &group) != ULFM_OK) return 0;
+    if (ulfm_group_of(&um_ranks[rank].home, comm, &group) != ULFM_OK) return 0;
     for (uint32_t k = 0; k < group.size; k++) bits |= 1u << group.members[k];
     return bits;
 }
@@ -39,13 +39,13 @@ static uint32_t members_of(int rank, uint32_t comm) {
 /* The world rank of a position; ANYBODY where it has none. */
 static int member_at(int rank, uint32_t comm, uint32_t position) {
     ulfm_group group;
-    if (ulfm_group_of(&ranks[rank].home, comm, &group) != ULFM_OK || position >= group.size) return ANYBODY;
+    if (ulfm_group_of(&um_ranks[rank].home, comm, &group) != ULFM_OK || position >= group.size) return ANYBODY;
     return group.members[position];
 }
 
 /* ---- Looks in vain of a wait ---- */
 
-void forget_silent(int rank) { silent_count[rank] = 0; }
+void um_forget_silent(int rank) { silent_count[rank] = 0; }
 
 static struct receive *receive_of(int rank, uint64_t id) {
     for (int k = 0; k < receive_count[rank]; k++)
@@ -53,7 +53,7 @@ static struct receive *receive_of(int rank, uint64_t id) {
     return 0;
 }
 
-void note_silent(const struct event *call) {
+void um_note_silent(const struct event *call) {
     int rank = call->rank, count = silent_count[rank]++, comm = call->comm, source = -2;
     bool is_message = call->kind == TESTS || call->kind == PROBES;
     if (count >= SILENT) return;
@@ -80,17 +80,17 @@ static bool end_receives(int rank) {
         struct receive *receive = &receives[rank][k];
         uint32_t code = ULFM_NOT_YET;
         if (!receive->is_open || !concerns(present(), receive)) continue;
-        if (ulfm_would(&ranks[rank].home, receive->id, &code) != ULFM_OK || code != ULFM_OK) continue;
+        if (ulfm_would(&um_ranks[rank].home, receive->id, &code) != ULFM_OK || code != ULFM_OK) continue;
         receive->is_open = false;
-        receive->by = (int16_t)step;
+        receive->by = (int16_t)um_step;
         has_ended = true;
     }
     return has_ended;
 }
 
 static void keep_message(int rank, const struct footprint *event) {
-    if (!grow(&waiting[rank], waiting_count[rank], sizeof *waiting[rank])) return;
-    waiting[rank][waiting_count[rank]++] = (struct waiting){event->comm, event->source, event->tag, (int16_t)step};
+    if (!um_grow(&waiting[rank], waiting_count[rank], sizeof *waiting[rank])) return;
+    waiting[rank][waiting_count[rank]++] = (struct waiting){event->comm, event->source, event->tag, (int16_t)um_step};
 }
 
 /* A communicator is revoked: word of it goes out, and its messages are gone. */
@@ -101,30 +101,30 @@ static void revoke(int rank, int comm) {
         if (waiting[rank][k].comm != comm) waiting[rank][left++] = waiting[rank][k];
     waiting_count[rank] = left;
     end_receives(rank);
-    push_to_all(rank, UINT32_MAX);
+    um_push_to_all(rank, UINT32_MAX);
 }
 
 /* Before an event. */
-void begin_footprint(const struct event *event) {
+void um_begin_footprint(const struct event *event) {
     struct footprint *own = present();
     bool takes = event->kind == TAKES;
     *own = (struct footprint){.process = (uint8_t)process_of(event), .rank = event->rank, .kind = event->kind, .item = event->item, .other = NOBODY,
                               .comm = (int8_t)event->comm, .source = ANYBODY, .tag = event->tag, .pushed = NO_STEP, .by = NO_STEP, .found = NO_STEP};
     if (!takes && event->kind != LOSES) return;
-    own->pushed = takes ? pull(event->peer, event->rank) : lose(event->peer, event->rank);
+    own->pushed = takes ? um_pull(event->peer, event->rank) : um_lose(event->peer, event->rank);
     own->source = (int8_t)event->peer;
     own->other = event->peer;
     if (!takes) return;
     if (event->item == ULFM_STOP_NOTICE) own->fails = (uint8_t)(1u << event->peer);
     if (event->item == ULFM_AGREE_ENTRY || event->item == ULFM_SHRINK_ENTRY) {
         bool agrees = event->item == ULFM_AGREE_ENTRY;
-        own->topic = topic_of(event->comm, agrees, agrees ? event->tag : 0);
+        own->topic = um_topic_of(event->comm, agrees, agrees ? event->tag : 0);
     }
-    if (event->item == ULFM_MESSAGE && !is_known_revoked(event->rank, event->comm)) own->flags = SAW_NO_REVOCATION;
+    if (event->item == ULFM_MESSAGE && !um_is_known_revoked(event->rank, event->comm)) own->flags = SAW_NO_REVOCATION;
 }
 
 /* An item was taken; `was_revoked`: its communicator was known to be revoked before. */
-void note_taken(const struct event *event, bool was_revoked) {
+void um_note_taken(const struct event *event, bool was_revoked) {
     if (event->item == ULFM_REVOCATION && !was_revoked) revoke(event->rank, event->comm);
     if (event->item == ULFM_STOP_NOTICE) end_receives(event->rank);
     if (event->item == ULFM_MESSAGE && !was_revoked && !end_receives(event->rank)) keep_message(event->rank, present());
@@ -133,14 +133,14 @@ void note_taken(const struct event *event, bool was_revoked) {
 /* ---- Calls ---- */
 
 /* The rank makes its call now. */
-void begin_call(const struct event *call) {
+void um_begin_call(const struct event *call) {
     struct footprint *own = present();
-    const struct player *player = &players[call->rank];
+    const struct player *player = &um_players[call->rank];
     own->kind = call->kind;
     own->comm = (int8_t)call->comm;
     own->tag = call->tag;
     own->waits = player->in_wait;
-    own->flags = is_known_revoked(call->rank, call->comm) ? 0 : SAW_NO_REVOCATION;
+    own->flags = um_is_known_revoked(call->rank, call->comm) ? 0 : SAW_NO_REVOCATION;
     if (call->kind == STOPS) own->flags = 0;
     if (!player->in_wait) return;
     int count = silent_count[call->rank];
@@ -148,14 +148,14 @@ void begin_call(const struct event *call) {
     memcpy(own->silent, silent[call->rank], sizeof own->silent);
 }
 
-void end_send(uint32_t dest, uint32_t code) {
+void um_end_send(uint32_t dest, uint32_t code) {
     struct footprint *own = present();
     int to = member_at(own->rank, (uint32_t)own->comm, dest);
     own->answer = code;
     if (to == ANYBODY) return;
     own->fails = (uint8_t)(1u << to);
     if (code != ULFM_REVOKED) own->other = (uint8_t)to;
-    if (code == ULFM_OK) note_push(own->rank, to);
+    if (code == ULFM_OK) um_note_push(own->rank, to);
 }
 
 /* The first message that waits and that a receive or a probe takes; -1: none. */
@@ -172,7 +172,7 @@ static void remove_waiting(int rank, int at) {
     memmove(&waiting[rank][at], &waiting[rank][at + 1], (size_t)(waiting_count[rank] - at) * sizeof **waiting);
 }
 
-void end_post(uint32_t source, uint64_t id, uint32_t code) {
+void um_end_post(uint32_t source, uint64_t id, uint32_t code) {
     struct footprint *own = present();
     int rank = own->rank, from = source == ULFM_ANY ? ANYBODY : member_at(rank, (uint32_t)own->comm, source);
     own->answer = code;
@@ -182,12 +182,12 @@ void end_post(uint32_t source, uint64_t id, uint32_t code) {
     if (from == ANYBODY) own->flags |= OF_ANY;
     struct receive made = {.id = id, .comm = own->comm, .source = from, .tag = own->tag, .by = NO_STEP, .is_open = true};
     uint32_t would = ULFM_NOT_YET;
-    if (ulfm_would(&ranks[rank].home, id, &would) == ULFM_OK && would == ULFM_OK) {
+    if (ulfm_would(&um_ranks[rank].home, id, &would) == ULFM_OK && would == ULFM_OK) {
         int at = waiting_for(rank, made.comm, from, made.tag);
         if (at >= 0) made.by = waiting[rank][at].came, remove_waiting(rank, at);
         made.is_open = false;
     }
-    if (grow(&receives[rank], receive_count[rank], sizeof made)) receives[rank][receive_count[rank]++] = made;
+    if (um_grow(&receives[rank], receive_count[rank], sizeof made)) receives[rank][receive_count[rank]++] = made;
 }
 
 static void remove_receive(int rank, const struct receive *receive) {
@@ -197,7 +197,7 @@ static void remove_receive(int rank, const struct receive *receive) {
 }
 
 /* A test or a cancel was answered. */
-void end_look(uint64_t id, uint32_t code, const ulfm_status *status) {
+void um_end_look(uint64_t id, uint32_t code, const ulfm_status *status) {
     struct footprint *own = present();
     const struct receive *receive = receive_of(own->rank, id);
     own->flags = !own->waits || own->kind == CANCELS ? ASKED : 0;
@@ -220,7 +220,7 @@ void end_look(uint64_t id, uint32_t code, const ulfm_status *status) {
     if (code == ULFM_OK) remove_receive(own->rank, receive);
 }
 
-void end_probe(uint32_t source, uint32_t code, bool takes) {
+void um_end_probe(uint32_t source, uint32_t code, bool takes) {
     struct footprint *own = present();
     int rank = own->rank, from = source == ULFM_ANY ? ANYBODY : member_at(rank, (uint32_t)own->comm, source);
     own->source = (int8_t)from;
@@ -236,13 +236,13 @@ void end_probe(uint32_t source, uint32_t code, bool takes) {
 }
 
 /* A revocation by the rank; `was_revoked`: known before. */
-void end_revoke(bool was_revoked) {
+void um_end_revoke(bool was_revoked) {
     present()->flags = 0;
     if (!was_revoked) revoke(present()->rank, present()->comm);
 }
 
 /* What the rank asked for its own state of. */
-void end_question(uint32_t answer) {
+void um_end_question(uint32_t answer) {
     struct footprint *own = present();
     own->answer = answer;
     if (own->kind != ASKS_FAILED && own->kind != ACKNOWLEDGES) return;
@@ -250,23 +250,23 @@ void end_question(uint32_t answer) {
     own->fails = (uint8_t)members_of(own->rank, (uint32_t)own->comm);
 }
 
-uint32_t topic_of(uint32_t comm, bool agrees, int round) { return 1 + (comm * 2 + agrees) * MOST_ROUNDS + (uint32_t)round; }
+uint32_t um_topic_of(uint32_t comm, bool agrees, int round) { return 1 + (comm * 2 + agrees) * MOST_ROUNDS + (uint32_t)round; }
 
-void end_entry(bool agrees, uint32_t flag, uint32_t code) {
+void um_end_entry(bool agrees, uint32_t flag, uint32_t code) {
     struct footprint *own = present();
     own->flags = 0;
     own->answer = flag;
     if (code != ULFM_OK) return;
     own->fails = (uint8_t)members_of(own->rank, (uint32_t)own->comm);
-    own->topic = topic_of((uint32_t)own->comm, agrees, proposal_of(own->rank, (uint32_t)own->comm, agrees).round);
-    push_to_all(own->rank, own->fails);
+    own->topic = um_topic_of((uint32_t)own->comm, agrees, um_proposal_of(own->rank, (uint32_t)own->comm, agrees).round);
+    um_push_to_all(own->rank, own->fails);
 }
 
 /* A poll; `proposal` is what the rank would propose. */
-void end_poll(bool agrees, const struct proposal *proposal, uint32_t answer) {
+void um_end_poll(bool agrees, const struct proposal *proposal, uint32_t answer) {
     struct footprint *own = present();
     own->flags = own->waits ? 0 : ASKED;
-    own->topic = topic_of((uint32_t)own->comm, agrees, proposal->round);
+    own->topic = um_topic_of((uint32_t)own->comm, agrees, proposal->round);
     own->answer = answer;
     if (!proposal->is_possible) {
         own->flags |= IN_VAIN;

@@ -38,7 +38,7 @@ extern struct search {
     uint64_t before[MOST_STEPS][WORDS];   /* which events happen before each */
     short of_rank[MAX_RANKS][MOST_STEPS], polls[MOST_STEPS];
     int rank_count[MAX_RANKS], poll_count, last_of[PROCESSES];
-} *search;
+} *um_search;
 
 static inline processes asleep(const struct sleepers *sleepers) {
     processes set = 0;
@@ -53,6 +53,6 @@ static inline int lowest(processes set) {
 }
 
 /* races.c */
-void find_races(int from);
+void um_find_races(int from);
 
 #endif

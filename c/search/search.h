@@ -55,56 +55,56 @@ enum cut { NOT_CUT, ASLEEP, MEETS_LOSS, NOT_THE_SAME };
 enum search_step { SEARCH_GOES_ON, SEARCH_IS_OVER, SEARCH_BEGINS_ANEW, SEARCH_FAILED };
 
 /* search.c */
-bool begin_search(void);
-void begin_searched(void);
-int choose_by_search(const struct event *choices, int count);
-bool note_step(void);
-enum cut cut_of_search(void);
-void tell_not_same(void);
-enum search_step end_searched(void);
+bool um_begin_search(void);
+void um_begin_searched(void);
+int um_choose_by_search(const struct event *choices, int count);
+bool um_note_step(void);
+enum cut um_cut_of_search(void);
+void um_tell_not_same(void);
+enum search_step um_end_searched(void);
 
 /* heard.c */
-struct proposal proposal_of(int rank, uint32_t comm, bool agrees);
+struct proposal um_proposal_of(int rank, uint32_t comm, bool agrees);
 
 /* rings.c */
-void note_push(int from, int to);
-void push_to_all(int from, uint32_t members);
-int16_t pull(int from, int to);
-int16_t lose(int from, int to);
-int first_lost(int from, int to);
-int count_of_pushed(int from, int to);
-int count_at_stop(int from, int to, int *taken);
+void um_note_push(int from, int to);
+void um_push_to_all(int from, uint32_t members);
+int16_t um_pull(int from, int to);
+int16_t um_lose(int from, int to);
+int um_first_lost(int from, int to);
+int um_count_of_pushed(int from, int to);
+int um_count_at_stop(int from, int to, int *taken);
 
-/* footprint.c: each `end_` after the call of its kind; `footprints` is null where none are kept. */
-extern struct footprint *footprints;   /* of the present schedule's events */
-extern int step;                       /* the number of the present event */
+/* footprint.c: each `end_` after the call of its kind; `um_footprints` is null where none are kept. */
+extern struct footprint *um_footprints;   /* of the present schedule's events */
+extern int um_step;                       /* the number of the present event */
 static inline int ring_of(int from, int to) { return MAX_RANKS + MAX_RANKS * from + to; }
 static inline int loss_of(int from, int to) { return LOSSES + (MAX_RANKS - 1) * from + to - (to > from); }
 static inline int process_of(const struct event *event) {
     if (event->kind == LOSES) return loss_of(event->peer, event->rank);
     return event->kind == TAKES ? ring_of(event->peer, event->rank) : event->rank;
 }
-uint32_t topic_of(uint32_t comm, bool agrees, int round);
-void begin_footprint(const struct event *event);
-void note_taken(const struct event *event, bool was_revoked);
-void forget_silent(int rank);
-void note_silent(const struct event *call);
-void begin_call(const struct event *call);
-void end_send(uint32_t dest, uint32_t code);
-void end_post(uint32_t source, uint64_t id, uint32_t code);
-void end_look(uint64_t id, uint32_t code, const ulfm_status *status);
-void end_probe(uint32_t source, uint32_t code, bool takes);
-void end_revoke(bool was_revoked);
-void end_question(uint32_t answer);
-void end_entry(bool agrees, uint32_t flag, uint32_t code);
-void end_poll(bool agrees, const struct proposal *proposal, uint32_t answer);
-void end_stop(void);
+uint32_t um_topic_of(uint32_t comm, bool agrees, int round);
+void um_begin_footprint(const struct event *event);
+void um_note_taken(const struct event *event, bool was_revoked);
+void um_forget_silent(int rank);
+void um_note_silent(const struct event *call);
+void um_begin_call(const struct event *call);
+void um_end_send(uint32_t dest, uint32_t code);
+void um_end_post(uint32_t source, uint64_t id, uint32_t code);
+void um_end_look(uint64_t id, uint32_t code, const ulfm_status *status);
+void um_end_probe(uint32_t source, uint32_t code, bool takes);
+void um_end_revoke(bool was_revoked);
+void um_end_question(uint32_t answer);
+void um_end_entry(bool agrees, uint32_t flag, uint32_t code);
+void um_end_poll(bool agrees, const struct proposal *proposal, uint32_t answer);
+void um_end_stop(void);
 
 /* commute.c */
-bool do_commute(const struct footprint *a, const struct footprint *b);
-bool is_dependent(const struct footprint *a, int at, const struct footprint *b);
-bool is_needed(const struct footprint *a, const struct footprint *b);
-bool learn_wildcards(int count);
-bool begin_commute(void);
+bool um_do_commute(const struct footprint *a, const struct footprint *b);
+bool um_is_dependent(const struct footprint *a, int at, const struct footprint *b);
+bool um_is_needed(const struct footprint *a, const struct footprint *b);
+bool um_learn_wildcards(int count);
+bool um_begin_commute(void);
 
 #endif

@@ -23,11 +23,11 @@ static struct answers {
     char text[ROOM];
 } *answers;
 
-ulfm_slot *slot_of(uint32_t rank) { return &ranks[rank].home; }
+ulfm_slot *slot_of(uint32_t rank) { return &um_ranks[rank].home; }
 
 void give_up(const char *why, uint32_t rank, const char *what) {
-    dprintf(options.report, "%s: rank %u, %s\n", why, rank, what);
-    leave_process(3);
+    dprintf(um_options.report, "%s: rank %u, %s\n", why, rank, what);
+    um_leave_process(3);
 }
 
 /* ---- In place of programs (load.c) ---- */
@@ -43,18 +43,18 @@ static bool uses_duplicate(void) {
     return uses;
 }
 
-bool copy_programs(void) {
-    FILE *from = fopen(options.program, "r");
+bool um_copy_programs(void) {
+    FILE *from = fopen(um_options.program, "r");
     if (from) read_job(from);
     if (from) fclose(from);
-    options.no_loss = uses_duplicate();
-    answers = shared_memory(sizeof *answers);
-    return from && answers && actor_count == (uint32_t)options.ranks;
+    um_options.no_loss = uses_duplicate();
+    answers = um_shared_memory(sizeof *answers);
+    return from && answers && actor_count == (uint32_t)um_options.ranks;
 }
 
-void leave_copies(void) {}
+void um_leave_copies(void) {}
 
-void remove_copies(void) {}
+void um_remove_copies(void) {}
 
 /* What a wait of a step is for. */
 struct open_step {
@@ -71,16 +71,16 @@ static bool is_answered(void *of, bool is_settled) {
 /* A look is made as a wait looks; who enters something does so before. */
 static void play_step(struct actor *actor, struct step *at) {
     bool is_look = !strcmp(at->op, "wait") || !strcmp(at->op, "probe");
-    if (is_look || poll_step(actor, at) == OPEN) wait_until(is_answered, &(struct open_step){actor, at}, false);
+    if (is_look || poll_step(actor, at) == OPEN) um_wait_until(is_answered, &(struct open_step){actor, at}, false);
 }
 
 /* The steps of the rank that runs, up to its stop; then others take its place, and items are taken for it. */
-int run_program(struct rank *rank) {
+int um_run_program(struct rank *rank) {
     struct actor *actor = &actors[rank->number];
     bool has_stopped = false;
     uint32_t made;
     actor->me = (uint32_t)rank->number;
-    if (!options.no_loss) ulfm_dup(&rank->home, 0, &made);
+    if (!um_options.no_loss) ulfm_dup(&rank->home, 0, &made);
     rank->has_begun = true;
     for (size_t k = 0; k < actor->count && !has_stopped; k++) {
         struct step *at = &actor->steps[k];
@@ -112,15 +112,15 @@ static void add_answer(const char *line, size_t length) {
 }
 
 /* Each schedule that is counted goes through here (the linker's --wrap). */
-bool __real_count_ending(uint64_t seed, int *which);
-bool __wrap_count_ending(uint64_t seed, int *which) {
+bool __real_um_count_ending(uint64_t seed, int *which);
+bool __wrap_um_count_ending(uint64_t seed, int *which) {
     char line[ANSWER + 32];
     for (uint32_t r = 0; r < actor_count; r++)
         for (size_t k = 0; k < actors[r].count; k++) {
             const char *answer = actors[r].steps[k].answer;
             if (*answer) add_answer(line, (size_t)snprintf(line, sizeof line, "%u %zu: %s\n", r, k, answer));
         }
-    return __real_count_ending(seed, which);
+    return __real_um_count_ending(seed, which);
 }
 
 int main(int count, char **words) {

@@ -21,13 +21,13 @@ struct array {
 };
 
 /* Another lower bound and extent of the same data. */
-int resize(struct type *of, ptrdiff_t lower, ptrdiff_t extent, struct type **made) {
+int um_resize(struct type *of, ptrdiff_t lower, ptrdiff_t extent, struct type **made) {
     ptrdiff_t upper;
-    int code = __builtin_add_overflow(lower, extent, &upper) ? MPI_ERR_ARG : join(&(struct piece){1, 0, 0, of}, 1, made);
+    int code = __builtin_add_overflow(lower, extent, &upper) ? MPI_ERR_ARG : um_join(&(struct piece){1, 0, 0, of}, 1, made);
     if (code != MPI_SUCCESS) return code;
     (*made)->has_lower = (*made)->has_upper = true;
-    code = set_bounds(*made, lower, upper);
-    if (code != MPI_SUCCESS) free_type(*made);
+    code = um_set_bounds(*made, lower, upper);
+    if (code != MPI_SUCCESS) um_free_type(*made);
     return code;
 }
 
@@ -42,20 +42,20 @@ static int make_array(const struct array *array, taking *take, const void *what,
     for (int k = 0; k < array->dims && code == MPI_SUCCESS; k++) {
         int dim = array->is_fortran ? k : array->dims - 1 - k;
         code = take(what, dim, stride, type, &next);
-        if (type != array->of) free_type(type);
+        if (type != array->of) um_free_type(type);
         type = code == MPI_SUCCESS ? next : array->of;
         if (__builtin_mul_overflow(stride, number_at(array->sizes, dim), &stride)) code = MPI_ERR_ARG;
     }
-    if (code == MPI_SUCCESS) code = resize(type, 0, stride, &next);
-    if (type != array->of) free_type(type);
-    return code == MPI_SUCCESS ? add_type(next, made) : code;
+    if (code == MPI_SUCCESS) code = um_resize(type, 0, stride, &next);
+    if (type != array->of) um_free_type(type);
+    return code == MPI_SUCCESS ? um_add_type(next, made) : code;
 }
 
 /* Elements in a row of a dimension. */
 static int take_row(MPI_Count first, MPI_Count count, ptrdiff_t stride, struct type *row, struct type **made) {
     ptrdiff_t at;
     if (__builtin_mul_overflow(first, stride, &at)) return MPI_ERR_ARG;
-    return join(&(struct piece){(size_t)count, at, stride, row}, 1, made);
+    return um_join(&(struct piece){(size_t)count, at, stride, row}, 1, made);
 }
 
 struct part {
@@ -70,26 +70,26 @@ static int take_part(const void *what, int dim, ptrdiff_t stride, struct type *r
 static bool is_order(int order) { return order == MPI_ORDER_C || order == MPI_ORDER_FORTRAN; }
 
 static int make_part(int dims, struct numbers sizes, const struct part *part, int order, MPI_Datatype type, MPI_Datatype *made) {
-    if (!type_at(type)) return MPI_ERR_TYPE;
+    if (!um_type_at(type)) return MPI_ERR_TYPE;
     if (!made || dims < 1 || !is_given(sizes) || !is_given(part->counts) || !is_given(part->starts) || !is_order(order)) return MPI_ERR_ARG;
     for (int k = 0; k < dims; k++) {
         MPI_Count size = number_at(sizes, k), count = number_at(part->counts, k), start = number_at(part->starts, k);
         if (size < 1 || count < 1 || count > size || start < 0 || start > size - count) return MPI_ERR_ARG;
     }
-    return make_array(&(struct array){dims, sizes, order == MPI_ORDER_FORTRAN, type_at(type)}, take_part, part, made);
+    return make_array(&(struct array){dims, sizes, order == MPI_ORDER_FORTRAN, um_type_at(type)}, take_part, part, made);
 }
 
 int MPI_Type_create_subarray(int dims, const int sizes[], const int subsizes[], const int starts[], int order, MPI_Datatype type, MPI_Datatype *made) {
     ENTER_LOOK(0, MPI_UNDEFINED, MPI_UNDEFINED);
     int code = make_part(dims, (struct numbers){sizes, 0}, &(struct part){{subsizes, 0}, {starts, 0}}, order, type, made);
     struct arguments arguments = {MPI_COMBINER_SUBARRAY, {{1, &dims}, {dims, sizes}, {dims, subsizes}, {dims, starts}, {1, &order}}, 0, 0, 1, &type};
-    return fail(0, describe(code, made, &arguments));
+    return um_fail(0, um_describe(code, made, &arguments));
 }
 
 int MPI_Type_create_subarray_c(int dims, const MPI_Count sizes[], const MPI_Count subsizes[], const MPI_Count starts[], int order, MPI_Datatype type,
                                MPI_Datatype *made) {
     ENTER_LOOK(0, MPI_UNDEFINED, MPI_UNDEFINED);
-    return fail(0, make_part(dims, (struct numbers){0, sizes}, &(struct part){{0, subsizes}, {0, starts}}, order, type, made));
+    return um_fail(0, make_part(dims, (struct numbers){0, sizes}, &(struct part){{0, subsizes}, {0, starts}}, order, type, made));
 }
 
 /* What is one process's of an array: how each dimension is divided, among how many, and which of them it is. */
@@ -122,10 +122,10 @@ static int take_division(const void *what, int dim, ptrdiff_t stride, struct typ
     code = take_row(0, rest > 0 && rest < block ? rest : 0, stride, row, &last);
     if (code == MPI_SUCCESS) {
         struct piece pieces[] = {{(size_t)whole, at[0], at[2], one}, {rest > 0 && rest < block, at[1], 0, last}};
-        code = join(pieces, 2, made);
-        free_type(last);
+        code = um_join(pieces, 2, made);
+        um_free_type(last);
     }
-    free_type(one);
+    um_free_type(one);
     return code;
 }
 
@@ -154,11 +154,11 @@ static int place(const struct division *of, int size, int rank, int dims) {
 
 static int divide(int size, int rank, int dims, struct division division, int order, MPI_Datatype type, MPI_Datatype *made) {
     bool has_all = made && is_given(division.sizes) && division.kinds && division.arguments && division.processes;
-    if (!type_at(type)) return MPI_ERR_TYPE;
+    if (!um_type_at(type)) return MPI_ERR_TYPE;
     if (!has_all || size < 1 || rank < 0 || rank >= size || dims < 1 || !is_order(order)) return MPI_ERR_ARG;
     division.place = malloc((size_t)dims * sizeof(int));
     int code = division.place ? place(&division, size, rank, dims) : MPI_ERR_NO_MEM;
-    struct array array = {dims, division.sizes, order == MPI_ORDER_FORTRAN, type_at(type)};
+    struct array array = {dims, division.sizes, order == MPI_ORDER_FORTRAN, um_type_at(type)};
     if (code == MPI_SUCCESS) code = make_array(&array, take_division, &division, made);
     free(division.place);
     return code;
@@ -170,11 +170,11 @@ int MPI_Type_create_darray(int size, int rank, int dims, const int sizes[], cons
     int code = divide(size, rank, dims, (struct division){{sizes, 0}, distribs, dargs, psizes, 0}, order, type, made);
     struct arguments arguments = {MPI_COMBINER_DARRAY, {{1, &size}, {1, &rank}, {1, &dims}, {dims, sizes}, {dims, distribs}, {dims, dargs}, {dims, psizes},
                                                         {1, &order}}, 0, 0, 1, &type};
-    return fail(0, describe(code, made, &arguments));
+    return um_fail(0, um_describe(code, made, &arguments));
 }
 
 int MPI_Type_create_darray_c(int size, int rank, int dims, const MPI_Count sizes[], const int distribs[], const int dargs[], const int psizes[], int order,
                              MPI_Datatype type, MPI_Datatype *made) {
     ENTER_LOOK(0, MPI_UNDEFINED, MPI_UNDEFINED);
-    return fail(0, divide(size, rank, dims, (struct division){{0, sizes}, distribs, dargs, psizes, 0}, order, type, made));
+    return um_fail(0, divide(size, rank, dims, (struct division){{0, sizes}, distribs, dargs, psizes, 0}, order, type, made));
 }

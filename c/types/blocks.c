@@ -125,7 +125,7 @@ static bool is_plain(const struct type *type) {
     return type->lower == 0 && type->upper == end;
 }
 
-int set_bounds(struct type *type, ptrdiff_t lower, ptrdiff_t upper) {
+int um_set_bounds(struct type *type, ptrdiff_t lower, ptrdiff_t upper) {
     bool is_over = false;
     type->lower = lower;
     type->upper = upper;
@@ -135,7 +135,7 @@ int set_bounds(struct type *type, ptrdiff_t lower, ptrdiff_t upper) {
 }
 
 /* The type of pieces. MPI_ERR_ARG: it reaches further than addresses go. */
-int join(const struct piece *pieces, size_t count, struct type **made) {
+int um_join(const struct piece *pieces, size_t count, struct type **made) {
     struct type *type = calloc(1, sizeof *type);
     bool is_over = false, is_well = type != 0;
     *made = 0;
@@ -147,17 +147,17 @@ int join(const struct piece *pieces, size_t count, struct type **made) {
         *made = type;
         return MPI_SUCCESS;
     }
-    if (type) free_type(type);
+    if (type) um_free_type(type);
     return is_over ? MPI_ERR_ARG : MPI_ERR_NO_MEM;
 }
 
 /* Visits each run of bytes of an element in turn, until one says no. False then. */
-bool each_run(const struct type *type, ptrdiff_t at, bool (*visit)(void *of, ptrdiff_t at, const struct block *block), void *of) {
+bool um_each_run(const struct type *type, ptrdiff_t at, bool (*visit)(void *of, ptrdiff_t at, const struct block *block), void *of) {
     for (size_t b = 0; b < type->blocks; b++) {
         const struct block *block = &type->block[b];
         for (size_t k = 0; k < block->count; k++) {
             ptrdiff_t here = at + block->at + (ptrdiff_t)k * block->stride;
-            if (block->of ? !each_run(block->of, here, visit, of) : !visit(of, here, block)) return false;
+            if (block->of ? !um_each_run(block->of, here, visit, of) : !visit(of, here, block)) return false;
         }
     }
     return true;

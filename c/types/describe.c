@@ -23,35 +23,35 @@ static const char *const names[BASIC_TYPES] = {
 
 /* Where the name stands that a program gave a type; of a basic one, null where it gave none and there is no memory for it. */
 static char *name_of(MPI_Datatype handle, bool is_written) {
-    struct type *type = type_at(handle);
+    struct type *type = um_type_at(handle);
     if (!type->is_basic) return type->name;
-    if (!me->type_names && is_written) me->type_names = calloc(BASIC_TYPES, sizeof *me->type_names);
-    return me->type_names ? me->type_names[(uintptr_t)handle] : 0;
+    if (!um_me->type_names && is_written) um_me->type_names = calloc(BASIC_TYPES, sizeof *um_me->type_names);
+    return um_me->type_names ? um_me->type_names[(uintptr_t)handle] : 0;
 }
 
 int MPI_Type_set_name(MPI_Datatype type, const char *name) {
     ENTER_LOOK(0, MPI_UNDEFINED, MPI_UNDEFINED);
-    if (!type_at(type)) return fail(0, MPI_ERR_TYPE);
+    if (!um_type_at(type)) return um_fail(0, MPI_ERR_TYPE);
     WRITES(0, name);
     char *at = name_of(type, true);
-    if (!at) return fail(0, MPI_ERR_NO_MEM);
+    if (!at) return um_fail(0, MPI_ERR_NO_MEM);
     snprintf(at, MPI_MAX_OBJECT_NAME, "%s", name);
     return MPI_SUCCESS;
 }
 
 int MPI_Type_get_name(MPI_Datatype type, char *name, int *length) {
     ENTER_LOOK(0, MPI_UNDEFINED, MPI_UNDEFINED);
-    if (!type_at(type)) return fail(0, MPI_ERR_TYPE);
+    if (!um_type_at(type)) return um_fail(0, MPI_ERR_TYPE);
     WRITES(0, name && length);
     const char *own = name_of(type, false);
-    if ((!own || !*own) && type_at(type)->is_basic) own = names[(uintptr_t)type];
+    if ((!own || !*own) && um_type_at(type)->is_basic) own = names[(uintptr_t)type];
     *length = snprintf(name, MPI_MAX_OBJECT_NAME, "%s", own);
     return MPI_SUCCESS;
 }
 
-void free_recipe(struct recipe *recipe) {
+void um_free_recipe(struct recipe *recipe) {
     if (!recipe) return;
-    for (int k = 0; k < recipe->types; k++) free_type(recipe->type[k]);
+    for (int k = 0; k < recipe->types; k++) um_free_type(recipe->type[k]);
     free(recipe->number);
     free(recipe->address);
     free(recipe->type);
@@ -69,7 +69,7 @@ static struct recipe *write_recipe(const struct arguments *of) {
         recipe->type = malloc(((size_t)of->types + 1) * sizeof(struct type *));
     }
     if (!recipe || !recipe->number || !recipe->address || !recipe->type) {
-        free_recipe(recipe);
+        um_free_recipe(recipe);
         return 0;
     }
     recipe->combiner = of->combiner;
@@ -77,18 +77,18 @@ static struct recipe *write_recipe(const struct arguments *of) {
         for (int j = 0; j < of->ints[k].count; j++) recipe->number[recipe->ints++] = of->ints[k].at[j];
     for (; recipe->addresses < of->addresses; recipe->addresses++) recipe->address[recipe->addresses] = of->address[recipe->addresses];
     for (; recipe->types < of->types; recipe->types++) {
-        struct type *type = recipe->type[recipe->types] = type_at(of->type[recipe->types]);
+        struct type *type = recipe->type[recipe->types] = um_type_at(of->type[recipe->types]);
         if (!type->is_basic) type->users++;
     }
     return recipe;
 }
 
 /* Keeps how a type was made, where it was (`code`). */
-int describe(int code, MPI_Datatype *made, const struct arguments *arguments) {
+int um_describe(int code, MPI_Datatype *made, const struct arguments *arguments) {
     if (code != MPI_SUCCESS) return code;
-    type_at(*made)->recipe = write_recipe(arguments);
-    if (type_at(*made)->recipe) return MPI_SUCCESS;
-    drop_type(*made);
+    um_type_at(*made)->recipe = write_recipe(arguments);
+    if (um_type_at(*made)->recipe) return MPI_SUCCESS;
+    um_drop_type(*made);
     *made = MPI_DATATYPE_NULL;
     return MPI_ERR_NO_MEM;
 }
@@ -100,9 +100,9 @@ static const struct recipe *recipe_of(const struct type *type) {
 
 int MPI_Type_get_envelope(MPI_Datatype type, int *ints, int *addresses, int *types, int *combiner) {
     ENTER_LOOK(0, MPI_UNDEFINED, MPI_UNDEFINED);
-    if (!type_at(type)) return fail(0, MPI_ERR_TYPE);
+    if (!um_type_at(type)) return um_fail(0, MPI_ERR_TYPE);
     WRITES(0, ints && addresses && types && combiner);
-    const struct recipe *recipe = recipe_of(type_at(type));
+    const struct recipe *recipe = recipe_of(um_type_at(type));
     *ints = recipe->ints;
     *addresses = recipe->addresses;
     *types = recipe->types;
@@ -113,9 +113,9 @@ int MPI_Type_get_envelope(MPI_Datatype type, int *ints, int *addresses, int *typ
 /* No type has large counts here: how one was made by a call that has them isn't told. */
 int MPI_Type_get_envelope_c(MPI_Datatype type, MPI_Count *ints, MPI_Count *addresses, MPI_Count *counts, MPI_Count *types, int *combiner) {
     ENTER_LOOK(0, MPI_UNDEFINED, MPI_UNDEFINED);
-    if (!type_at(type)) return fail(0, MPI_ERR_TYPE);
+    if (!um_type_at(type)) return um_fail(0, MPI_ERR_TYPE);
     WRITES(0, ints && addresses && counts && types && combiner);
-    const struct recipe *recipe = recipe_of(type_at(type));
+    const struct recipe *recipe = recipe_of(um_type_at(type));
     *ints = recipe->ints;
     *addresses = recipe->addresses;
     *counts = 0;
@@ -127,23 +127,23 @@ int MPI_Type_get_envelope_c(MPI_Datatype type, MPI_Count *ints, MPI_Count *addre
 /* A handle of a type of a recipe: the program frees it where it isn't a basic one. */
 static int hand_out(struct type *type, MPI_Datatype *handle) {
     if (type->is_basic) {
-        *handle = handle_of_basic(type);
+        *handle = um_handle_of_basic(type);
         return MPI_SUCCESS;
     }
     type->users++;
-    return add_type(type, handle);
+    return um_add_type(type, handle);
 }
 
 static int tell_contents(MPI_Datatype type, MPI_Count ints, MPI_Count addresses, MPI_Count types, int number[], MPI_Aint address[], MPI_Datatype of[]) {
-    const struct recipe *recipe = type_at(type) ? type_at(type)->recipe : 0;
+    const struct recipe *recipe = um_type_at(type) ? um_type_at(type)->recipe : 0;
     int code = MPI_SUCCESS;
-    if (!recipe) return fail(0, MPI_ERR_TYPE);
-    if (ints < recipe->ints || addresses < recipe->addresses || types < recipe->types) return fail(0, MPI_ERR_ARG);
+    if (!recipe) return um_fail(0, MPI_ERR_TYPE);
+    if (ints < recipe->ints || addresses < recipe->addresses || types < recipe->types) return um_fail(0, MPI_ERR_ARG);
     WRITES(0, (number || !recipe->ints) && (address || !recipe->addresses) && (of || !recipe->types));
     if (recipe->ints) memcpy(number, recipe->number, (size_t)recipe->ints * sizeof *number);
     if (recipe->addresses) memcpy(address, recipe->address, (size_t)recipe->addresses * sizeof *address);
     for (int k = 0; k < recipe->types && code == MPI_SUCCESS; k++) code = hand_out(recipe->type[k], &of[k]);
-    return fail(0, code);
+    return um_fail(0, code);
 }
 
 int MPI_Type_get_contents(MPI_Datatype type, int ints, int addresses, int types, int number[], MPI_Aint address[], MPI_Datatype of[]) {

@@ -65,10 +65,10 @@ static int check(const char *form, const struct packing *of, MPI_Count position,
     int code;
     if (!form || of->room < 0 || position < 0) return MPI_ERR_ARG;
     if (strcmp(form, "external32")) return MPI_ERR_UNSUPPORTED_DATAREP;
-    const struct type *type = check_type(small(of->count), of->type, bytes, &code);
+    const struct type *type = um_check_type(um_small(of->count), of->type, bytes, &code);
     if (!type) return code;
     if (__builtin_mul_overflow((size_t)of->count, type->external, bytes)) return MPI_ERR_COUNT;
-    if (!is_buffer(of->buffer, *bytes, of->type) || !is_buffer(of->packed, *bytes, MPI_PACKED)) return MPI_ERR_BUFFER;
+    if (!um_is_buffer(of->buffer, *bytes, of->type) || !um_is_buffer(of->packed, *bytes, MPI_PACKED)) return MPI_ERR_BUFFER;
     return position > of->room || *bytes > (size_t)(of->room - position) ? MPI_ERR_TRUNCATE : MPI_SUCCESS;
 }
 
@@ -79,34 +79,34 @@ enum what { SIZE, OUT, IN };
 static int pack(const char *form, struct packing of, MPI_Count *position, enum what what) {
     struct large large = {0};
     size_t bytes = 0;
-    hold_count(&large, &of.count, &of.type);
+    um_hold_count(&large, &of.count, &of.type);
     int code = large.code == MPI_SUCCESS ? check(form, &of, *position, &bytes) : large.code;
     if (code == MPI_SUCCESS && what != SIZE) {
-        struct type *type = type_at(of.type);
+        struct type *type = um_type_at(of.type);
         struct turning turning = {of.buffer, of.packed + *position, what == OUT};
-        for (int k = 0; k < small(of.count); k++) each_run(type, k * extent_of(type), turn_run, &turning);
+        for (int k = 0; k < um_small(of.count); k++) um_each_run(type, k * extent_of(type), turn_run, &turning);
     }
     if (code == MPI_SUCCESS) *position += (MPI_Count)bytes;
-    return end_large(&large, code);
+    return um_end_large(&large, code);
 }
 
 int MPI_Pack_external_c(const char form[], const void *buffer, MPI_Count count, MPI_Datatype type, void *packed, MPI_Count room, MPI_Count *position) {
     ENTER_LOOK(0, MPI_UNDEFINED, MPI_UNDEFINED);
     WRITES(0, position);
-    return fail(0, pack(form, (struct packing){(void *)(uintptr_t)buffer, count, type, packed, room}, position, OUT));
+    return um_fail(0, pack(form, (struct packing){(void *)(uintptr_t)buffer, count, type, packed, room}, position, OUT));
 }
 
 int MPI_Unpack_external_c(const char form[], const void *packed, MPI_Count room, MPI_Count *position, void *buffer, MPI_Count count, MPI_Datatype type) {
     ENTER_LOOK(0, MPI_UNDEFINED, MPI_UNDEFINED);
     WRITES(0, position);
-    return fail(0, pack(form, (struct packing){buffer, count, type, (char *)(uintptr_t)packed, room}, position, IN));
+    return um_fail(0, pack(form, (struct packing){buffer, count, type, (char *)(uintptr_t)packed, room}, position, IN));
 }
 
 int MPI_Pack_external_size_c(const char form[], MPI_Count count, MPI_Datatype type, MPI_Count *size) {
     MPI_Count bytes = 0;
     ENTER_LOOK(0, MPI_UNDEFINED, MPI_UNDEFINED);
     int code = pack(form, (struct packing){&bytes, count, type, (char *)&bytes, LLONG_MAX}, &bytes, SIZE);
-    if (code != MPI_SUCCESS) return fail(0, code);
+    if (code != MPI_SUCCESS) return um_fail(0, code);
     WRITES(0, size);
     *size = bytes;
     return MPI_SUCCESS;
@@ -118,7 +118,7 @@ int MPI_Pack_external(const char form[], const void *buffer, int count, MPI_Data
     ENTER_LOOK(0, MPI_UNDEFINED, MPI_UNDEFINED);
     int code = pack(form, (struct packing){(void *)(uintptr_t)buffer, count, type, packed, room}, &at, OUT);
     if (code == MPI_SUCCESS) *position = (MPI_Aint)at;
-    return fail(0, code);
+    return um_fail(0, code);
 }
 
 int MPI_Unpack_external(const char form[], const void *packed, MPI_Aint room, MPI_Aint *position, void *buffer, int count, MPI_Datatype type) {
@@ -126,14 +126,14 @@ int MPI_Unpack_external(const char form[], const void *packed, MPI_Aint room, MP
     ENTER_LOOK(0, MPI_UNDEFINED, MPI_UNDEFINED);
     int code = pack(form, (struct packing){buffer, count, type, (char *)(uintptr_t)packed, room}, &at, IN);
     if (code == MPI_SUCCESS) *position = (MPI_Aint)at;
-    return fail(0, code);
+    return um_fail(0, code);
 }
 
 int MPI_Pack_external_size(const char form[], int count, MPI_Datatype type, MPI_Aint *size) {
     MPI_Count bytes = 0;
     ENTER_LOOK(0, MPI_UNDEFINED, MPI_UNDEFINED);
     int code = pack(form, (struct packing){&bytes, count, type, (char *)&bytes, LLONG_MAX}, &bytes, SIZE);
-    if (code != MPI_SUCCESS) return fail(0, code);
+    if (code != MPI_SUCCESS) return um_fail(0, code);
     WRITES(0, size);
     *size = (MPI_Aint)bytes;
     return MPI_SUCCESS;

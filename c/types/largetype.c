@@ -6,11 +6,11 @@
 /* Makes a type of pieces, and frees them. `aligns`: as a structure is. */
 static int make(struct piece *pieces, MPI_Count count, bool aligns, MPI_Datatype *made) {
     struct type *type = 0;
-    int code = pieces ? join(pieces, (size_t)count, &type) : MPI_ERR_NO_MEM;
+    int code = pieces ? um_join(pieces, (size_t)count, &type) : MPI_ERR_NO_MEM;
     free(pieces);
-    if (code == MPI_SUCCESS && aligns) code = align_type(type);
-    if (code == MPI_SUCCESS) return add_type(type, made);
-    if (type) free_type(type);
+    if (code == MPI_SUCCESS && aligns) code = um_align_type(type);
+    if (code == MPI_SUCCESS) return um_add_type(type, made);
+    if (type) um_free_type(type);
     return code;
 }
 
@@ -25,7 +25,7 @@ struct blocks {
 
 /* Writes one of them; MPI_SUCCESS, or why there is no such one. */
 static int cut(const struct blocks *blocks, MPI_Count k, struct piece *piece) {
-    struct type *of = type_at(blocks->types[blocks->has_several ? k : 0]);
+    struct type *of = um_type_at(blocks->types[blocks->has_several ? k : 0]);
     MPI_Count length = blocks->lengths ? blocks->lengths[k] : blocks->length;
     ptrdiff_t at = (ptrdiff_t)blocks->displs[k];
     if (!of) return MPI_ERR_TYPE;
@@ -47,16 +47,16 @@ static int make_blocks(const struct blocks *blocks, MPI_Datatype *made) {
 
 /* The same blocks, `stride` bytes from one to the next. */
 static int make_vector(MPI_Count count, MPI_Count length, MPI_Count stride, bool is_bytes, MPI_Datatype type, MPI_Datatype *made) {
-    struct type *of = type_at(type), *row, *whole;
+    struct type *of = um_type_at(type), *row, *whole;
     ptrdiff_t step = (ptrdiff_t)stride;
-    if (count < 0) return fail(0, MPI_ERR_COUNT);
-    if (!of) return fail(0, MPI_ERR_TYPE);
-    if (!made || length < 0 || (!is_bytes && __builtin_mul_overflow(step, extent_of(of), &step))) return fail(0, MPI_ERR_ARG);
-    int code = join(&(struct piece){(size_t)length, 0, extent_of(of), of}, 1, &row);
-    if (code != MPI_SUCCESS) return fail(0, code);
-    code = join(&(struct piece){length ? (size_t)count : 0, 0, step, row}, 1, &whole);
-    free_type(row);
-    return fail(0, code == MPI_SUCCESS ? add_type(whole, made) : code);
+    if (count < 0) return um_fail(0, MPI_ERR_COUNT);
+    if (!of) return um_fail(0, MPI_ERR_TYPE);
+    if (!made || length < 0 || (!is_bytes && __builtin_mul_overflow(step, extent_of(of), &step))) return um_fail(0, MPI_ERR_ARG);
+    int code = um_join(&(struct piece){(size_t)length, 0, extent_of(of), of}, 1, &row);
+    if (code != MPI_SUCCESS) return um_fail(0, code);
+    code = um_join(&(struct piece){length ? (size_t)count : 0, 0, step, row}, 1, &whole);
+    um_free_type(row);
+    return um_fail(0, code == MPI_SUCCESS ? um_add_type(whole, made) : code);
 }
 
 int MPI_Type_contiguous_c(MPI_Count count, MPI_Datatype type, MPI_Datatype *made) {
@@ -77,36 +77,36 @@ int MPI_Type_create_hvector_c(MPI_Count count, MPI_Count length, MPI_Count strid
 int MPI_Type_indexed_c(MPI_Count count, const MPI_Count lengths[], const MPI_Count displs[], MPI_Datatype type, MPI_Datatype *made) {
     ENTER_LOOK(0, MPI_UNDEFINED, MPI_UNDEFINED);
     WRITES(0, count <= 0 || lengths);
-    return fail(0, make_blocks(&(struct blocks){.count = count, .lengths = lengths, .displs = displs, .types = &type}, made));
+    return um_fail(0, make_blocks(&(struct blocks){.count = count, .lengths = lengths, .displs = displs, .types = &type}, made));
 }
 
 int MPI_Type_create_hindexed_c(MPI_Count count, const MPI_Count lengths[], const MPI_Count displs[], MPI_Datatype type, MPI_Datatype *made) {
     ENTER_LOOK(0, MPI_UNDEFINED, MPI_UNDEFINED);
     WRITES(0, count <= 0 || lengths);
-    return fail(0, make_blocks(&(struct blocks){.count = count, .lengths = lengths, .displs = displs, .is_bytes = true, .types = &type}, made));
+    return um_fail(0, make_blocks(&(struct blocks){.count = count, .lengths = lengths, .displs = displs, .is_bytes = true, .types = &type}, made));
 }
 
 int MPI_Type_create_indexed_block_c(MPI_Count count, MPI_Count length, const MPI_Count displs[], MPI_Datatype type, MPI_Datatype *made) {
     ENTER_LOOK(0, MPI_UNDEFINED, MPI_UNDEFINED);
-    return fail(0, make_blocks(&(struct blocks){.count = count, .length = length, .displs = displs, .types = &type}, made));
+    return um_fail(0, make_blocks(&(struct blocks){.count = count, .length = length, .displs = displs, .types = &type}, made));
 }
 
 int MPI_Type_create_hindexed_block_c(MPI_Count count, MPI_Count length, const MPI_Count displs[], MPI_Datatype type, MPI_Datatype *made) {
     ENTER_LOOK(0, MPI_UNDEFINED, MPI_UNDEFINED);
-    return fail(0, make_blocks(&(struct blocks){.count = count, .length = length, .displs = displs, .is_bytes = true, .types = &type}, made));
+    return um_fail(0, make_blocks(&(struct blocks){.count = count, .length = length, .displs = displs, .is_bytes = true, .types = &type}, made));
 }
 
 int MPI_Type_create_struct_c(MPI_Count count, const MPI_Count lengths[], const MPI_Count displs[], const MPI_Datatype types[], MPI_Datatype *made) {
     ENTER_LOOK(0, MPI_UNDEFINED, MPI_UNDEFINED);
     WRITES(0, count <= 0 || lengths);
     struct blocks blocks = {.count = count, .lengths = lengths, .displs = displs, .is_bytes = true, .types = types, .has_several = true};
-    return fail(0, make_blocks(&blocks, made));
+    return um_fail(0, make_blocks(&blocks, made));
 }
 
 int MPI_Get_count_c(const MPI_Status *status, MPI_Datatype type, MPI_Count *count) {
     ENTER_LOOK(0, MPI_UNDEFINED, MPI_UNDEFINED);
-    const struct type *of = type_at(type);
-    if (!of) return fail(0, MPI_ERR_TYPE);
+    const struct type *of = um_type_at(type);
+    if (!of) return um_fail(0, MPI_ERR_TYPE);
     WRITES(0, status && count);
     size_t whole = of->size ? status->bytes / of->size : 0;
     *count = whole * of->size == status->bytes ? (MPI_Count)whole : MPI_UNDEFINED;

@@ -6,8 +6,8 @@
 #include <string.h>
 
 /* Whether so many bytes of a type can stand there. With displacements from MPI_BOTTOM they can at a null pointer. */
-bool is_buffer(const void *buffer, size_t bytes, MPI_Datatype type) {
-    return bytes == 0 || ((buffer || !is_basic_type(type)) && buffer != MPI_IN_PLACE);
+bool um_is_buffer(const void *buffer, size_t bytes, MPI_Datatype type) {
+    return bytes == 0 || ((buffer || !um_is_basic_type(type)) && buffer != MPI_IN_PLACE);
 }
 
 struct motion {
@@ -41,7 +41,7 @@ static void move_type(struct motion *motion, char *place, const struct type *typ
 }
 
 /* Copies the data of so many elements from memory to `packed`, or back: at most `bytes` of them. */
-void move_data(const struct type *type, int count, void *memory, void *packed, size_t bytes, bool is_out) {
+void um_move_data(const struct type *type, int count, void *memory, void *packed, size_t bytes, bool is_out) {
     struct motion motion = {packed, bytes, is_out};
     for (int k = 0; k < count && motion.left > 0; k++) move_type(&motion, (char *)memory + k * extent_of(type), type);
 }
@@ -58,39 +58,39 @@ static bool copy_run(void *of, ptrdiff_t at, const struct block *block) {
 }
 
 /* Copies the data of so many elements, and nothing between them, to memory that is laid out alike. */
-void copy_data(const void *from, void *to, int count, MPI_Datatype handle) {
-    const struct type *type = type_at(handle);
+void um_copy_data(const void *from, void *to, int count, MPI_Datatype handle) {
+    const struct type *type = um_type_at(handle);
     struct copying copying = {to, from};
-    for (int k = 0; k < count; k++) each_run(type, k * extent_of(type), copy_run, &copying);
+    for (int k = 0; k < count; k++) um_each_run(type, k * extent_of(type), copy_run, &copying);
 }
 
 /* The bytes of memory that so many elements reach from their address, all of the last one's extent among them; false where they begin before it. */
-bool reach_of_data(int count, MPI_Datatype handle, size_t *bytes) {
-    const struct type *type = type_at(handle);
+bool um_reach_of_data(int count, MPI_Datatype handle, size_t *bytes) {
+    const struct type *type = um_type_at(handle);
     ptrdiff_t most = extent_of(type) > type->most ? extent_of(type) : type->most;
     *bytes = count > 0 ? (size_t)((count - 1) * extent_of(type) + most) : 0;
     return type->least >= 0 && extent_of(type) >= 0;
 }
 
-bool is_plain_type(MPI_Datatype handle) { return type_at(handle)->is_plain; }
+bool um_is_plain_type(MPI_Datatype handle) { return um_type_at(handle)->is_plain; }
 
 /* The data of so many elements in one piece: the buffer itself where they are, else a copy, which `packed` gets too and the caller frees.
    MPI_ERR_NO_MEM where there is no memory, else MPI_SUCCESS. */
-int pack_data(const void *buffer, int count, MPI_Datatype handle, const void **data, void **packed) {
-    const struct type *type = type_at(handle);
+int um_pack_data(const void *buffer, int count, MPI_Datatype handle, const void **data, void **packed) {
+    const struct type *type = um_type_at(handle);
     *data = buffer;
     *packed = 0;
     if (!type || type->is_plain || buffer == MPI_IN_PLACE || count <= 0) return MPI_SUCCESS;
     *packed = malloc((size_t)count * type->size + 1);
     if (!*packed) return MPI_ERR_NO_MEM;
-    move_data(type, count, (void *)(uintptr_t)buffer, *packed, (size_t)count * type->size, true);
+    um_move_data(type, count, (void *)(uintptr_t)buffer, *packed, (size_t)count * type->size, true);
     *data = *packed;
     return MPI_SUCCESS;
 }
 
 /* Lays data that came in one piece out where they belong. */
-void unpack_data(const void *data, size_t bytes, void *buffer, int count, MPI_Datatype handle) {
-    move_data(type_at(handle), count, buffer, (void *)(uintptr_t)data, bytes, false);
+void um_unpack_data(const void *data, size_t bytes, void *buffer, int count, MPI_Datatype handle) {
+    um_move_data(um_type_at(handle), count, buffer, (void *)(uintptr_t)data, bytes, false);
 }
 
 /* Where a receive gets the data of a type that isn't plain: in `bytes`; they are laid out when they are there. */
@@ -102,8 +102,8 @@ struct landing {
 };
 
 /* The landing of a receive, or null where it needs none; false where there is no memory. */
-bool make_landing(void *buffer, int count, MPI_Datatype handle, struct landing **made) {
-    struct type *type = type_at(handle);
+bool um_make_landing(void *buffer, int count, MPI_Datatype handle, struct landing **made) {
+    struct type *type = um_type_at(handle);
     *made = 0;
     if (count == 0 || type->is_plain) return true;
     *made = malloc(sizeof **made + (size_t)count * type->size);
@@ -115,13 +115,13 @@ bool make_landing(void *buffer, int count, MPI_Datatype handle, struct landing *
     return true;
 }
 
-void *bytes_of_landing(struct landing *landing) { return landing->bytes; }
+void *um_bytes_of_landing(struct landing *landing) { return landing->bytes; }
 
-void land(struct landing *landing, size_t bytes) { move_data(landing->type, landing->count, landing->memory, landing->bytes, bytes, false); }
+void um_land(struct landing *landing, size_t bytes) { um_move_data(landing->type, landing->count, landing->memory, landing->bytes, bytes, false); }
 
-void free_landing(struct landing *landing) {
+void um_free_landing(struct landing *landing) {
     if (!landing) return;
-    free_type(landing->type);
+    um_free_type(landing->type);
     free(landing);
 }
 
@@ -129,28 +129,28 @@ void free_landing(struct landing *landing) {
 static int size_of(MPI_Count count, MPI_Datatype type, const struct comm *comm, size_t *bytes) {
     struct large large = {0};
     if (!comm) return MPI_ERR_COMM;
-    hold_count(&large, &count, &type);
-    if (large.code == MPI_SUCCESS) check_buffer(small(count), type, bytes, &large.code);
-    return end_large(&large, large.code);
+    um_hold_count(&large, &count, &type);
+    if (large.code == MPI_SUCCESS) um_check_buffer(um_small(count), type, bytes, &large.code);
+    return um_end_large(&large, large.code);
 }
 
 int MPI_Pack_size(int count, MPI_Datatype type, MPI_Comm comm, int *size) {
-    struct comm *of = comm_at(comm);
+    struct comm *of = um_comm_at(comm);
     size_t bytes;
     ENTER_LOOK(of, MPI_UNDEFINED, MPI_UNDEFINED);
     int code = size_of(count, type, of, &bytes);
-    if (code != MPI_SUCCESS) return fail(of, code);
+    if (code != MPI_SUCCESS) return um_fail(of, code);
     WRITES(of, size);
     *size = bytes > INT_MAX ? MPI_UNDEFINED : (int)bytes;
     return MPI_SUCCESS;
 }
 
 int MPI_Pack_size_c(MPI_Count count, MPI_Datatype type, MPI_Comm comm, MPI_Count *size) {
-    struct comm *of = comm_at(comm);
+    struct comm *of = um_comm_at(comm);
     size_t bytes;
     ENTER_LOOK(of, MPI_UNDEFINED, MPI_UNDEFINED);
     int code = size_of(count, type, of, &bytes);
-    if (code != MPI_SUCCESS) return fail(of, code);
+    if (code != MPI_SUCCESS) return um_fail(of, code);
     WRITES(of, size);
     *size = (MPI_Count)bytes;
     return MPI_SUCCESS;
@@ -160,8 +160,8 @@ int MPI_Pack_size_c(MPI_Count count, MPI_Datatype type, MPI_Comm comm, MPI_Count
 static int check(const struct packing *of, MPI_Count position, size_t *bytes) {
     int code;
     if (of->room < 0 || position < 0) return MPI_ERR_ARG;
-    if (!check_buffer(small(of->count), of->type, bytes, &code)) return code;
-    if (!is_buffer(of->buffer, *bytes, of->type) || !is_buffer(of->packed, *bytes, MPI_PACKED)) return MPI_ERR_BUFFER;
+    if (!um_check_buffer(um_small(of->count), of->type, bytes, &code)) return code;
+    if (!um_is_buffer(of->buffer, *bytes, of->type) || !um_is_buffer(of->packed, *bytes, MPI_PACKED)) return MPI_ERR_BUFFER;
     return position > of->room || *bytes > (size_t)(of->room - position) ? MPI_ERR_TRUNCATE : MPI_SUCCESS;
 }
 
@@ -170,43 +170,43 @@ static int pack(struct packing of, MPI_Count *position, const struct comm *comm,
     struct large large = {0};
     size_t bytes = 0;
     if (!comm) return MPI_ERR_COMM;
-    hold_count(&large, &of.count, &of.type);
+    um_hold_count(&large, &of.count, &of.type);
     int code = large.code == MPI_SUCCESS ? check(&of, *position, &bytes) : large.code;
     if (code == MPI_SUCCESS) {
-        move_data(type_at(of.type), small(of.count), of.buffer, of.packed + *position, bytes, is_out);
+        um_move_data(um_type_at(of.type), um_small(of.count), of.buffer, of.packed + *position, bytes, is_out);
         *position += (MPI_Count)bytes;
     }
-    return end_large(&large, code);
+    return um_end_large(&large, code);
 }
 
 int MPI_Pack(const void *buffer, int count, MPI_Datatype type, void *packed, int room, int *position, MPI_Comm comm) {
-    struct comm *of = comm_at(comm);
+    struct comm *of = um_comm_at(comm);
     MPI_Count at = position ? *position : -1;
     ENTER_LOOK(of, MPI_UNDEFINED, MPI_UNDEFINED);
     int code = pack((struct packing){(void *)(uintptr_t)buffer, count, type, packed, room}, &at, of, true);
     if (code == MPI_SUCCESS) *position = (int)at;
-    return fail(of, code);
+    return um_fail(of, code);
 }
 
 int MPI_Unpack(const void *packed, int room, int *position, void *buffer, int count, MPI_Datatype type, MPI_Comm comm) {
-    struct comm *of = comm_at(comm);
+    struct comm *of = um_comm_at(comm);
     MPI_Count at = position ? *position : -1;
     ENTER_LOOK(of, MPI_UNDEFINED, MPI_UNDEFINED);
     int code = pack((struct packing){buffer, count, type, (char *)(uintptr_t)packed, room}, &at, of, false);
     if (code == MPI_SUCCESS) *position = (int)at;
-    return fail(of, code);
+    return um_fail(of, code);
 }
 
 int MPI_Pack_c(const void *buffer, MPI_Count count, MPI_Datatype type, void *packed, MPI_Count room, MPI_Count *position, MPI_Comm comm) {
-    struct comm *of = comm_at(comm);
+    struct comm *of = um_comm_at(comm);
     ENTER_LOOK(of, MPI_UNDEFINED, MPI_UNDEFINED);
     WRITES(of, position);
-    return fail(of, pack((struct packing){(void *)(uintptr_t)buffer, count, type, packed, room}, position, of, true));
+    return um_fail(of, pack((struct packing){(void *)(uintptr_t)buffer, count, type, packed, room}, position, of, true));
 }
 
 int MPI_Unpack_c(const void *packed, MPI_Count room, MPI_Count *position, void *buffer, MPI_Count count, MPI_Datatype type, MPI_Comm comm) {
-    struct comm *of = comm_at(comm);
+    struct comm *of = um_comm_at(comm);
     ENTER_LOOK(of, MPI_UNDEFINED, MPI_UNDEFINED);
     WRITES(of, position);
-    return fail(of, pack((struct packing){buffer, count, type, (char *)(uintptr_t)packed, room}, position, of, false));
+    return um_fail(of, pack((struct packing){buffer, count, type, (char *)(uintptr_t)packed, room}, position, of, false));
 }

@@ -56,66 +56,66 @@ static void make_basics(void) {
                                   .has_lower = k == LOWER_MARK, .has_upper = k == UPPER_MARK};
 }
 
-struct type *type_at(MPI_Datatype handle) {
+struct type *um_type_at(MPI_Datatype handle) {
     uintptr_t number = (uintptr_t)handle;
     pthread_once(&once, make_basics);
     if (number < BASIC) return number ? &basics[number] : 0;
-    return number >= FIRST_OWN && number - FIRST_OWN < (uintptr_t)me->type_count ? me->types[number - FIRST_OWN] : 0;
+    return number >= FIRST_OWN && number - FIRST_OWN < (uintptr_t)um_me->type_count ? um_me->types[number - FIRST_OWN] : 0;
 }
 
-void free_type(struct type *type) {
+void um_free_type(struct type *type) {
     if (type->is_basic || --type->users > 0) return;
     for (size_t k = 0; k < type->blocks; k++)
-        if (type->block[k].of) free_type(type->block[k].of);
+        if (type->block[k].of) um_free_type(type->block[k].of);
     free(type->block);
-    free_recipe(type->recipe);
-    free_attributes(type->attributes);
+    um_free_recipe(type->recipe);
+    um_free_attributes(type->attributes);
     free(type);
 }
 
-MPI_Datatype handle_of_basic(const struct type *type) { return (MPI_Datatype)(uintptr_t)(type - basics); }
+MPI_Datatype um_handle_of_basic(const struct type *type) { return (MPI_Datatype)(uintptr_t)(type - basics); }
 
-int add_type(struct type *type, MPI_Datatype *made) {
+int um_add_type(struct type *type, MPI_Datatype *made) {
     int place = 0;
     if (!type) return MPI_ERR_NO_MEM;
-    while (place < me->type_count && me->types[place]) place++;
-    if (place == me->type_count) {
-        if (!grow(&me->types, place, sizeof *me->types)) {
-            free_type(type);
+    while (place < um_me->type_count && um_me->types[place]) place++;
+    if (place == um_me->type_count) {
+        if (!um_grow(&um_me->types, place, sizeof *um_me->types)) {
+            um_free_type(type);
             return MPI_ERR_NO_MEM;
         }
-        me->type_count++;
+        um_me->type_count++;
     }
-    me->types[place] = type;
+    um_me->types[place] = type;
     *made = (MPI_Datatype)(uintptr_t)(FIRST_OWN + place);
     if (!type->handle) type->handle = *made;
     return MPI_SUCCESS;
 }
 
 /* Another handle of a type, which stays when the program frees its own; MPI_DATATYPE_NULL where there is no memory. */
-MPI_Datatype keep_type(MPI_Datatype handle) {
-    struct type *type = type_at(handle);
+MPI_Datatype um_keep_type(MPI_Datatype handle) {
+    struct type *type = um_type_at(handle);
     MPI_Datatype kept = MPI_DATATYPE_NULL;
     if (type->is_basic) return handle;
     type->users++;
-    return add_type(type, &kept) == MPI_SUCCESS ? kept : MPI_DATATYPE_NULL;
+    return um_add_type(type, &kept) == MPI_SUCCESS ? kept : MPI_DATATYPE_NULL;
 }
 
-void drop_type(MPI_Datatype handle) {
-    struct type *type = type_at(handle);
+void um_drop_type(MPI_Datatype handle) {
+    struct type *type = um_type_at(handle);
     if (!type || type->is_basic) return;
-    me->types[(uintptr_t)handle - FIRST_OWN] = 0;
-    free_type(type);
+    um_me->types[(uintptr_t)handle - FIRST_OWN] = 0;
+    um_free_type(type);
 }
 
-bool is_basic_type(MPI_Datatype handle) {
-    const struct type *type = type_at(handle);
+bool um_is_basic_type(MPI_Datatype handle) {
+    const struct type *type = um_type_at(handle);
     return type && type->is_basic;
 }
 
 /* The type of messages of so many elements, and their bytes; or null, and why they can't be. */
-const struct type *check_type(int count, MPI_Datatype handle, size_t *bytes, int *code) {
-    const struct type *type = type_at(handle);
+const struct type *um_check_type(int count, MPI_Datatype handle, size_t *bytes, int *code) {
+    const struct type *type = um_type_at(handle);
     *bytes = 0;
     *code = count < 0 ? MPI_ERR_COUNT : !type || !type->is_committed ? MPI_ERR_TYPE : MPI_SUCCESS;
     if (*code != MPI_SUCCESS) return 0;
@@ -123,12 +123,12 @@ const struct type *check_type(int count, MPI_Datatype handle, size_t *bytes, int
     return type;
 }
 
-bool check_buffer(int count, MPI_Datatype type, size_t *bytes, int *code) { return check_type(count, type, bytes, code) != 0; }
+bool um_check_buffer(int count, MPI_Datatype type, size_t *bytes, int *code) { return um_check_type(count, type, bytes, code) != 0; }
 
 int MPI_Type_size(MPI_Datatype type, int *size) {
     ENTER_LOOK(0, MPI_UNDEFINED, MPI_UNDEFINED);
-    const struct type *of = type_at(type);
-    if (!of) return fail(0, MPI_ERR_TYPE);
+    const struct type *of = um_type_at(type);
+    if (!of) return um_fail(0, MPI_ERR_TYPE);
     WRITES(0, size);
     *size = of->size > INT_MAX ? MPI_UNDEFINED : (int)of->size;
     return MPI_SUCCESS;
@@ -136,8 +136,8 @@ int MPI_Type_size(MPI_Datatype type, int *size) {
 
 /* Where what a type takes begins, and how many bytes that is: of its extent, or of its data alone (5.1.7, 5.1.8). */
 static int tell_extent(MPI_Datatype type, bool is_true, bool has_room, MPI_Count *lower, MPI_Count *extent) {
-    const struct type *of = type_at(type);
-    if (!of) return fail(0, MPI_ERR_TYPE);
+    const struct type *of = um_type_at(type);
+    if (!of) return um_fail(0, MPI_ERR_TYPE);
     WRITES(0, has_room);
     ptrdiff_t least = of->lower, most = least + extent_of(of);
     if (is_true) least = of->least, most = of->most;
@@ -168,8 +168,8 @@ int MPI_Type_get_true_extent(MPI_Datatype type, MPI_Aint *lower, MPI_Aint *exten
 
 int MPI_Type_size_x(MPI_Datatype type, MPI_Count *size) {
     ENTER_LOOK(0, MPI_UNDEFINED, MPI_UNDEFINED);
-    const struct type *of = type_at(type);
-    if (!of) return fail(0, MPI_ERR_TYPE);
+    const struct type *of = um_type_at(type);
+    if (!of) return um_fail(0, MPI_ERR_TYPE);
     WRITES(0, size);
     *size = (MPI_Count)of->size;
     return MPI_SUCCESS;
@@ -212,8 +212,8 @@ int MPI_Type_ub(MPI_Datatype type, MPI_Aint *upper) {
 
 int MPI_Type_commit(MPI_Datatype *type) {
     ENTER_LOOK(0, MPI_UNDEFINED, MPI_UNDEFINED);
-    struct type *of = type ? type_at(*type) : 0;
-    if (!of) return fail(0, MPI_ERR_TYPE);
+    struct type *of = type ? um_type_at(*type) : 0;
+    if (!of) return um_fail(0, MPI_ERR_TYPE);
     if (!of->is_basic) of->is_committed = true;
     return MPI_SUCCESS;
 }
@@ -221,34 +221,34 @@ int MPI_Type_commit(MPI_Datatype *type) {
 /* Receives that are open keep what they need of it (5.1.9). */
 int MPI_Type_free(MPI_Datatype *type) {
     ENTER_LOOK(0, MPI_UNDEFINED, MPI_UNDEFINED);
-    struct type *of = type ? type_at(*type) : 0;
-    if (!of || of->is_basic) return fail(0, MPI_ERR_TYPE);
-    int code = of->handle == *type ? delete_type_attributes(*type) : MPI_SUCCESS;
-    if (code != MPI_SUCCESS) return fail(0, code);
-    drop_type(*type);
+    struct type *of = type ? um_type_at(*type) : 0;
+    if (!of || of->is_basic) return um_fail(0, MPI_ERR_TYPE);
+    int code = of->handle == *type ? um_delete_type_attributes(*type) : MPI_SUCCESS;
+    if (code != MPI_SUCCESS) return um_fail(0, code);
+    um_drop_type(*type);
     *type = MPI_DATATYPE_NULL;
     return MPI_SUCCESS;
 }
 
 int MPI_Get_count(const MPI_Status *status, MPI_Datatype type, int *count) {
     ENTER_LOOK(0, MPI_UNDEFINED, MPI_UNDEFINED);
-    const struct type *of = type_at(type);
-    if (!of) return fail(0, MPI_ERR_TYPE);
+    const struct type *of = um_type_at(type);
+    if (!of) return um_fail(0, MPI_ERR_TYPE);
     WRITES(0, status && count);
     size_t bytes = status->bytes, whole = of->size ? bytes / of->size : 0;
     *count = whole * of->size == bytes && whole <= INT_MAX ? (int)whole : MPI_UNDEFINED;
     return MPI_SUCCESS;
 }
 
-void clear_types(void) {
-    for (int k = 0; k < me->type_count; k++)
-        if (me->types[k]) free_type(me->types[k]);
-    clear_basic_attributes();
-    free(me->types);
-    free(me->type_names);
-    me->types = 0;
-    me->type_names = 0;
-    me->type_count = 0;
+void um_clear_types(void) {
+    for (int k = 0; k < um_me->type_count; k++)
+        if (um_me->types[k]) um_free_type(um_me->types[k]);
+    um_clear_basic_attributes();
+    free(um_me->types);
+    free(um_me->type_names);
+    um_me->types = 0;
+    um_me->type_names = 0;
+    um_me->type_count = 0;
 }
 
 /* By the names of MPI 4.0. */

@@ -67,50 +67,50 @@ struct arguments {
 static inline ptrdiff_t extent_of(const struct type *type) { return type->upper - type->lower; }
 
 /* type.c */
-struct type *type_at(MPI_Datatype handle);
-const struct type *check_type(int count, MPI_Datatype handle, size_t *bytes, int *code);
-int add_type(struct type *type, MPI_Datatype *made);
-void free_type(struct type *type);
-MPI_Datatype handle_of_basic(const struct type *type);
+struct type *um_type_at(MPI_Datatype handle);
+const struct type *um_check_type(int count, MPI_Datatype handle, size_t *bytes, int *code);
+int um_add_type(struct type *type, MPI_Datatype *made);
+void um_free_type(struct type *type);
+MPI_Datatype um_handle_of_basic(const struct type *type);
 
 /* typeattribute.c */
-int copy_type_attributes(MPI_Datatype from, MPI_Datatype to);
-int delete_type_attributes(MPI_Datatype handle);
-void clear_basic_attributes(void);
+int um_copy_type_attributes(MPI_Datatype from, MPI_Datatype to);
+int um_delete_type_attributes(MPI_Datatype handle);
+void um_clear_basic_attributes(void);
 
 /* describe.c */
-int describe(int code, MPI_Datatype *made, const struct arguments *arguments);
-void free_recipe(struct recipe *recipe);
+int um_describe(int code, MPI_Datatype *made, const struct arguments *arguments);
+void um_free_recipe(struct recipe *recipe);
 
 /* blocks.c */
-int join(const struct piece *pieces, size_t count, struct type **made);
-int set_bounds(struct type *type, ptrdiff_t lower, ptrdiff_t upper);
-bool each_run(const struct type *type, ptrdiff_t at, bool (*visit)(void *of, ptrdiff_t at, const struct block *block), void *of);
+int um_join(const struct piece *pieces, size_t count, struct type **made);
+int um_set_bounds(struct type *type, ptrdiff_t lower, ptrdiff_t upper);
+bool um_each_run(const struct type *type, ptrdiff_t at, bool (*visit)(void *of, ptrdiff_t at, const struct block *block), void *of);
 
 /* derived.c */
-int align_type(struct type *type);
+int um_align_type(struct type *type);
 
 /* array.c */
-int resize(struct type *of, ptrdiff_t lower, ptrdiff_t extent, struct type **made);
+int um_resize(struct type *of, ptrdiff_t lower, ptrdiff_t extent, struct type **made);
 
 /* pack.c */
-void move_data(const struct type *type, int count, void *memory, void *packed, size_t bytes, bool is_out);
+void um_move_data(const struct type *type, int count, void *memory, void *packed, size_t bytes, bool is_out);
 
 /* What calls ask of a handle of a type (type.c), and of data in memory (pack.c). */
-bool is_basic_type(MPI_Datatype type);
-MPI_Datatype keep_type(MPI_Datatype type);
-void drop_type(MPI_Datatype type);
-bool is_buffer(const void *buffer, size_t bytes, MPI_Datatype type);
-bool check_buffer(int count, MPI_Datatype type, size_t *bytes, int *code);
-int pack_data(const void *buffer, int count, MPI_Datatype type, const void **data, void **packed);
-void unpack_data(const void *data, size_t bytes, void *buffer, int count, MPI_Datatype type);
-void copy_data(const void *from, void *to, int count, MPI_Datatype type);
-bool reach_of_data(int count, MPI_Datatype type, size_t *bytes);
-bool is_plain_type(MPI_Datatype type);
-bool make_landing(void *buffer, int count, MPI_Datatype type, struct landing **made);
-void *bytes_of_landing(struct landing *landing);
-void land(struct landing *landing, size_t bytes);
-void free_landing(struct landing *landing);
-void clear_types(void);
+bool um_is_basic_type(MPI_Datatype type);
+MPI_Datatype um_keep_type(MPI_Datatype type);
+void um_drop_type(MPI_Datatype type);
+bool um_is_buffer(const void *buffer, size_t bytes, MPI_Datatype type);
+bool um_check_buffer(int count, MPI_Datatype type, size_t *bytes, int *code);
+int um_pack_data(const void *buffer, int count, MPI_Datatype type, const void **data, void **packed);
+void um_unpack_data(const void *data, size_t bytes, void *buffer, int count, MPI_Datatype type);
+void um_copy_data(const void *from, void *to, int count, MPI_Datatype type);
+bool um_reach_of_data(int count, MPI_Datatype type, size_t *bytes);
+bool um_is_plain_type(MPI_Datatype type);
+bool um_make_landing(void *buffer, int count, MPI_Datatype type, struct landing **made);
+void *um_bytes_of_landing(struct landing *landing);
+void um_land(struct landing *landing, size_t bytes);
+void um_free_landing(struct landing *landing);
+void um_clear_types(void);
 
 #endif

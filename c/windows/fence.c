@@ -9,9 +9,9 @@
 static void fold_run(const struct deed *deed, const char *in, char *into, size_t length) {
     MPI_Datatype base = (MPI_Datatype)(uintptr_t)deed->base;
     MPI_Op op = (MPI_Op)(uintptr_t)deed->op;
-    int count = deed->by_element ? 1 : (int)(length / type_at(base)->size);
-    if (op == MPI_REPLACE) copy_data(in, into, count, base);
-    else if (op != MPI_NO_OP) fold(in, into, count, base, op);
+    int count = deed->by_element ? 1 : (int)(length / um_type_at(base)->size);
+    if (op == MPI_REPLACE) um_copy_data(in, into, count, base);
+    else if (op != MPI_NO_OP) um_fold(in, into, count, base, op);
 }
 
 /* Appends what stands in a run before. False where there is no memory. */
@@ -23,7 +23,7 @@ static bool answer(struct pile *answers, const struct deed *deed, char *at, size
         answers->bytes = larger;
         answers->room = room;
     }
-    if (deed->by_element) move_data(type_at((MPI_Datatype)(uintptr_t)deed->base), 1, at, answers->bytes + answers->length, length, true);
+    if (deed->by_element) um_move_data(um_type_at((MPI_Datatype)(uintptr_t)deed->base), 1, at, answers->bytes + answers->length, length, true);
     else memcpy(answers->bytes + answers->length, at, length);
     answers->length += length;
     return true;
@@ -38,7 +38,7 @@ static int do_deed(const struct window *window, const struct deed *deed, const s
         if (is_asked && !answer(answers, deed, at, length)) return MPI_ERR_NO_MEM;
         if (deed->what == PUT || (deed->what == SWAP && memcmp(at, data + length, length) == 0)) memcpy(at, data, length);
         if (deed->what == FOLD || deed->what == GET_AND_FOLD) fold_run(deed, data, at, length);
-        if (deed->bytes) data += deed->by_element ? (size_t)extent_of(type_at((MPI_Datatype)(uintptr_t)deed->base)) : length;
+        if (deed->bytes) data += deed->by_element ? (size_t)extent_of(um_type_at((MPI_Datatype)(uintptr_t)deed->base)) : length;
     }
     return MPI_SUCCESS;
 }
@@ -71,7 +71,7 @@ static int tell_amounts(struct window *window, struct pile in[], struct pile ans
         out[k] = (struct pile){(char *)&own[k], sizeof own[k], 0};
         back[k] = (struct pile){(char *)&all[k], sizeof all[k], 0};
     }
-    int code = exchange(window, out, back, true);
+    int code = um_exchange(window, out, back, true);
     for (int k = 0; k < MAX_RANKS; k++) {
         in[k].length = all[k].asked;
         answers[k].room = all[k].wanted;
@@ -91,7 +91,7 @@ static void hand_out(const struct window *window, const struct pile results[]) {
     size_t at[MAX_RANKS] = {0};
     for (int k = 0; k < window->result_count; k++) {
         const struct result *of = &window->results[k];
-        unpack_data(results[of->from].bytes + at[of->from], of->bytes, of->buffer, of->count, of->type);
+        um_unpack_data(results[of->from].bytes + at[of->from], of->bytes, of->buffer, of->count, of->type);
         at[of->from] += of->bytes;
     }
 }
@@ -107,9 +107,9 @@ static int do_epoch(struct window *window, struct pile in[], struct pile answers
     note(&code, make_room(in));
     note(&code, make_room(results));
     if (code == MPI_ERR_NO_MEM) return code;
-    note(&code, exchange(window, window->asked, in, false));
+    note(&code, um_exchange(window, window->asked, in, false));
     for (int k = 0; k < window->comm->size; k++) note(&code, do_all(window, k == own ? &window->asked[own] : &in[k], &answers[k]));
-    note(&code, exchange(window, answers, results, false));
+    note(&code, um_exchange(window, answers, results, false));
     if (answers[own].length) memcpy(results[own].bytes, answers[own].bytes, answers[own].length);
     if (code == MPI_SUCCESS) hand_out(window, results);
     return code;
@@ -118,15 +118,15 @@ static int do_epoch(struct window *window, struct pile in[], struct pile answers
 int MPI_Win_fence(int assertion, MPI_Win win) {
     struct pile in[MAX_RANKS] = {{0}}, answers[MAX_RANKS] = {{0}}, results[MAX_RANKS] = {{0}};
     WINDOW(win, true);
-    if (assertion & ~(MPI_MODE_NOCHECK | MPI_MODE_NOSTORE | MPI_MODE_NOPUT | MPI_MODE_NOPRECEDE | MPI_MODE_NOSUCCEED)) return fail_window(of, win, MPI_ERR_ASSERT);
+    if (assertion & ~(MPI_MODE_NOCHECK | MPI_MODE_NOSTORE | MPI_MODE_NOPUT | MPI_MODE_NOPRECEDE | MPI_MODE_NOSUCCEED)) return um_fail_window(of, win, MPI_ERR_ASSERT);
     int code = do_epoch(of, in, answers, results);
     for (int k = 0; k < MAX_RANKS; k++) {
         free(in[k].bytes);
         free(answers[k].bytes);
         free(results[k].bytes);
     }
-    forget_epoch(of);
-    code = meet(of, code);
+    um_forget_epoch(of);
+    code = um_meet(of, code);
     of->is_open = !(assertion & MPI_MODE_NOSUCCEED);
-    return fail_window(of, win, code);
+    return um_fail_window(of, win, code);
 }

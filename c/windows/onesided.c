@@ -39,7 +39,7 @@ static bool write_run(void *of, ptrdiff_t at, const struct block *block) {
         last->length += length;
         return writing->code == MPI_SUCCESS;
     }
-    struct run *run = extend(writing->pile, sizeof *run);
+    struct run *run = um_extend(writing->pile, sizeof *run);
     if (!run) writing->code = MPI_ERR_NO_MEM;
     else *run = (struct run){(size_t)at, length}, writing->runs++;
     return writing->code == MPI_SUCCESS;
@@ -47,23 +47,23 @@ static bool write_run(void *of, ptrdiff_t at, const struct block *block) {
 
 /* Writes down the bytes of a window that data take there. */
 static int write_runs(const struct window *window, const struct target *target, struct writing *writing) {
-    const struct type *type = type_at(target->data.type);
+    const struct type *type = um_type_at(target->data.type);
     ptrdiff_t at, extent = extent_of(type);
     if (__builtin_mul_overflow(target->disp, window->units[target->rank], &at)) return MPI_ERR_DISP;
     writing->limit = (size_t)window->sizes[target->rank];
-    for (int k = 0; k < target->data.count && writing->code == MPI_SUCCESS; k++) each_run(type, at + k * extent, write_run, writing);
+    for (int k = 0; k < target->data.count && writing->code == MPI_SUCCESS; k++) um_each_run(type, at + k * extent, write_run, writing);
     return writing->code;
 }
 
 /* Writes data down: in one piece, or as elements lie in memory. */
 static int write_data(struct pile *pile, const struct data *data, const struct type *element, size_t *written) {
-    struct type *type = type_at(data->type);
+    struct type *type = um_type_at(data->type);
     size_t bytes = (size_t)data->count * type->size, count = element ? bytes / element->size : 0;
     *written = element ? count * (size_t)extent_of(element) : bytes;
-    char *place = extend(pile, *written), *packed = element ? malloc(bytes + 1) : place;
+    char *place = um_extend(pile, *written), *packed = element ? malloc(bytes + 1) : place;
     int code = place && packed ? MPI_SUCCESS : MPI_ERR_NO_MEM;
-    if (code == MPI_SUCCESS) move_data(type, data->count, (void *)(uintptr_t)data->buffer, packed, bytes, true);
-    if (code == MPI_SUCCESS && element) move_data(element, (int)count, place, packed, bytes, false);
+    if (code == MPI_SUCCESS) um_move_data(type, data->count, (void *)(uintptr_t)data->buffer, packed, bytes, true);
+    if (code == MPI_SUCCESS && element) um_move_data(element, (int)count, place, packed, bytes, false);
     if (element) free(packed);
     return code;
 }
@@ -73,7 +73,7 @@ static int add_result(struct window *window, int from, const struct data *data, 
     struct result *results = realloc(window->results, ((size_t)window->result_count + 1) * sizeof *results);
     if (!results) return MPI_ERR_NO_MEM;
     window->results = results;
-    MPI_Datatype kept = keep_type(data->type);
+    MPI_Datatype kept = um_keep_type(data->type);
     if (kept == MPI_DATATYPE_NULL) return MPI_ERR_NO_MEM;
     results[window->result_count++] = (struct result){from, (void *)(uintptr_t)data->buffer, data->count, kept, bytes};
     return MPI_SUCCESS;
@@ -82,8 +82,8 @@ static int add_result(struct window *window, int from, const struct data *data, 
 /* Why data can't be asked for or given, or MPI_SUCCESS; and their bytes. */
 static int check_data(const struct data *data, bool has_buffer, size_t *bytes) {
     int code;
-    if (!check_buffer(data->count, data->type, bytes, &code)) return code;
-    return has_buffer && !is_buffer(data->buffer, *bytes, data->type) ? MPI_ERR_BUFFER : MPI_SUCCESS;
+    if (!um_check_buffer(data->count, data->type, bytes, &code)) return code;
+    return has_buffer && !um_is_buffer(data->buffer, *bytes, data->type) ? MPI_ERR_BUFFER : MPI_SUCCESS;
 }
 
 /* Why it can't be done, or MPI_SUCCESS; and the bytes. `given` and `got` may be null. */
@@ -106,9 +106,9 @@ static int check(const struct window *window, const struct data *given, const st
 static int write_down(struct window *window, struct deed deed, const struct data *given, const struct data *got, const struct target *target, size_t bytes) {
     struct pile *pile = &window->asked[target->rank];
     size_t before = pile->length;
-    const struct type *base = type_at((MPI_Datatype)(uintptr_t)deed.base);
+    const struct type *base = um_type_at((MPI_Datatype)(uintptr_t)deed.base);
     const struct type *element = base && !base->is_plain ? base : 0;
-    int code = extend(pile, sizeof deed) ? MPI_SUCCESS : MPI_ERR_NO_MEM;
+    int code = um_extend(pile, sizeof deed) ? MPI_SUCCESS : MPI_ERR_NO_MEM;
     struct writing writing = {.pile = pile, .first = pile->length, .element = element};
     if (code == MPI_SUCCESS) code = write_runs(window, target, &writing);
     if (code == MPI_SUCCESS && given) code = write_data(pile, given, element, &deed.bytes);
@@ -123,20 +123,20 @@ static int write_down(struct window *window, struct deed deed, const struct data
 /* Asks for it in the next fence. Of a swap two values are given. */
 static int ask(MPI_Win win, struct window *window, struct deed deed, const struct data *given, const struct data *got, const struct target *target) {
     size_t bytes = 0;
-    me->place.peer = target->rank;
+    um_me->place.peer = target->rank;
     int code = check(window, deed.what == SWAP ? 0 : given, got, target, &bytes);
     if (code == MPI_SUCCESS && bytes && target->rank != MPI_PROC_NULL) code = write_down(window, deed, given, got, target, bytes);
-    return fail_window(window, win, code);
+    return um_fail_window(window, win, code);
 }
 
 /* The basic type that a fold is of, in `deed`: one for all data (12.3.4), and an operation of MPI for it. */
 static int base_of(MPI_Op op, MPI_Datatype type, struct deed *deed) {
-    if (!type_at(type)) return MPI_ERR_TYPE;
-    deed->base = (uint32_t)(uintptr_t)type_at(type)->base;
+    if (!um_type_at(type)) return MPI_ERR_TYPE;
+    deed->base = (uint32_t)(uintptr_t)um_type_at(type)->base;
     deed->op = (uint32_t)(uintptr_t)op;
     if (!deed->base) return MPI_ERR_TYPE;
     if (op == MPI_REPLACE || op == MPI_NO_OP) return MPI_SUCCESS;
-    return is_basic_op(op) ? check_op(op, (MPI_Datatype)(uintptr_t)deed->base) : MPI_ERR_OP;
+    return um_is_basic_op(op) ? um_check_op(op, (MPI_Datatype)(uintptr_t)deed->base) : MPI_ERR_OP;
 }
 
 int MPI_Put(const void *buf, int count, MPI_Datatype type, int target, MPI_Aint disp, int targetcount, MPI_Datatype targettype, MPI_Win win) {
@@ -157,7 +157,7 @@ int MPI_Accumulate(const void *buf, int count, MPI_Datatype type, int target, MP
     struct target there = {target, disp, {0, targetcount, targettype}};
     struct deed deed = {.what = FOLD};
     int code = base_of(op, targettype, &deed);
-    return code != MPI_SUCCESS ? fail_window(of, win, code) : ask(win, of, deed, &(struct data){buf, count, type}, 0, &there);
+    return code != MPI_SUCCESS ? um_fail_window(of, win, code) : ask(win, of, deed, &(struct data){buf, count, type}, 0, &there);
 }
 
 int MPI_Get_accumulate(const void *buf, int count, MPI_Datatype type, void *result, int resultcount, MPI_Datatype resulttype, int target, MPI_Aint disp,
@@ -166,7 +166,7 @@ int MPI_Get_accumulate(const void *buf, int count, MPI_Datatype type, void *resu
     struct target there = {target, disp, {0, targetcount, targettype}};
     struct deed deed = {.what = GET_AND_FOLD};
     int code = base_of(op, targettype, &deed);
-    if (code != MPI_SUCCESS) return fail_window(of, win, code);
+    if (code != MPI_SUCCESS) return um_fail_window(of, win, code);
     return ask(win, of, deed, op == MPI_NO_OP ? 0 : &(struct data){buf, count, type}, &(struct data){result, resultcount, resulttype}, &there);
 }
 
@@ -174,8 +174,8 @@ int MPI_Fetch_and_op(const void *buf, void *result, MPI_Datatype type, int targe
     WINDOW(win, true);
     struct target there = {target, disp, {0, 1, type}};
     struct deed deed = {.what = GET_AND_FOLD};
-    int code = is_basic_type(type) ? base_of(op, type, &deed) : MPI_ERR_TYPE;
-    if (code != MPI_SUCCESS) return fail_window(of, win, code);
+    int code = um_is_basic_type(type) ? base_of(op, type, &deed) : MPI_ERR_TYPE;
+    if (code != MPI_SUCCESS) return um_fail_window(of, win, code);
     return ask(win, of, deed, op == MPI_NO_OP ? 0 : &(struct data){buf, 1, type}, &(struct data){result, 1, type}, &there);
 }
 
@@ -185,9 +185,9 @@ int MPI_Compare_and_swap(const void *buf, const void *compare, void *result, MPI
     enum { MOST = 2 * ALIGNED };
     char both[MOST];
     struct target there = {target, disp, {0, 1, type}};
-    if (!is_basic_type(type) || type_at(type)->size > ALIGNED) return fail_window(of, win, MPI_ERR_TYPE);
-    if (!buf || !compare) return fail_window(of, win, MPI_ERR_BUFFER);
-    size_t size = type_at(type)->size;
+    if (!um_is_basic_type(type) || um_type_at(type)->size > ALIGNED) return um_fail_window(of, win, MPI_ERR_TYPE);
+    if (!buf || !compare) return um_fail_window(of, win, MPI_ERR_BUFFER);
+    size_t size = um_type_at(type)->size;
     memcpy(both, buf, size);
     memcpy(both + size, compare, size);
     return ask(win, of, (struct deed){.what = SWAP}, &(struct data){both, (int)(2 * size), MPI_BYTE}, &(struct data){result, 1, type}, &there);

@@ -6,17 +6,17 @@
 #include <stdlib.h>
 #include <string.h>
 
-struct window *window_at(MPI_Win handle) {
+struct window *um_window_at(MPI_Win handle) {
     uintptr_t number = (uintptr_t)handle;
-    return number && number <= (uintptr_t)me->window_count ? me->windows[number - 1] : 0;
+    return number && number <= (uintptr_t)um_me->window_count ? um_me->windows[number - 1] : 0;
 }
 
-int fail_window(const struct window *window, MPI_Win handle, int code) {
-    return fail_by(window->handler, window->comm, &handle, window->name[0] ? window->name : "this window", code);
+int um_fail_window(const struct window *window, MPI_Win handle, int code) {
+    return um_fail_by(window->handler, window->comm, &handle, window->name[0] ? window->name : "this window", code);
 }
 
 /* Room for so many bytes more, at an aligned place; null where there is no memory. */
-void *extend(struct pile *pile, size_t bytes) {
+void *um_extend(struct pile *pile, size_t bytes) {
     size_t length = pile->length + (bytes + ALIGNED - 1) / ALIGNED * ALIGNED;
     if (length > pile->room) {
         size_t room = length > 2 * pile->room ? length : 2 * pile->room;
@@ -31,56 +31,56 @@ void *extend(struct pile *pile, size_t bytes) {
 }
 
 /* Sends each member its pile, and gets one of each whose length is known. Empty ones are sent where all are. The first error. */
-int exchange(struct window *window, const struct pile *out, struct pile *in, bool also_empty) {
+int um_exchange(struct window *window, const struct pile *out, struct pile *in, bool also_empty) {
     struct comm *comm = window->comm;
     struct request *made;
     comm->repeats = window->number;
-    int code = start_collective(comm, &made);
+    int code = um_start_collective(comm, &made);
     bool is_open = code == MPI_SUCCESS && !made->over;
     for (int k = 0; k < comm->size && is_open; k++)
-        if (out[k].length || also_empty) send_bytes(made, k, out[k].bytes, out[k].length);
+        if (out[k].length || also_empty) um_send_bytes(made, k, out[k].bytes, out[k].length);
     for (int k = 0; k < comm->size && is_open; k++)
-        if (in[k].length || also_empty) post_bytes(made, k, in[k].bytes, in[k].length, 0);
+        if (in[k].length || also_empty) um_post_bytes(made, k, in[k].bytes, in[k].length, 0);
     comm->repeats = 0;
     if (code != MPI_SUCCESS) return code;
-    wait_for(made);
+    um_wait_for(made);
     code = made->code;
-    free_request(made);
+    um_free_request(made);
     return code;
 }
 
 /* All members meet, as in a barrier. The first error, of all or here (`code`). */
-int meet(struct window *window, int code) {
+int um_meet(struct window *window, int code) {
     char verdict[VERDICT];
     window->comm->repeats = window->number;
-    int told = begin_collective(window->comm);
-    if (told == MPI_SUCCESS) told = spread_verdict(window->comm, gather_all(window->comm, 0, 0, 0), verdict, 0);
+    int told = um_begin_collective(window->comm);
+    if (told == MPI_SUCCESS) told = um_spread_verdict(window->comm, um_gather_all(window->comm, 0, 0, 0), verdict, 0);
     window->comm->repeats = 0;
     return told != MPI_SUCCESS ? told : code;
 }
 
 /* Nothing is asked any more. */
-void forget_epoch(struct window *window) {
-    for (int k = 0; k < window->result_count; k++) drop_type(window->results[k].type);
+void um_forget_epoch(struct window *window) {
+    for (int k = 0; k < window->result_count; k++) um_drop_type(window->results[k].type);
     window->result_count = 0;
     for (int k = 0; k < MAX_RANKS; k++) window->asked[k].length = 0;
 }
 
 static void free_window(struct window *window) {
-    forget_epoch(window);
+    um_forget_epoch(window);
     for (int k = 0; k < MAX_RANKS; k++) free(window->asked[k].bytes);
     if (window->flavor == MPI_WIN_FLAVOR_ALLOCATE) free(window->base);
-    free_attributes(window->attributes);
+    um_free_attributes(window->attributes);
     free(window->results);
     free(window);
 }
 
-void clear_windows(void) {
-    for (int k = 0; k < me->window_count; k++)
-        if (me->windows[k]) free_window(me->windows[k]);
-    free(me->windows);
-    me->windows = 0;
-    me->window_count = 0;
+void um_clear_windows(void) {
+    for (int k = 0; k < um_me->window_count; k++)
+        if (um_me->windows[k]) free_window(um_me->windows[k]);
+    free(um_me->windows);
+    um_me->windows = 0;
+    um_me->window_count = 0;
 }
 
 /* What a member tells of its window. */
@@ -97,7 +97,7 @@ static int tell_sizes(struct window *window, MPI_Aint size, int unit) {
         out[k] = (struct pile){(char *)&own, sizeof own, 0};
         in[k] = (struct pile){(char *)&all[k], sizeof own, 0};
     }
-    int code = meet(window, exchange(window, out, in, true));
+    int code = um_meet(window, um_exchange(window, out, in, true));
     all[window->comm->position] = own;
     for (int k = 0; k < window->comm->size; k++) {
         window->sizes[k] = all[k].size;
@@ -109,31 +109,31 @@ static int tell_sizes(struct window *window, MPI_Aint size, int unit) {
 /* The place for a handle, or -1 where there is no memory. */
 static int free_place(void) {
     int place = 0;
-    while (place < me->window_count && me->windows[place]) place++;
-    if (place < me->window_count) return place;
-    return grow(&me->windows, place, sizeof *me->windows) ? me->window_count++, me->windows[place] = 0, place : -1;
+    while (place < um_me->window_count && um_me->windows[place]) place++;
+    if (place < um_me->window_count) return place;
+    return um_grow(&um_me->windows, place, sizeof *um_me->windows) ? um_me->window_count++, um_me->windows[place] = 0, place : -1;
 }
 
 static int create(const struct window *like, MPI_Aint size, int unit, struct comm *of, MPI_Win *win) {
     int code = size < 0 ? MPI_ERR_SIZE : unit < 1 ? MPI_ERR_DISP : of->size > 1 && of->hidden == NO_CONTEXT_LEFT ? NO_COLLECTIVES : MPI_SUCCESS;
-    if (code != MPI_SUCCESS) return refuse_collective(of, code);
+    if (code != MPI_SUCCESS) return um_refuse_collective(of, code);
     int place = free_place();
     struct window *window = place < 0 ? 0 : malloc(sizeof *window);
-    if (!window) return refuse_collective(of, MPI_ERR_NO_MEM);
+    if (!window) return um_refuse_collective(of, MPI_ERR_NO_MEM);
     *window = *like;
     window->comm = of;
     window->number = ++of->begun;
     window->model = MPI_WIN_SEPARATE;
     window->handler = MPI_ERRORS_ARE_FATAL;
-    window->hold = new_request(NOTHING, of, MPI_UNDEFINED, MPI_UNDEFINED);
+    window->hold = um_new_request(NOTHING, of, MPI_UNDEFINED, MPI_UNDEFINED);
     code = tell_sizes(window, size, unit);
     if (code == MPI_SUCCESS && !window->hold) code = MPI_ERR_NO_MEM;
     if (code == MPI_SUCCESS) {
-        me->windows[place] = window;
+        um_me->windows[place] = window;
         *win = (MPI_Win)(uintptr_t)(place + 1);
         return MPI_SUCCESS;
     }
-    if (window->hold) free_request(window->hold);
+    if (window->hold) um_free_request(window->hold);
     window->flavor = 0;
     free_window(window);
     return code;
@@ -141,42 +141,42 @@ static int create(const struct window *like, MPI_Aint size, int unit, struct com
 
 /* No hint changes what a window does. */
 int MPI_Win_create(void *base, MPI_Aint size, int unit, MPI_Info info, MPI_Comm comm, MPI_Win *win) {
-    struct comm *of = comm_at(comm);
+    struct comm *of = um_comm_at(comm);
     ENTER(of, MPI_UNDEFINED, MPI_UNDEFINED);
-    if (!of) return fail(0, MPI_ERR_COMM);
-    if (!win || (size > 0 && !base)) return fail(of, refuse_collective(of, MPI_ERR_ARG));
+    if (!of) return um_fail(0, MPI_ERR_COMM);
+    if (!win || (size > 0 && !base)) return um_fail(of, um_refuse_collective(of, MPI_ERR_ARG));
     *win = MPI_WIN_NULL;
-    if (!is_info(info)) return fail(of, refuse_collective(of, MPI_ERR_INFO));
-    return fail(of, create(&(struct window){.base = base, .flavor = MPI_WIN_FLAVOR_CREATE}, size, unit, of, win));
+    if (!um_is_info(info)) return um_fail(of, um_refuse_collective(of, MPI_ERR_INFO));
+    return um_fail(of, create(&(struct window){.base = base, .flavor = MPI_WIN_FLAVOR_CREATE}, size, unit, of, win));
 }
 
 int MPI_Win_allocate(MPI_Aint size, int unit, MPI_Info info, MPI_Comm comm, void *base, MPI_Win *win) {
-    struct comm *of = comm_at(comm);
+    struct comm *of = um_comm_at(comm);
     ENTER(of, MPI_UNDEFINED, MPI_UNDEFINED);
-    if (!of) return fail(0, MPI_ERR_COMM);
-    if (!win || !base) return fail(of, refuse_collective(of, MPI_ERR_ARG));
+    if (!of) return um_fail(0, MPI_ERR_COMM);
+    if (!win || !base) return um_fail(of, um_refuse_collective(of, MPI_ERR_ARG));
     *win = MPI_WIN_NULL;
-    if (!is_info(info)) return fail(of, refuse_collective(of, MPI_ERR_INFO));
+    if (!um_is_info(info)) return um_fail(of, um_refuse_collective(of, MPI_ERR_INFO));
     struct window like = {.base = malloc(size > 0 ? (size_t)size : 1), .flavor = MPI_WIN_FLAVOR_ALLOCATE};
-    int code = like.base ? create(&like, size, unit, of, win) : refuse_collective(of, MPI_ERR_NO_MEM);
+    int code = like.base ? create(&like, size, unit, of, win) : um_refuse_collective(of, MPI_ERR_NO_MEM);
     if (code == MPI_SUCCESS) *(void **)base = like.base;
     else free(like.base);
-    return fail(of, code);
+    return um_fail(of, code);
 }
 
 /* The window goes, also where a member failed: then that is told. */
 int MPI_Win_free(MPI_Win *win) {
-    struct window *of = win ? window_at(*win) : 0;
+    struct window *of = win ? um_window_at(*win) : 0;
     ENTER(of ? of->comm : 0, MPI_UNDEFINED, MPI_UNDEFINED);
-    if (!of) return fail(0, MPI_ERR_WIN);
-    int code = delete_window_attributes(of, *win);
-    if (code != MPI_SUCCESS) return fail_window(of, *win, code);
-    code = meet(of, MPI_SUCCESS);
+    if (!of) return um_fail(0, MPI_ERR_WIN);
+    int code = um_delete_window_attributes(of, *win);
+    if (code != MPI_SUCCESS) return um_fail_window(of, *win, code);
+    code = um_meet(of, MPI_SUCCESS);
     MPI_Errhandler handler = of->handler;
-    me->windows[(uintptr_t)*win - 1] = 0;
-    free_request(of->hold);
+    um_me->windows[(uintptr_t)*win - 1] = 0;
+    um_free_request(of->hold);
     struct comm *comm = of->comm;
     free_window(of);
     *win = MPI_WIN_NULL;
-    return fail_by(handler, comm, win, "this window", code);
+    return um_fail_by(handler, comm, win, "this window", code);
 }

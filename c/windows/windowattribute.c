@@ -26,43 +26,43 @@ int MPI_Win_create_keyval(MPI_Win_copy_attr_function *copies, MPI_Win_delete_att
     struct keyval made = {.kind = OF_WINDOWS, .more = more};
     made.win.copies = copies ? copies : MPI_WIN_NULL_COPY_FN;
     made.win.deletes = deletes ? deletes : MPI_WIN_NULL_DELETE_FN;
-    return create_keyval(&made, keyval);
+    return um_create_keyval(&made, keyval);
 }
 
 int MPI_Win_free_keyval(int *keyval) {
     ENTER_LOOK(0, MPI_UNDEFINED, MPI_UNDEFINED);
-    return free_keyval(keyval, OF_WINDOWS);
+    return um_free_keyval(keyval, OF_WINDOWS);
 }
 
 static struct bearer bearer_of(struct window *window, MPI_Win handle) {
     return (struct bearer){.kind = OF_WINDOWS, .win = handle, .first = &window->attributes};
 }
 
-int delete_window_attributes(struct window *window, MPI_Win handle) {
+int um_delete_window_attributes(struct window *window, MPI_Win handle) {
     struct bearer bearer = bearer_of(window, handle);
-    return delete_all_attributes(&bearer);
+    return um_delete_all_attributes(&bearer);
 }
 
 int MPI_Win_set_attr(MPI_Win win, int keyval, void *value) {
     WINDOW(win, false);
     struct bearer bearer = bearer_of(of, win);
-    return fail_window(of, win, set_attribute(&bearer, keyval, value));
+    return um_fail_window(of, win, um_set_attribute(&bearer, keyval, value));
 }
 
 int MPI_Win_delete_attr(MPI_Win win, int keyval) {
     WINDOW(win, false);
     struct bearer bearer = bearer_of(of, win);
-    return fail_window(of, win, delete_attribute(&bearer, keyval));
+    return um_fail_window(of, win, um_delete_attribute(&bearer, keyval));
 }
 
 /* Of those that are there, a pointer to the value; of the base, that itself (12.2.6). */
 int MPI_Win_get_attr(MPI_Win win, int keyval, void *value, int *flag) {
     WINDOW(win, false);
-    if (!value || !flag) return fail_window(of, win, MPI_ERR_ARG);
+    if (!value || !flag) return um_fail_window(of, win, MPI_ERR_ARG);
     int own = of->comm->position;
     void *values[] = {0, of->base, &of->sizes[own], &of->units[own], &of->flavor, &of->model};
     struct bearer bearer = bearer_of(of, win);
-    if (keyval < MPI_WIN_BASE || keyval > MPI_WIN_MODEL) return fail_window(of, win, get_attribute(&bearer, keyval, value, flag));
+    if (keyval < MPI_WIN_BASE || keyval > MPI_WIN_MODEL) return um_fail_window(of, win, um_get_attribute(&bearer, keyval, value, flag));
     *(void **)value = values[keyval];
     *flag = 1;
     return MPI_SUCCESS;
@@ -70,55 +70,55 @@ int MPI_Win_get_attr(MPI_Win win, int keyval, void *value, int *flag) {
 
 int MPI_Win_get_group(MPI_Win win, MPI_Group *group) {
     WINDOW(win, false);
-    if (!group) return fail_window(of, win, MPI_ERR_ARG);
-    return fail_window(of, win, make_group(of->comm->members, of->comm->size, group));
+    if (!group) return um_fail_window(of, win, MPI_ERR_ARG);
+    return um_fail_window(of, win, um_make_group(of->comm->members, of->comm->size, group));
 }
 
 /* No hint is heeded, so none is kept. */
 int MPI_Win_set_info(MPI_Win win, MPI_Info info) {
     WINDOW(win, false);
-    return fail_window(of, win, is_info(info) ? MPI_SUCCESS : MPI_ERR_INFO);
+    return um_fail_window(of, win, um_is_info(info) ? MPI_SUCCESS : MPI_ERR_INFO);
 }
 
 int MPI_Win_get_info(MPI_Win win, MPI_Info *info) {
     WINDOW(win, false);
-    if (!info) return fail_window(of, win, MPI_ERR_ARG);
-    me->is_starting = true;
+    if (!info) return um_fail_window(of, win, MPI_ERR_ARG);
+    um_me->is_starting = true;
     int code = MPI_Info_create(info);
-    me->is_starting = false;
+    um_me->is_starting = false;
     return code;
 }
 
 int MPI_Win_set_name(MPI_Win win, const char *name) {
     WINDOW(win, false);
-    if (!name) return fail_window(of, win, MPI_ERR_ARG);
+    if (!name) return um_fail_window(of, win, MPI_ERR_ARG);
     snprintf(of->name, sizeof of->name, "%s", name);
     return MPI_SUCCESS;
 }
 
 int MPI_Win_get_name(MPI_Win win, char *name, int *length) {
     WINDOW(win, false);
-    if (!name || !length) return fail_window(of, win, MPI_ERR_ARG);
+    if (!name || !length) return um_fail_window(of, win, MPI_ERR_ARG);
     *length = snprintf(name, MPI_MAX_OBJECT_NAME, "%s", of->name);
     return MPI_SUCCESS;
 }
 
 int MPI_Win_set_errhandler(MPI_Win win, MPI_Errhandler handler) {
     WINDOW(win, false);
-    if (!is_handler(handler)) return fail_window(of, win, MPI_ERR_ARG);
+    if (!um_is_handler(handler)) return um_fail_window(of, win, MPI_ERR_ARG);
     of->handler = handler;
     return MPI_SUCCESS;
 }
 
 int MPI_Win_get_errhandler(MPI_Win win, MPI_Errhandler *handler) {
     WINDOW(win, false);
-    if (!handler) return fail_window(of, win, MPI_ERR_ARG);
+    if (!handler) return um_fail_window(of, win, MPI_ERR_ARG);
     *handler = of->handler;
     return MPI_SUCCESS;
 }
 
 int MPI_Win_call_errhandler(MPI_Win win, int errorcode) {
     WINDOW(win, false);
-    (void)fail_window(of, win, errorcode);
+    (void)um_fail_window(of, win, errorcode);
     return MPI_SUCCESS;
 }

@@ -54,24 +54,24 @@ struct window {
 enum { ALIGNED = 16 };         /* deeds, runs and data begin so */
 
 /* window.c */
-struct window *window_at(MPI_Win handle);
-int fail_window(const struct window *window, MPI_Win handle, int code);
-void *extend(struct pile *pile, size_t bytes);
-int exchange(struct window *window, const struct pile *out, struct pile *in, bool also_empty);
-int meet(struct window *window, int code);
-void forget_epoch(struct window *window);
-void clear_windows(void);
+struct window *um_window_at(MPI_Win handle);
+int um_fail_window(const struct window *window, MPI_Win handle, int code);
+void *um_extend(struct pile *pile, size_t bytes);
+int um_exchange(struct window *window, const struct pile *out, struct pile *in, bool also_empty);
+int um_meet(struct window *window, int code);
+void um_forget_epoch(struct window *window);
+void um_clear_windows(void);
 
 /* windowattribute.c */
-int delete_window_attributes(struct window *window, MPI_Win handle);
+int um_delete_window_attributes(struct window *window, MPI_Win handle);
 
 /* Begins a call on a window. */
 #define WINDOW(win, counts) \
-    struct window *of = window_at(win); \
-    enter_call(__func__, __builtin_return_address(0), of ? of->comm : 0, MPI_UNDEFINED, MPI_UNDEFINED, counts); \
-    if (!of) return fail(0, MPI_ERR_WIN)
+    struct window *of = um_window_at(win); \
+    um_enter_call(__func__, __builtin_return_address(0), of ? of->comm : 0, MPI_UNDEFINED, MPI_UNDEFINED, counts); \
+    if (!of) return um_fail(0, MPI_ERR_WIN)
 
 /* error.c */
-int fail_by(MPI_Errhandler handler, struct comm *comm, void *window, const char *name, int code);
+int um_fail_by(MPI_Errhandler handler, struct comm *comm, void *window, const char *name, int code);
 
 #endif
