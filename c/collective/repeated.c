@@ -16,9 +16,9 @@ void um_free_repeated(struct repeated *of) {
 int um_start_repeated(const struct repeated *of, struct comm *comm, struct request **active) {
     MPI_Request handle = MPI_REQUEST_NULL;
     comm->repeats = of->number;
-    um_me->is_starting = true;
+    um_me->mpi.is_starting = true;
     int code = of->begin(of, um_handle_of(comm), &handle);
-    um_me->is_starting = false;
+    um_me->mpi.is_starting = false;
     comm->repeats = 0;
     *active = um_request_at(handle);
     return code;

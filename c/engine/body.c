@@ -24,10 +24,10 @@ static int send_reference(struct parcel *parcel, int dest) {
 static int send_parcel(const struct parcel *like, int dest, struct parcel **waits) {
     struct parcel *parcel = um_new_parcel(like);
     if (!parcel) return MPI_ERR_NO_MEM;
-    if (waits) atomic_fetch_add(&um_ranks[parcel->to].waited_for, 1);
+    if (waits) atomic_fetch_add(&um_ranks[parcel->to].shared.waited_for, 1);
     int code = send_reference(parcel, dest);
     if (code != MPI_SUCCESS) {
-        if (waits) atomic_fetch_sub(&um_ranks[parcel->to].waited_for, 1);
+        if (waits) atomic_fetch_sub(&um_ranks[parcel->to].shared.waited_for, 1);
         parcel->users = 1;
         um_let_go(parcel);
         return code;
@@ -55,7 +55,7 @@ static size_t length_in(const struct received *received) {
 /* Its receiver is done with a parcel. */
 static void release(struct parcel *parcel) {
     bool is_waited_for = parcel->is_waited_for;
-    if (is_waited_for) atomic_fetch_sub(&um_me->waited_for, 1);
+    if (is_waited_for) atomic_fetch_sub(&um_me->shared.waited_for, 1);
     um_let_go(parcel);
     if (is_waited_for) um_marked();
 }

@@ -12,12 +12,12 @@ struct parcel *um_new_parcel(const struct parcel *like) {
     struct parcel *parcel = malloc(sizeof *parcel + like->length);
     if (!parcel) return 0;
     *parcel = *like;
-    pthread_mutex_lock(&um_me->parcels_lock);
-    parcel->previous = um_me->last_parcel;
-    if (um_me->last_parcel) um_me->last_parcel->next = parcel;
-    else um_me->parcels = parcel;
-    um_me->last_parcel = parcel;
-    pthread_mutex_unlock(&um_me->parcels_lock);
+    pthread_mutex_lock(&um_me->sent.lock);
+    parcel->previous = um_me->sent.last;
+    if (um_me->sent.last) um_me->sent.last->next = parcel;
+    else um_me->sent.first = parcel;
+    um_me->sent.last = parcel;
+    pthread_mutex_unlock(&um_me->sent.lock);
     return parcel;
 }
 
@@ -25,22 +25,22 @@ struct parcel *um_new_parcel(const struct parcel *like) {
 void um_let_go(struct parcel *parcel) {
     if (atomic_fetch_sub(&parcel->users, 1) > 1) return;
     struct rank *from = &um_ranks[parcel->from];
-    pthread_mutex_lock(&from->parcels_lock);
+    pthread_mutex_lock(&from->sent.lock);
     if (parcel->previous) parcel->previous->next = parcel->next;
-    else from->parcels = parcel->next;
+    else from->sent.first = parcel->next;
     if (parcel->next) parcel->next->previous = parcel->previous;
-    else from->last_parcel = parcel->previous;
-    pthread_mutex_unlock(&from->parcels_lock);
+    else from->sent.last = parcel->previous;
+    pthread_mutex_unlock(&from->sent.lock);
     free(parcel);
 }
 
 /* Frees what nobody received. */
 void um_free_parcels(void) {
     for (struct rank *rank = um_ranks; rank < um_ranks + MAX_RANKS; rank++)
-        while (rank->parcels) {
-            struct parcel *next = rank->parcels->next;
-            free(rank->parcels);
-            rank->parcels = next;
+        while (rank->sent.first) {
+            struct parcel *next = rank->sent.first->next;
+            free(rank->sent.first);
+            rank->sent.first = next;
         }
 }
 
@@ -68,12 +68,12 @@ void um_empty_parcel(struct parcel *parcel, void *buffer, size_t length) {
 /* How long the first message is that a rank sent here by a parcel with this tag, and that nobody took or set aside. */
 size_t um_length_of_first(uint32_t context, int from, int tag) {
     size_t length = 0;
-    pthread_mutex_lock(&um_ranks[from].parcels_lock);
-    for (struct parcel *parcel = um_ranks[from].parcels; parcel; parcel = parcel->next)
+    pthread_mutex_lock(&um_ranks[from].sent.lock);
+    for (struct parcel *parcel = um_ranks[from].sent.first; parcel; parcel = parcel->next)
         if (parcel->to == um_me->number && parcel->context == context && parcel->tag == tag && !parcel->is_found && !atomic_load(&parcel->matched)) {
             length = parcel->length;
             break;
         }
-    pthread_mutex_unlock(&um_ranks[from].parcels_lock);
+    pthread_mutex_unlock(&um_ranks[from].sent.lock);
     return length;
 }

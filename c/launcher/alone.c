@@ -18,7 +18,7 @@ static void __attribute__((constructor)) be_only_rank(void) {
 
 static void tell_end(int status, void *unused) {
     (void)unused;
-    if (um_is_launcher() && !um_ranks[0].has_finalized)
+    if (um_is_launcher() && !um_ranks[0].life.has_finalized)
         fprintf(stderr, "ulfm-mpirun: rank 0 ended with status %d without MPI_Finalize: it failed\n", status);
 }
 

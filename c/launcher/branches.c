@@ -98,7 +98,7 @@ static void become(const struct branch *of) {
 
 /* The run is at a place: whether this is the process in which the rank stops here. */
 bool um_is_branch(void) {
-    struct branch made = {.spot = {.rank = um_me->number, .call = um_me->calls, .inside = um_me->insides}};
+    struct branch made = {.spot = {.rank = um_me->number, .call = um_me->plan.calls, .inside = um_me->plan.insides}};
     if (!bsearch(&made.spot, wanted, wanted_count, sizeof *wanted, um_compare_spots)) return false;
     while (branch_count == um_options.jobs) end_one();
     made.report = memfd_create("ulfm-branch", MFD_CLOEXEC);

@@ -35,7 +35,7 @@ static void clear_rank(void) {
     um_clear_keyvals();
     um_clear_infos();
     um_clear_farewells();
-    um_me->attached = 0;
+    um_me->mpi.attached = 0;
 }
 
 static void find_stack(struct rank *rank) {
@@ -43,22 +43,22 @@ static void find_stack(struct rank *rank) {
     void *at;
     size_t size;
     if (pthread_getattr_np(pthread_self(), &attributes)) return;
-    if (pthread_attr_getstack(&attributes, &at, &size) == 0) rank->stack = at;
+    if (pthread_attr_getstack(&attributes, &at, &size) == 0) rank->thread.stack = at;
     pthread_attr_destroy(&attributes);
 }
 
 /* All that the rank does which runs. */
 void um_live(void) {
-    if (setjmp(um_me->bottom) == 0) {
+    if (setjmp(um_me->thread.bottom) == 0) {
         int status = um_run_program(um_me);
         um_say_farewells();
-        if (!um_me->has_finalized) um_stop_here(status);
-        um_me->status = status;
+        if (!um_me->life.has_finalized) um_stop_here(status);
+        um_me->life.status = status;
     }
-    if (um_me->has_finalized) um_report("end %d %d\n", um_me->number, um_me->status);
+    if (um_me->life.has_finalized) um_report("end %d %d\n", um_me->number, um_me->life.status);
     um_close_output(um_me);
     clear_rank();
-    atomic_store(&um_me->is_ended, 1);
+    atomic_store(&um_me->shared.is_ended, 1);
 }
 
 /* A stack for signals, since that of a rank may be used up. */
@@ -85,8 +85,8 @@ static void *run_rank(void *of) {
 void um_prepare_rank(struct rank *rank, int number) {
     rank->number = number;
     rank->slot = &rank->home;
-    pthread_mutex_init(&rank->parcels_lock, 0);
-    rank->random = um_options.yields * 0x9E3779B97F4A7C15u + (uint64_t)number * 0xBF58476D1CE4E5B9u + 1;
+    pthread_mutex_init(&rank->sent.lock, 0);
+    rank->plan.random = um_options.yields * 0x9E3779B97F4A7C15u + (uint64_t)number * 0xBF58476D1CE4E5B9u + 1;
 }
 
 static bool start_rank(struct rank *rank, int number) {
@@ -95,7 +95,7 @@ static bool start_rank(struct rank *rank, int number) {
     if (!um_open_output(rank)) return false;
     pthread_attr_init(&attributes);
     pthread_attr_setstacksize(&attributes, STACK);
-    return pthread_create(&rank->thread, &attributes, run_rank, rank) == 0;
+    return pthread_create(&rank->thread.id, &attributes, run_rank, rank) == 0;
 }
 
 /* Memory that was freed is kept for what comes next, else each long message pays for its pages again. */
@@ -136,27 +136,27 @@ static void wait_for_ends(void) {
     while (ended_count < um_options.ranks)
         if (pthread_cond_timedwait(&end_came, &end_lock, &until) == ETIMEDOUT) um_tell_late();
     pthread_mutex_unlock(&end_lock);
-    for (int k = 0; k < um_options.ranks; k++) pthread_join(um_ranks[k].thread, 0);
+    for (int k = 0; k < um_options.ranks; k++) pthread_join(um_ranks[k].thread.id, 0);
 }
 
 /* The status of a run that ended: that of the first rank that ended with another one than 0 and wasn't stopped by plan. */
 static int status_of_run(void) {
     int status = 0;
     bool uses_mpi = false;
-    for (int k = 0; k < um_options.ranks; k++) uses_mpi = uses_mpi || um_ranks[k].has_begun;
+    for (int k = 0; k < um_options.ranks; k++) uses_mpi = uses_mpi || um_ranks[k].life.has_begun;
     for (int k = um_options.ranks - 1; k >= 0; k--) {
-        if (uses_mpi && um_ranks[k].has_stopped && !um_ranks[k].is_planned)
-            fprintf(stderr, "ulfm-mpirun: rank %d ended with status %d without MPI_Finalize: it failed\n", k, um_ranks[k].status);
-        if (!um_ranks[k].is_planned && um_ranks[k].status) status = um_ranks[k].status;
+        if (uses_mpi && um_ranks[k].life.has_stopped && !um_ranks[k].life.is_planned)
+            fprintf(stderr, "ulfm-mpirun: rank %d ended with status %d without MPI_Finalize: it failed\n", k, um_ranks[k].life.status);
+        if (!um_ranks[k].life.is_planned && um_ranks[k].life.status) status = um_ranks[k].life.status;
     }
     return status & 255;
 }
 
 static void tell_unmet_stops(void) {
     for (int k = 0; k < um_options.stops; k++)
-        if (!um_ranks[um_options.stop[k].rank].is_planned)
+        if (!um_ranks[um_options.stop[k].rank].life.is_planned)
             fprintf(stderr, "ulfm-mpirun: rank %d ended before a stop of the plan: it made %d calls\n", um_options.stop[k].rank,
-                    um_ranks[um_options.stop[k].rank].calls);
+                    um_ranks[um_options.stop[k].rank].plan.calls);
 }
 
 /* All ranks have ended: their slots and what they share end too. The status of the run. */
@@ -165,7 +165,7 @@ int um_close_run(void) {
     um_free_parcels();
     um_free_marks();
     tell_unmet_stops();
-    for (int k = 0; k < um_options.ranks; k++) free(um_ranks[k].words);
+    for (int k = 0; k < um_options.ranks; k++) free(um_ranks[k].program.words);
     return status_of_run();
 }
 

@@ -62,7 +62,7 @@ bool um_copy_programs(void) {
     bool is_well = bytes && make_folder();
     if (is_well && !um_mend_program(bytes, size)) return false;
     for (int k = 0; k < um_options.ranks && is_well; k++)
-        is_well = asprintf(&um_ranks[k].path, "%s/%s.rank%d", folder, name ? name + 1 : um_options.program, k) >= 0 && write_copy(um_ranks[k].path, bytes, size);
+        is_well = asprintf(&um_ranks[k].program.path, "%s/%s.rank%d", folder, name ? name + 1 : um_options.program, k) >= 0 && write_copy(um_ranks[k].program.path, bytes, size);
     if (!is_well) fprintf(stderr, "ulfm-mpirun: %s can't be copied\n", um_options.program);
     free(bytes);
     return is_well;
@@ -76,7 +76,7 @@ void um_leave_copies(void) { are_left = true; }
 void um_remove_copies(void) {
     if (!um_is_launcher() || are_left) return;
     for (int k = 0; k < um_options.ranks; k++)
-        if (um_ranks[k].path) unlink(um_ranks[k].path);
+        if (um_ranks[k].program.path) unlink(um_ranks[k].program.path);
     if (folder[0]) rmdir(folder);
 }
 
@@ -85,13 +85,13 @@ static const char *word_at(int k) { return k ? um_options.words[k - 1] : um_opti
 /* The words that the rank's main gets: the program, and its arguments. They are one piece of memory with their array, since main may change what
    stands in that. False where there is no memory. */
 static bool copy_words(struct rank *rank) {
-    size_t count = (size_t)um_options.count + 1, bytes = (count + 1) * sizeof *rank->words;
+    size_t count = (size_t)um_options.count + 1, bytes = (count + 1) * sizeof *rank->program.words;
     for (size_t k = 0; k < count; k++) bytes += strlen(word_at((int)k)) + 1;
-    rank->words = calloc(1, bytes);
-    if (!rank->words) return false;
-    char *text = (char *)(rank->words + count + 1);
+    rank->program.words = calloc(1, bytes);
+    if (!rank->program.words) return false;
+    char *text = (char *)(rank->program.words + count + 1);
     for (size_t k = 0; k < count; k++) {
-        rank->words[k] = text;
+        rank->program.words[k] = text;
         text = stpcpy(text, word_at((int)k)) + 1;
     }
     return true;
@@ -111,14 +111,14 @@ static void refuse_program(void) {
 /* Loads the copy of the rank that runs, and calls its main. Its status, or STATUS_USAGE where it can't be loaded. */
 int um_run_program(struct rank *rank) {
     extern char **environ;
-    rank->program = dlopen(rank->path, RTLD_NOW | RTLD_LOCAL);
-    if (!rank->program) refuse_program();
+    rank->program.handle = dlopen(rank->program.path, RTLD_NOW | RTLD_LOCAL);
+    if (!rank->program.handle) refuse_program();
     typedef int starting(int, char **, char **);
-    starting **start = (starting **)dlsym(rank->program, "ulfm_program_entry");
+    starting **start = (starting **)dlsym(rank->program.handle, "ulfm_program_entry");
     if (!start) {
         fprintf(stderr, "ulfm-mpirun: %s wasn't linked by ulfm-mpicc\n", um_options.program);
         um_end_run(STATUS_USAGE);
     }
     if (!copy_words(rank)) um_end_run(STATUS_USAGE);
-    return (*start)(um_options.count + 1, rank->words, environ);
+    return (*start)(um_options.count + 1, rank->program.words, environ);
 }

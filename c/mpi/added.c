@@ -12,8 +12,8 @@ struct added {
 };
 
 static struct added *added_at(int code) {
-    for (int k = 0; um_me && k < um_me->added_count; k++)
-        if (um_me->added[k].code == code) return &um_me->added[k];
+    for (int k = 0; um_me && k < um_me->mpi.added_count; k++)
+        if (um_me->mpi.added[k].code == code) return &um_me->mpi.added[k];
     return 0;
 }
 
@@ -24,17 +24,17 @@ const char *um_text_of_added(int code) {
 }
 
 static int add(int code, int *made) {
-    if (!um_grow(&um_me->added, um_me->added_count, sizeof *um_me->added)) return MPI_ERR_NO_MEM;
-    um_me->added[um_me->added_count++] = (struct added){.code = code};
-    if (code > um_me->last_code) um_me->last_code = code;
+    if (!um_grow(&um_me->mpi.added, um_me->mpi.added_count, sizeof *um_me->mpi.added)) return MPI_ERR_NO_MEM;
+    um_me->mpi.added[um_me->mpi.added_count++] = (struct added){.code = code};
+    if (code > um_me->mpi.last_code) um_me->mpi.last_code = code;
     *made = code;
     return MPI_SUCCESS;
 }
 
 /* The value of MPI_LASTUSEDCODE: it grows with what is added. */
 int *um_last_used_code(void) {
-    if (um_me->last_code < MPI_ERR_LASTCODE) um_me->last_code = MPI_ERR_LASTCODE;
-    return &um_me->last_code;
+    if (um_me->mpi.last_code < MPI_ERR_LASTCODE) um_me->mpi.last_code = MPI_ERR_LASTCODE;
+    return &um_me->mpi.last_code;
 }
 
 int MPI_Add_error_class(int *errorclass) {
@@ -49,7 +49,7 @@ int MPI_Add_error_code(int errorclass, int *errorcode) {
     ENTER_LOOK(0, MPI_UNDEFINED, MPI_UNDEFINED);
     WRITES(0, errorcode);
     bool is_class = errorclass >= 0 && (errorclass <= MPI_ERR_LASTCODE || (errorclass < END_OF_CLASSES && added_at(errorclass)));
-    return um_fail(0, is_class ? add(errorclass | (FIRST_DETAIL + um_me->added_count) << 8, errorcode) : MPI_ERR_ARG);
+    return um_fail(0, is_class ? add(errorclass | (FIRST_DETAIL + um_me->mpi.added_count) << 8, errorcode) : MPI_ERR_ARG);
 }
 
 int MPI_Add_error_string(int errorcode, const char *string) {
@@ -61,7 +61,7 @@ int MPI_Add_error_string(int errorcode, const char *string) {
 }
 
 void um_clear_added(void) {
-    free(um_me->added);
-    um_me->added = 0;
-    um_me->added_count = um_me->last_code = 0;
+    free(um_me->mpi.added);
+    um_me->mpi.added = 0;
+    um_me->mpi.added_count = um_me->mpi.last_code = 0;
 }

@@ -25,15 +25,15 @@ int MPI_COMM_NULL_DELETE_FN(MPI_Comm comm, int keyval, void *value, void *more) 
 }
 
 static struct keyval *keyval_at(int keyval, enum kind_of_bearer kind) {
-    struct keyval *at = keyval >= FIRST_OWN && keyval - FIRST_OWN < um_me->keyval_count ? &um_me->keyvals[keyval - FIRST_OWN] : 0;
+    struct keyval *at = keyval >= FIRST_OWN && keyval - FIRST_OWN < um_me->mpi.keyval_count ? &um_me->mpi.keyvals[keyval - FIRST_OWN] : 0;
     return at && at->kind == kind ? at : 0;
 }
 
 int um_create_keyval(const struct keyval *made, int *keyval) {
     WRITES(0, keyval);
-    if (!um_grow(&um_me->keyvals, um_me->keyval_count, sizeof *um_me->keyvals)) return um_fail(0, MPI_ERR_NO_MEM);
-    um_me->keyvals[um_me->keyval_count] = *made;
-    *keyval = FIRST_OWN + um_me->keyval_count++;
+    if (!um_grow(&um_me->mpi.keyvals, um_me->mpi.keyval_count, sizeof *um_me->mpi.keyvals)) return um_fail(0, MPI_ERR_NO_MEM);
+    um_me->mpi.keyvals[um_me->mpi.keyval_count] = *made;
+    *keyval = FIRST_OWN + um_me->mpi.keyval_count++;
     return MPI_SUCCESS;
 }
 
@@ -73,7 +73,7 @@ static int deletes(const struct bearer *bearer, const struct keyval *keyval, con
 /* Takes an attribute away, where its deletion allows that. */
 static int delete_at(const struct bearer *bearer, struct attribute **at) {
     struct attribute *attribute = *at;
-    const struct keyval *keyval = &um_me->keyvals[attribute->keyval - FIRST_OWN];
+    const struct keyval *keyval = &um_me->mpi.keyvals[attribute->keyval - FIRST_OWN];
     int code = deletes(bearer, keyval, attribute);
     if (code != MPI_SUCCESS) return code;
     *at = attribute->next;
@@ -116,7 +116,7 @@ int um_get_attribute(const struct bearer *bearer, int keyval, void *value, int *
 int um_copy_all_attributes(const struct bearer *from, struct attribute **end) {
     int code = MPI_SUCCESS;
     for (struct attribute *of = *from->first; of && code == MPI_SUCCESS; of = of->next) {
-        const struct keyval *keyval = &um_me->keyvals[of->keyval - FIRST_OWN];
+        const struct keyval *keyval = &um_me->mpi.keyvals[of->keyval - FIRST_OWN];
         void *value = 0;
         int flag = 0;
         code = keyval->kind == OF_TYPES ? keyval->type.copies(from->type, of->keyval, keyval->more, of->value, &value, &flag)
@@ -201,9 +201,9 @@ int MPI_Comm_get_attr(MPI_Comm comm, int keyval, void *value, int *flag) {
 /* What a program added to the errors goes too: one of the attributes that are there points to it. */
 void um_clear_keyvals(void) {
     um_clear_added();
-    free(um_me->keyvals);
-    um_me->keyvals = 0;
-    um_me->keyval_count = 0;
+    free(um_me->mpi.keyvals);
+    um_me->mpi.keyvals = 0;
+    um_me->mpi.keyval_count = 0;
 }
 
 /* The older names (16.1). A report has the newer one. */

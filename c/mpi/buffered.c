@@ -6,18 +6,18 @@
 
 static int attach(void *buffer, MPI_Count size) {
     if (size < 0) return um_fail(0, MPI_ERR_ARG);
-    if (um_me->attached || !buffer) return um_fail(0, MPI_ERR_BUFFER);
-    um_me->attached = buffer;
-    um_me->attached_size = size;
+    if (um_me->mpi.attached || !buffer) return um_fail(0, MPI_ERR_BUFFER);
+    um_me->mpi.attached = buffer;
+    um_me->mpi.attached_size = size;
     return MPI_SUCCESS;
 }
 
 /* Its size, and *buffer: the address that was attached, null where there is none. */
 static MPI_Count detach(void *buffer) {
-    MPI_Count size = um_me->attached_size;
-    *(void **)buffer = um_me->attached;
-    um_me->attached = 0;
-    um_me->attached_size = 0;
+    MPI_Count size = um_me->mpi.attached_size;
+    *(void **)buffer = um_me->mpi.attached;
+    um_me->mpi.attached = 0;
+    um_me->mpi.attached_size = 0;
     return size;
 }
 
@@ -51,7 +51,7 @@ static int check_room(const void *buf, int count, MPI_Datatype type, int dest, i
     size_t bytes;
     int code = um_check_message(buf, count, type, dest, tag, comm, false);
     if (code != MPI_SUCCESS || dest == MPI_PROC_NULL || !um_check_buffer(count, type, &bytes, &code)) return code;
-    return bytes + MPI_BSEND_OVERHEAD > (size_t)um_me->attached_size ? MPI_ERR_BUFFER : MPI_SUCCESS;
+    return bytes + MPI_BSEND_OVERHEAD > (size_t)um_me->mpi.attached_size ? MPI_ERR_BUFFER : MPI_SUCCESS;
 }
 
 int MPI_Bsend(const void *buf, int count, MPI_Datatype type, int dest, int tag, MPI_Comm comm) {

@@ -10,7 +10,7 @@ static void give_up(struct request *request) {
     if (request->over || request->kind == SYNCHRONOUS || request->kind == EXCHANGE) um_free_request(request);
     else {
         request->freed = true;
-        atomic_fetch_add(&um_me->waited_for, 1);
+        atomic_fetch_add(&um_me->shared.waited_for, 1);
     }
 }
 

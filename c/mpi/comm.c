@@ -8,12 +8,12 @@
 /* The communicator of a handle, or null: it isn't one, or not yet. */
 struct comm *um_comm_at(MPI_Comm handle) {
     uintptr_t number = (uintptr_t)handle;
-    return um_me && number && number <= (uintptr_t)um_me->comm_count ? um_me->comms[number - 1] : 0;
+    return um_me && number && number <= (uintptr_t)um_me->mpi.comm_count ? um_me->mpi.comms[number - 1] : 0;
 }
 
 MPI_Comm um_handle_of(const struct comm *comm) {
-    for (int k = 0; k < um_me->comm_count; k++)
-        if (um_me->comms[k] == comm) return (MPI_Comm)(uintptr_t)(k + 1);
+    for (int k = 0; k < um_me->mpi.comm_count; k++)
+        if (um_me->mpi.comms[k] == comm) return (MPI_Comm)(uintptr_t)(k + 1);
     return MPI_COMM_NULL;
 }
 
@@ -65,9 +65,9 @@ bool um_fill_comm(struct comm *comm, const struct group *group) {
 struct comm *um_new_comm(struct chain *chain, int plane, MPI_Errhandler handler, const struct group *group) {
     struct comm *comm = calloc(1, sizeof *comm);
     int place = 0;
-    while (place < um_me->comm_count && um_me->comms[place]) place++;
+    while (place < um_me->mpi.comm_count && um_me->mpi.comms[place]) place++;
     if (comm) comm->context = chain->plane[plane].context;
-    if (!comm || (place == um_me->comm_count && !um_grow(&um_me->comms, place, sizeof *um_me->comms)) || !um_fill_comm(comm, group)) {
+    if (!comm || (place == um_me->mpi.comm_count && !um_grow(&um_me->mpi.comms, place, sizeof *um_me->mpi.comms)) || !um_fill_comm(comm, group)) {
         free(comm);
         return 0;
     }
@@ -78,8 +78,8 @@ struct comm *um_new_comm(struct chain *chain, int plane, MPI_Errhandler handler,
     chain->plane[plane].is_free = false;
     comm->handler = handler;
     chain->users++;
-    um_me->comms[place] = comm;
-    if (place == um_me->comm_count) um_me->comm_count++;
+    um_me->mpi.comms[place] = comm;
+    if (place == um_me->mpi.comm_count) um_me->mpi.comm_count++;
     return comm;
 }
 
@@ -88,7 +88,7 @@ bool um_make_world(void) {
     struct chain *chain = um_new_chain(0);
     struct comm *world = chain ? um_new_comm(chain, 0, MPI_ERRORS_ARE_FATAL, 0) : 0;
     struct comm *self = world ? calloc(1, sizeof *self) : 0;
-    if (!self || !um_grow(&um_me->comms, um_me->comm_count, sizeof *um_me->comms)) return false;
+    if (!self || !um_grow(&um_me->mpi.comms, um_me->mpi.comm_count, sizeof *um_me->mpi.comms)) return false;
     strcpy(world->name, "MPI_COMM_WORLD");
     strcpy(self->name, "MPI_COMM_SELF");
     self->context = self->hidden = chain->hidden;
@@ -96,9 +96,9 @@ bool um_make_world(void) {
     um_fill_comm(self, &(struct group){1, {(uint8_t)um_me->number}});
     self->handler = MPI_ERRORS_ARE_FATAL;
     self->is_self = self->is_part = true;
-    self->revoked = &um_me->self_revoked;
+    self->revoked = &um_me->recovery.self_revoked;
     chain->users++;
-    um_me->comms[um_me->comm_count++] = self;
+    um_me->mpi.comms[um_me->mpi.comm_count++] = self;
     return true;
 }
 
@@ -112,13 +112,13 @@ void um_free_comm(struct comm *comm) {
 }
 
 void um_clear_comms(void) {
-    for (int k = 0; k < um_me->comm_count; k++)
-        if (um_me->comms[k]) um_free_comm(um_me->comms[k]);
-    for (int k = 0; k < um_me->old_comm_count; k++) um_free_comm(um_me->old_comms[k]);
-    free(um_me->comms);
-    free(um_me->old_comms);
-    um_me->comms = um_me->old_comms = 0;
-    um_me->comm_count = um_me->old_comm_count = 0;
+    for (int k = 0; k < um_me->mpi.comm_count; k++)
+        if (um_me->mpi.comms[k]) um_free_comm(um_me->mpi.comms[k]);
+    for (int k = 0; k < um_me->mpi.old_comm_count; k++) um_free_comm(um_me->mpi.old_comms[k]);
+    free(um_me->mpi.comms);
+    free(um_me->mpi.old_comms);
+    um_me->mpi.comms = um_me->mpi.old_comms = 0;
+    um_me->mpi.comm_count = um_me->mpi.old_comm_count = 0;
 }
 
 int MPI_Comm_size(MPI_Comm comm, int *size) {

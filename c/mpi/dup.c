@@ -37,8 +37,8 @@ void um_free_marks(void) {
 }
 
 static bool has_requests(uint32_t context) {
-    for (int k = 0; k < um_me->request_count; k++)
-        if (um_me->requests[k] && um_me->requests[k]->context == context) return true;
+    for (int k = 0; k < um_me->mpi.request_count; k++)
+        if (um_me->mpi.requests[k] && um_me->mpi.requests[k]->context == context) return true;
     return false;
 }
 
@@ -143,9 +143,9 @@ int um_release_comm(struct comm *of, MPI_Comm *handle) {
     int code = um_delete_attributes(of);
     if (code != MPI_SUCCESS) return code;
     bool is_used = has_requests(of->context) || um_has_messages();
-    if (is_used && !um_grow(&um_me->old_comms, um_me->old_comm_count, sizeof *um_me->old_comms)) return MPI_ERR_NO_MEM;
-    if (is_used) um_me->old_comms[um_me->old_comm_count++] = of;
-    um_me->comms[(uintptr_t)*handle - 1] = 0;
+    if (is_used && !um_grow(&um_me->mpi.old_comms, um_me->mpi.old_comm_count, sizeof *um_me->mpi.old_comms)) return MPI_ERR_NO_MEM;
+    if (is_used) um_me->mpi.old_comms[um_me->mpi.old_comm_count++] = of;
+    um_me->mpi.comms[(uintptr_t)*handle - 1] = 0;
     of->chain->plane[of->plane].is_free = of->plane > 0;
     of->chain->plane[of->plane].begun = of->begun;
     *handle = MPI_COMM_NULL;
@@ -199,7 +199,7 @@ int MPI_Comm_free(MPI_Comm *comm) {
     struct comm *of = comm ? um_comm_at(*comm) : 0;
     ENTER_LOOK(of, MPI_UNDEFINED, MPI_UNDEFINED);
     if (!of || *comm == MPI_COMM_WORLD || *comm == MPI_COMM_SELF) return um_fail(0, MPI_ERR_COMM);
-    um_me->place.comm = 0;
+    um_me->call.comm = 0;
     return um_fail(of, um_release_comm(of, comm));
 }
 

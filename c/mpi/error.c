@@ -111,12 +111,12 @@ int MPI_Error_string(int errorcode, char *string, int *length) {
 
 bool um_is_handler(MPI_Errhandler handler) {
     uintptr_t number = (uintptr_t)handler;
-    return (number && number < FIRST_OWN) || (number >= FIRST_OWN && number - FIRST_OWN < (uintptr_t)um_me->handler_count);
+    return (number && number < FIRST_OWN) || (number >= FIRST_OWN && number - FIRST_OWN < (uintptr_t)um_me->mpi.handler_count);
 }
 
 /* An error is fatal: says where and which, and ends the run. */
 static void end_by(const char *name, int code) {
-    const char *call = um_me->place.call;
+    const char *call = um_me->call.name;
     char line[256];
     um_begin_report();
     fprintf(stderr, "ulfm-mpirun: rank %d: %s%s: %s; errors are fatal on %s: the run ends\n", um_me->number, call, um_line_of(um_me, line, sizeof line), text_of(code), name);
@@ -129,14 +129,14 @@ static void end_by(const char *name, int code) {
 int um_fail_by(MPI_Errhandler handler, struct comm *comm, void *window, const char *name, int code) {
     if (um_is_played) um_look_as_played();   /* at what came in the call, which ends here */
     if (code == MPI_SUCCESS) return code;
-    if (code == MPIX_ERR_PROC_FAILED || code == MPIX_ERR_PROC_FAILED_PENDING || code == MPI_ERR_IN_STATUS) um_me->is_told = true;
+    if (code == MPIX_ERR_PROC_FAILED || code == MPIX_ERR_PROC_FAILED_PENDING || code == MPI_ERR_IN_STATUS) um_me->recovery.is_told = true;
     uintptr_t number = (uintptr_t)handler;
     if (handler == MPI_ERRORS_RETURN) return code;
     if (number < FIRST_OWN || !um_is_handler(handler)) end_by(name, code);
-    const struct errhandler *own = &um_me->handlers[number - FIRST_OWN];
+    const struct errhandler *own = &um_me->mpi.handlers[number - FIRST_OWN];
     MPI_Comm handle = um_handle_of(comm);
     int told = code;
-    um_me->is_starting = false;   /* the handler may jump out of the call */
+    um_me->mpi.is_starting = false;   /* the handler may jump out of the call */
     comm->repeats = 0;
     if (window && own->of_windows) own->of_windows(window, &told);
     else if (own->function) own->function(&handle, &told);
@@ -151,9 +151,9 @@ int um_fail(struct comm *comm, int code) {
 }
 
 static int add_handler(struct errhandler made, MPI_Errhandler *handler) {
-    if (!um_grow(&um_me->handlers, um_me->handler_count, sizeof *um_me->handlers)) return um_fail(0, MPI_ERR_NO_MEM);
-    um_me->handlers[um_me->handler_count] = made;
-    *handler = (MPI_Errhandler)(uintptr_t)(FIRST_OWN + um_me->handler_count++);
+    if (!um_grow(&um_me->mpi.handlers, um_me->mpi.handler_count, sizeof *um_me->mpi.handlers)) return um_fail(0, MPI_ERR_NO_MEM);
+    um_me->mpi.handlers[um_me->mpi.handler_count] = made;
+    *handler = (MPI_Errhandler)(uintptr_t)(FIRST_OWN + um_me->mpi.handler_count++);
     return MPI_SUCCESS;
 }
 
@@ -204,9 +204,9 @@ int MPI_Errhandler_free(MPI_Errhandler *handler) {
 }
 
 void um_clear_handlers(void) {
-    free(um_me->handlers);
-    um_me->handlers = 0;
-    um_me->handler_count = 0;
+    free(um_me->mpi.handlers);
+    um_me->mpi.handlers = 0;
+    um_me->mpi.handler_count = 0;
 }
 
 /* Of MPI-1 (17.1). */

@@ -9,7 +9,7 @@ static struct group none;
 struct group *um_group_at(MPI_Group handle) {
     uintptr_t number = (uintptr_t)handle;
     if (handle == MPI_GROUP_EMPTY) return &none;
-    return um_me && number > 1 && number - 2 < (uintptr_t)um_me->group_count ? um_me->groups[number - 2] : 0;
+    return um_me && number > 1 && number - 2 < (uintptr_t)um_me->mpi.group_count ? um_me->mpi.groups[number - 2] : 0;
 }
 
 /* Makes a group of so many members; the group of none is MPI_GROUP_EMPTY. */
@@ -19,23 +19,23 @@ int um_make_group(const uint8_t *members, int size, MPI_Group *made) {
         *made = MPI_GROUP_EMPTY;
         return MPI_SUCCESS;
     }
-    while (place < um_me->group_count && um_me->groups[place]) place++;
-    if (place == um_me->group_count && !um_grow(&um_me->groups, um_me->group_count, sizeof *um_me->groups)) return MPI_ERR_NO_MEM;
+    while (place < um_me->mpi.group_count && um_me->mpi.groups[place]) place++;
+    if (place == um_me->mpi.group_count && !um_grow(&um_me->mpi.groups, um_me->mpi.group_count, sizeof *um_me->mpi.groups)) return MPI_ERR_NO_MEM;
     struct group *group = calloc(1, sizeof *group);
     if (!group) return MPI_ERR_NO_MEM;
     group->size = size;
     memcpy(group->members, members, (size_t)size);
-    if (place == um_me->group_count) um_me->group_count++;
-    um_me->groups[place] = group;
+    if (place == um_me->mpi.group_count) um_me->mpi.group_count++;
+    um_me->mpi.groups[place] = group;
     *made = (MPI_Group)(uintptr_t)(place + 2);
     return MPI_SUCCESS;
 }
 
 void um_clear_groups(void) {
-    for (int k = 0; k < um_me->group_count; k++) free(um_me->groups[k]);
-    free(um_me->groups);
-    um_me->groups = 0;
-    um_me->group_count = 0;
+    for (int k = 0; k < um_me->mpi.group_count; k++) free(um_me->mpi.groups[k]);
+    free(um_me->mpi.groups);
+    um_me->mpi.groups = 0;
+    um_me->mpi.group_count = 0;
 }
 
 /* Where a world rank stands in a group, or MPI_UNDEFINED. */
@@ -192,7 +192,7 @@ int MPI_Group_free(MPI_Group *group) {
     if (!group || !um_group_at(*group)) return um_fail(0, MPI_ERR_GROUP);
     if (*group != MPI_GROUP_EMPTY) {
         free(um_group_at(*group));
-        um_me->groups[(uintptr_t)*group - 2] = 0;
+        um_me->mpi.groups[(uintptr_t)*group - 2] = 0;
     }
     *group = MPI_GROUP_NULL;
     return MPI_SUCCESS;

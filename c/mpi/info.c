@@ -17,7 +17,7 @@ enum { FIRST_OWN = 2 };
 
 static struct info *info_at(MPI_Info handle) {
     uintptr_t number = (uintptr_t)handle;
-    return number >= FIRST_OWN && number - FIRST_OWN < (uintptr_t)um_me->info_count ? um_me->infos[number - FIRST_OWN] : 0;
+    return number >= FIRST_OWN && number - FIRST_OWN < (uintptr_t)um_me->mpi.info_count ? um_me->mpi.infos[number - FIRST_OWN] : 0;
 }
 
 /* What is only looked at may be MPI_INFO_ENV too, which has none of its keys: each may be left out (11.2.1). */
@@ -57,17 +57,17 @@ static void free_info(struct info *info) {
 }
 
 void um_clear_infos(void) {
-    for (int k = 0; k < um_me->info_count; k++) free_info(um_me->infos[k]);
-    free(um_me->infos);
-    um_me->infos = 0;
-    um_me->info_count = 0;
+    for (int k = 0; k < um_me->mpi.info_count; k++) free_info(um_me->mpi.infos[k]);
+    free(um_me->mpi.infos);
+    um_me->mpi.infos = 0;
+    um_me->mpi.info_count = 0;
 }
 
 /* Makes one with the pairs of another, or with none where that is null. */
 static int make_info(const struct info *like, MPI_Info *made) {
     int place = 0, code = MPI_SUCCESS;
-    while (place < um_me->info_count && um_me->infos[place]) place++;
-    if (place == um_me->info_count && !um_grow(&um_me->infos, place, sizeof *um_me->infos)) return MPI_ERR_NO_MEM;
+    while (place < um_me->mpi.info_count && um_me->mpi.infos[place]) place++;
+    if (place == um_me->mpi.info_count && !um_grow(&um_me->mpi.infos, place, sizeof *um_me->mpi.infos)) return MPI_ERR_NO_MEM;
     struct info *info = calloc(1, sizeof *info);
     if (!info) return MPI_ERR_NO_MEM;
     for (int k = 0; like && k < like->count && code == MPI_SUCCESS; k++) code = put(info, like->pairs[k].key, like->pairs[k].value);
@@ -75,19 +75,19 @@ static int make_info(const struct info *like, MPI_Info *made) {
         free_info(info);
         return code;
     }
-    if (place == um_me->info_count) um_me->info_count++;
-    um_me->infos[place] = info;
+    if (place == um_me->mpi.info_count) um_me->mpi.info_count++;
+    um_me->mpi.infos[place] = info;
     *made = (MPI_Info)(uintptr_t)(FIRST_OWN + place);
     return MPI_SUCCESS;
 }
 
 /* These calls may be made before MPI_Init and after MPI_Finalize too (11.4.1); then there is no error handler. */
 #define LOOK() \
-    if (!um_me || (um_me->has_begun && !um_me->has_finalized)) ENTER_LOOK(0, MPI_UNDEFINED, MPI_UNDEFINED)
+    if (!um_me || (um_me->life.has_begun && !um_me->life.has_finalized)) ENTER_LOOK(0, MPI_UNDEFINED, MPI_UNDEFINED)
 #define NEEDS(pointer) \
     if (!(pointer)) return refuse(MPI_ERR_ARG)
 
-static int refuse(int code) { return um_me->has_begun && !um_me->has_finalized ? um_fail(0, code) : code; }
+static int refuse(int code) { return um_me->life.has_begun && !um_me->life.has_finalized ? um_fail(0, code) : code; }
 
 int MPI_Info_create(MPI_Info *made) {
     LOOK();
@@ -115,7 +115,7 @@ int MPI_Info_dup(MPI_Info info, MPI_Info *made) {
 
 int MPI_Info_free(MPI_Info *info) {
     INFO(info ? *info : MPI_INFO_NULL);
-    um_me->infos[(uintptr_t)*info - FIRST_OWN] = 0;
+    um_me->mpi.infos[(uintptr_t)*info - FIRST_OWN] = 0;
     free_info(of);
     *info = MPI_INFO_NULL;
     return MPI_SUCCESS;

@@ -43,13 +43,13 @@ int *um_hold_list(struct large *large, const void *from, int count) {
 
 /* From here on the call that is made is a part of this one. Whether it can be. */
 bool um_begin_large(struct large *large) {
-    large->is_part = um_me->is_starting;
-    um_me->is_starting = true;
+    large->is_part = um_me->mpi.is_starting;
+    um_me->mpi.is_starting = true;
     return large->code == MPI_SUCCESS;
 }
 
 int um_end_large(const struct large *large, int code) {
-    um_me->is_starting = large->is_part;
+    um_me->mpi.is_starting = large->is_part;
     for (int k = 0; k < large->types; k++) um_drop_type(large->made[k]);
     for (int k = 0; k < large->lists; k++) free(large->list[k]);
     return code;

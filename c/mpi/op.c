@@ -16,8 +16,8 @@ enum { FIRST_OWN = 32, LAST_BASIC = 14 };
 
 static const struct op *own_at(MPI_Op op) {
     uintptr_t number = (uintptr_t)op;
-    if (number < FIRST_OWN || number - FIRST_OWN >= (uintptr_t)um_me->op_count) return 0;
-    const struct op *own = &um_me->ops[number - FIRST_OWN];
+    if (number < FIRST_OWN || number - FIRST_OWN >= (uintptr_t)um_me->mpi.op_count) return 0;
+    const struct op *own = &um_me->mpi.ops[number - FIRST_OWN];
     return own->function || own->large ? own : 0;
 }
 
@@ -122,12 +122,12 @@ int um_fold(const void *in, void *into, int count, MPI_Datatype type, MPI_Op op)
 /* A handle of an operation, or MPI_OP_NULL where there is no memory. */
 static MPI_Op add_op(struct op op) {
     int place = 0;
-    while (place < um_me->op_count && (um_me->ops[place].function || um_me->ops[place].large)) place++;
-    if (place == um_me->op_count) {
-        if (!um_grow(&um_me->ops, place, sizeof *um_me->ops)) return MPI_OP_NULL;
-        um_me->op_count++;
+    while (place < um_me->mpi.op_count && (um_me->mpi.ops[place].function || um_me->mpi.ops[place].large)) place++;
+    if (place == um_me->mpi.op_count) {
+        if (!um_grow(&um_me->mpi.ops, place, sizeof *um_me->mpi.ops)) return MPI_OP_NULL;
+        um_me->mpi.op_count++;
     }
-    um_me->ops[place] = op;
+    um_me->mpi.ops[place] = op;
     return (MPI_Op)(uintptr_t)(FIRST_OWN + place);
 }
 
@@ -135,7 +135,7 @@ static MPI_Op add_op(struct op op) {
 MPI_Op um_keep_op(MPI_Op op) { return own_at(op) ? add_op(*own_at(op)) : op; }
 
 void um_drop_op(MPI_Op op) {
-    if (own_at(op)) um_me->ops[(uintptr_t)op - FIRST_OWN] = (struct op){0};
+    if (own_at(op)) um_me->mpi.ops[(uintptr_t)op - FIRST_OWN] = (struct op){0};
 }
 
 int MPI_Op_create(MPI_User_function *function, int commutes, MPI_Op *op) {
@@ -178,7 +178,7 @@ int MPI_Reduce_local(const void *inbuf, void *inoutbuf, int count, MPI_Datatype 
 }
 
 void um_clear_ops(void) {
-    free(um_me->ops);
-    um_me->ops = 0;
-    um_me->op_count = 0;
+    free(um_me->mpi.ops);
+    um_me->mpi.ops = 0;
+    um_me->mpi.op_count = 0;
 }

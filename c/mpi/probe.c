@@ -118,12 +118,12 @@ static int keep(struct probe *probe, MPI_Message *handle) {
         return MPI_SUCCESS;
     }
     int place = 0;
-    while (place < um_me->message_count && um_me->messages[place]) place++;
-    if (place == um_me->message_count) {
-        if (!um_grow(&um_me->messages, um_me->message_count, sizeof *um_me->messages)) return MPI_ERR_NO_MEM;
-        um_me->message_count++;
+    while (place < um_me->mpi.message_count && um_me->mpi.messages[place]) place++;
+    if (place == um_me->mpi.message_count) {
+        if (!um_grow(&um_me->mpi.messages, um_me->mpi.message_count, sizeof *um_me->mpi.messages)) return MPI_ERR_NO_MEM;
+        um_me->mpi.message_count++;
     }
-    um_me->messages[place] = probe->message;
+    um_me->mpi.messages[place] = probe->message;
     *handle = (MPI_Message)(uintptr_t)(place + 2);
     return MPI_SUCCESS;
 }
@@ -152,9 +152,9 @@ int MPI_Improbe(int source, int tag, MPI_Comm comm, int *flag, MPI_Message *mess
 /* The message of a handle, which has none then; null: it isn't one. */
 static struct message *take_handle(MPI_Message *handle) {
     uintptr_t number = (uintptr_t)*handle;
-    if (number < 2 || number - 2 >= (uintptr_t)um_me->message_count) return 0;
-    struct message *message = um_me->messages[number - 2];
-    um_me->messages[number - 2] = 0;
+    if (number < 2 || number - 2 >= (uintptr_t)um_me->mpi.message_count) return 0;
+    struct message *message = um_me->mpi.messages[number - 2];
+    um_me->mpi.messages[number - 2] = 0;
     *handle = MPI_MESSAGE_NULL;
     return message;
 }
@@ -215,14 +215,14 @@ int MPI_Imrecv(void *buf, int count, MPI_Datatype type, MPI_Message *message, MP
 
 /* Whether there are messages that were found and aren't received. */
 bool um_has_messages(void) {
-    for (int k = 0; k < um_me->message_count; k++)
-        if (um_me->messages[k]) return true;
+    for (int k = 0; k < um_me->mpi.message_count; k++)
+        if (um_me->mpi.messages[k]) return true;
     return false;
 }
 
 void um_clear_messages(void) {
-    for (int k = 0; k < um_me->message_count; k++) free(um_me->messages[k]);
-    free(um_me->messages);
-    um_me->messages = 0;
-    um_me->message_count = 0;
+    for (int k = 0; k < um_me->mpi.message_count; k++) free(um_me->mpi.messages[k]);
+    free(um_me->mpi.messages);
+    um_me->mpi.messages = 0;
+    um_me->mpi.message_count = 0;
 }

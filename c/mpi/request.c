@@ -9,7 +9,7 @@
 
 struct request *um_request_at(MPI_Request handle) {
     uintptr_t number = (uintptr_t)handle;
-    return number && number <= (uintptr_t)um_me->request_count ? um_me->requests[number - 1] : 0;
+    return number && number <= (uintptr_t)um_me->mpi.request_count ? um_me->mpi.requests[number - 1] : 0;
 }
 
 /* What a handle stands for now: of a persistent request what it started; null where there is nothing to wait for. */
@@ -20,19 +20,19 @@ struct request *um_active_at(MPI_Request handle) {
 
 /* A place of the table that is free, or -1 where there is no memory. */
 static int free_place(void) {
-    while (um_me->first_free < um_me->request_count && um_me->requests[um_me->first_free]) um_me->first_free++;
-    if (um_me->first_free < um_me->request_count) return um_me->first_free;
-    if (!um_grow(&um_me->requests, um_me->request_count, sizeof *um_me->requests)) return -1;
-    um_me->requests[um_me->request_count] = 0;
-    return um_me->request_count++;
+    while (um_me->mpi.first_free < um_me->mpi.request_count && um_me->mpi.requests[um_me->mpi.first_free]) um_me->mpi.first_free++;
+    if (um_me->mpi.first_free < um_me->mpi.request_count) return um_me->mpi.first_free;
+    if (!um_grow(&um_me->mpi.requests, um_me->mpi.request_count, sizeof *um_me->mpi.requests)) return -1;
+    um_me->mpi.requests[um_me->mpi.request_count] = 0;
+    return um_me->mpi.request_count++;
 }
 
 /* A request that isn't over, or null where there is no memory. */
 struct request *um_new_request(enum kind kind, struct comm *comm, int peer, int tag) {
-    struct request *request = um_me->spare;
+    struct request *request = um_me->mpi.spare;
     int place = free_place();
     if (place < 0 || (!request && !(request = malloc(sizeof *request)))) return 0;
-    if (um_me->spare) um_me->spare = request->next;
+    if (um_me->mpi.spare) um_me->mpi.spare = request->next;
     memset(request, 0, kind == COLLECTIVE || kind == EXCHANGE ? sizeof *request : offsetof(struct request, parts));
     request->kind = kind;
     request->comm = comm;
@@ -41,20 +41,20 @@ struct request *um_new_request(enum kind kind, struct comm *comm, int peer, int 
     request->tag = tag;
     request->handle = place + 1;
     request->status = (MPI_Status){.MPI_SOURCE = peer, .MPI_TAG = tag};
-    um_me->requests[place] = request;
-    if (kind == RECOVERY) um_me->recoveries++;
+    um_me->mpi.requests[place] = request;
+    if (kind == RECOVERY) um_me->mpi.recoveries++;
     return request;
 }
 
 static void link_open(struct request *request) {
-    request->next = um_me->open;
-    if (um_me->open) um_me->open->previous = request;
-    um_me->open = request;
+    request->next = um_me->mpi.open;
+    if (um_me->mpi.open) um_me->mpi.open->previous = request;
+    um_me->mpi.open = request;
 }
 
 static void unlink_open(struct request *request) {
     if (request->previous) request->previous->next = request->next;
-    else um_me->open = request->next;
+    else um_me->mpi.open = request->next;
     if (request->next) request->next->previous = request->previous;
 }
 
@@ -65,13 +65,13 @@ void um_free_request(struct request *request) {
     um_free_start(request->start);
     um_free_repeated(request->repeated);
     um_free_reduction(request->reduction);
-    if (request->kind == RECOVERY) um_me->recoveries--;
+    if (request->kind == RECOVERY) um_me->mpi.recoveries--;
     um_free_copy(request);
     free(request->more);
-    um_me->requests[request->handle - 1] = 0;
-    if (request->handle - 1 < um_me->first_free) um_me->first_free = request->handle - 1;
-    request->next = um_me->spare;
-    um_me->spare = request;
+    um_me->mpi.requests[request->handle - 1] = 0;
+    if (request->handle - 1 < um_me->mpi.first_free) um_me->mpi.first_free = request->handle - 1;
+    request->next = um_me->mpi.spare;
+    um_me->mpi.spare = request;
 }
 
 /* Writes what is told of a message, but for the error code: a program may keep its own there (3.2.5). Calls that end several requests write it
@@ -89,7 +89,7 @@ void um_end_request(struct request *request, int code) {
     request->over = true;
     request->code = code;
     if (!request->freed) return;
-    atomic_fetch_sub(&um_me->waited_for, 1);
+    atomic_fetch_sub(&um_me->shared.waited_for, 1);
     um_free_request(request);
 }
 
@@ -114,7 +114,7 @@ void um_start_receive(struct request *request, void *buffer, size_t room) {
     if (!comm->is_part || !um_is_revoked(comm)) code = ulfm_irecv(um_me->slot, request->context, source, tag, BODY, &request->id);
     link_open(request);
     if (code != ULFM_OK) um_end_request(request, um_class_of(code));
-    else if (atomic_load(&um_me->waited_for) > 0) um_look_at(request);
+    else if (atomic_load(&um_me->shared.waited_for) > 0) um_look_at(request);
 }
 
 /* Sends a message of the program. Where `parcel` isn't null, it gets a parcel whose flag tells the match. */
@@ -198,7 +198,7 @@ int um_look_at(struct request *request) {
 
 /* Looks at all receives that wait, so that senders that wait for a match are told. */
 void um_look_at_all(void) {
-    for (struct request *request = um_me->open, *next; request; request = next) {
+    for (struct request *request = um_me->mpi.open, *next; request; request = next) {
         next = request->next;
         um_look_at(request);
     }
@@ -214,8 +214,8 @@ void um_withdraw(struct request *request) {
 }
 
 void um_clear_requests(void) {
-    for (int k = 0; k < um_me->request_count; k++) {
-        struct request *request = um_me->requests[k];
+    for (int k = 0; k < um_me->mpi.request_count; k++) {
+        struct request *request = um_me->mpi.requests[k];
         if (request && request->parcel) um_let_go(request->parcel);
         if (request) um_free_landing(request->landing);
         if (request) um_free_start(request->start);
@@ -225,13 +225,13 @@ void um_clear_requests(void) {
         if (request) free(request->more);
         free(request);
     }
-    free(um_me->requests);
-    um_me->requests = 0;
-    um_me->request_count = 0;
-    um_me->open = 0;
-    while (um_me->spare) {
-        struct request *next = um_me->spare->next;
-        free(um_me->spare);
-        um_me->spare = next;
+    free(um_me->mpi.requests);
+    um_me->mpi.requests = 0;
+    um_me->mpi.request_count = 0;
+    um_me->mpi.open = 0;
+    while (um_me->mpi.spare) {
+        struct request *next = um_me->mpi.spare->next;
+        free(um_me->mpi.spare);
+        um_me->mpi.spare = next;
     }
 }

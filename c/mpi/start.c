@@ -19,12 +19,12 @@ static void refuse(const char *call, const char *why) {
 
 void um_enter_call(const char *call, const void *from, struct comm *comm, int peer, int tag, bool counts) {
     if (!um_me) refuse(call, "was called outside of a rank's first thread");
-    if (!um_me->has_begun) refuse(call, "was called before MPI_Init");
-    if (um_me->has_finalized) refuse(call, "was called after MPI_Finalize");
-    if (um_me->is_starting) return;
-    if (um_me->known_count < atomic_load_explicit(&um_stopped_ranks, memory_order_relaxed)) um_note_failures();
-    um_me->place = (struct place){.call = call, .from = from, .comm = comm, .peer = peer, .tag = tag};
-    um_me->looks = 0;
+    if (!um_me->life.has_begun) refuse(call, "was called before MPI_Init");
+    if (um_me->life.has_finalized) refuse(call, "was called after MPI_Finalize");
+    if (um_me->mpi.is_starting) return;
+    if (um_me->recovery.known_count < atomic_load_explicit(&um_stopped_ranks, memory_order_relaxed)) um_note_failures();
+    um_me->call = (struct call){.name = call, .from = from, .comm = comm, .peer = peer, .tag = tag};
+    um_me->played.looks = 0;
     if (counts) um_plan_call();
 }
 
@@ -32,12 +32,12 @@ int MPI_Init_thread(int *argc, char ***argv, int required, int *provided) {
     (void)argc;
     (void)argv;
     if (!um_me) refuse("MPI_Init", "was called outside of a rank's first thread");
-    if (um_me->has_begun) refuse("MPI_Init", "was called twice");
+    if (um_me->life.has_begun) refuse("MPI_Init", "was called twice");
     if ((um_options.is_alone && !um_begin_alone()) || !um_make_world()) refuse("MPI_Init", "found no memory");
-    um_me->has_begun = true;
-    um_me->place = (struct place){.call = "MPI_Init", .from = __builtin_return_address(0), .peer = MPI_UNDEFINED, .tag = MPI_UNDEFINED};
-    um_me->provided = required < MPI_THREAD_FUNNELED ? MPI_THREAD_SINGLE : MPI_THREAD_FUNNELED;
-    if (provided) *provided = um_me->provided;
+    um_me->life.has_begun = true;
+    um_me->call = (struct call){.name = "MPI_Init", .from = __builtin_return_address(0), .peer = MPI_UNDEFINED, .tag = MPI_UNDEFINED};
+    um_me->life.provided = required < MPI_THREAD_FUNNELED ? MPI_THREAD_SINGLE : MPI_THREAD_FUNNELED;
+    if (provided) *provided = um_me->life.provided;
     return MPI_SUCCESS;
 }
 
@@ -46,7 +46,7 @@ int MPI_Init(int *argc, char ***argv) { return MPI_Init_thread(argc, argv, MPI_T
 /* What the start of the rank provided; a further thread of its program can be one of a rank that was given FUNNELED alone. */
 int MPI_Query_thread(int *provided) {
     if (!provided) return MPI_ERR_ARG;
-    *provided = um_me ? um_me->provided : MPI_THREAD_FUNNELED;
+    *provided = um_me ? um_me->life.provided : MPI_THREAD_FUNNELED;
     return MPI_SUCCESS;
 }
 
@@ -58,18 +58,18 @@ int MPI_Is_thread_main(int *flag) {
 
 /* Where no rank asks, but a further thread of a program, or the launcher's own after the run: whether some rank has begun. */
 int MPI_Initialized(int *flag) {
-    bool has_begun = um_me && um_me->has_begun;
+    bool has_begun = um_me && um_me->life.has_begun;
     if (!flag) return MPI_ERR_ARG;
-    for (int k = 0; k < um_options.ranks && !um_me; k++) has_begun = has_begun || um_ranks[k].has_begun;
+    for (int k = 0; k < um_options.ranks && !um_me; k++) has_begun = has_begun || um_ranks[k].life.has_begun;
     *flag = has_begun;
     return MPI_SUCCESS;
 }
 
 /* So too: whether all of them have finalized, or stopped. */
 int MPI_Finalized(int *flag) {
-    bool has_finalized = !um_me || um_me->has_finalized;
+    bool has_finalized = !um_me || um_me->life.has_finalized;
     if (!flag) return MPI_ERR_ARG;
-    for (int k = 0; k < um_options.ranks && !um_me; k++) has_finalized = has_finalized && (um_ranks[k].has_finalized || um_ranks[k].has_stopped);
+    for (int k = 0; k < um_options.ranks && !um_me; k++) has_finalized = has_finalized && (um_ranks[k].life.has_finalized || um_ranks[k].life.has_stopped);
     *flag = has_finalized;
     return MPI_SUCCESS;
 }
@@ -80,7 +80,7 @@ int MPI_Finalize(void) {
     um_delete_attributes(um_comm_at(MPI_COMM_SELF));   /* before all else (11.2.4) */
     um_delete_attributes(um_comm_at(MPI_COMM_WORLD));
     um_drain();
-    um_me->has_finalized = true;
+    um_me->life.has_finalized = true;
     return MPI_SUCCESS;
 }
 
@@ -88,7 +88,7 @@ int MPI_Abort(MPI_Comm comm, int errorcode) {
     (void)comm;
     if (um_me) {
         char line[256];
-        um_me->place.from = __builtin_return_address(0);
+        um_me->call.from = __builtin_return_address(0);
         um_begin_report();
         fprintf(stderr, "ulfm-mpirun: rank %d called MPI_Abort with %d%s: the run ends\n", um_me->number, errorcode, um_line_of(um_me, line, sizeof line));
         um_write_rests(true);
@@ -122,7 +122,7 @@ int MPI_Get_processor_name(char *name, int *length) {
 /* In a run that is played the clock isn't asked: each call is a millisecond after the last one. */
 double MPI_Wtime(void) {
     struct timespec now;
-    if (um_is_played && um_me) return 1e-3 * (double)++um_me->times_asked;
+    if (um_is_played && um_me) return 1e-3 * (double)++um_me->played.times_asked;
     clock_gettime(CLOCK_MONOTONIC, &now);
     return (double)now.tv_sec + 1e-9 * (double)now.tv_nsec;
 }

@@ -8,7 +8,7 @@ struct player um_players[MAX_RANKS];
 /* What a look is told by: what is looked at, from where in the program, and the number of the look in its call of MPI. */
 static uint64_t look_of(const struct event *call, uint64_t request) {
     uint64_t look = 14695981039346656037u;
-    uint64_t words[] = {call->kind, call->comm, call->peer, (uint64_t)call->tag, request, (uintptr_t)um_me->place.from, um_me->looks++};
+    uint64_t words[] = {call->kind, call->comm, call->peer, (uint64_t)call->tag, request, (uintptr_t)um_me->call.from, um_me->played.looks++};
     for (size_t k = 0; k < sizeof words / sizeof *words; k++) look = (look ^ words[k]) * 1099511628211u;
     return look | 1;
 }
@@ -195,7 +195,7 @@ uint32_t __wrap_ulfm_ack_failed(ulfm_slot *slot, uint32_t comm, uint32_t count, 
 
 REAL(dup);
 uint32_t __wrap_ulfm_dup(ulfm_slot *slot, uint32_t comm, uint32_t *made) {
-    bool is_event = um_is_played && um_me->has_begun;   /* nothing comes before MPI_Init is over */
+    bool is_event = um_is_played && um_me->life.has_begun;   /* nothing comes before MPI_Init is over */
     if (is_event) before(event_of(DUPLICATES, comm, NOBODY, ULFM_ANY));
     uint32_t code = __real_ulfm_dup(slot, comm, made);
     if (um_footprints && is_event) um_end_question(code);

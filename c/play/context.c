@@ -101,8 +101,8 @@ static void switch_to(struct context *from, struct context *to) {
 
 /* The exceptions of the C++ library that the rank's program is linked with; null where there is none. */
 static struct exceptions *exceptions_of(struct context *context) {
-    if (!context->knows_exceptions && um_me->program) {
-        *(void **)&context->find_exceptions = dlsym(um_me->program, "__cxa_get_globals");
+    if (!context->knows_exceptions && um_me->program.handle) {
+        *(void **)&context->find_exceptions = dlsym(um_me->program.handle, "__cxa_get_globals");
         context->knows_exceptions = true;
     }
     return context->find_exceptions ? context->find_exceptions() : 0;
@@ -146,7 +146,7 @@ bool um_make_context(int rank) {
     if (low == MAP_FAILED || mprotect(low, page, PROT_NONE)) return false;
     (void)VALGRIND_STACK_REGISTER(low, low + STACK);
     *context = (struct context){.low = low + page, .room = STACK - page};
-    um_ranks[rank].stack = low + page;
+    um_ranks[rank].thread.stack = low + page;
     return lay_out(context, begin);
 }
 

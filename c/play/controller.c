@@ -29,9 +29,9 @@ void um_look_as_played(void) {
 /* The rank waits until something comes, or a mark changes. */
 static void wait_for_more(struct player *own) {
     own->state = WAITS;
-    atomic_store(&um_me->idle, 1);
+    atomic_store(&um_me->shared.idle, 1);
     um_to_controller();
-    atomic_store(&um_me->idle, 0);
+    atomic_store(&um_me->shared.idle, 0);
 }
 
 void um_wait_as_played(bool (*is_done)(void *, bool is_settled), void *of) {

@@ -45,7 +45,7 @@ bool um_begin_drawing(void) {
 void um_note_drawn(const struct event *event) {
     const struct rank *rank = &um_ranks[event->rank];
     if (!drawn) return;
-    drawn[um_step] = (struct drawn){rank->place.call ? rank->place.call : "its start", rank->place.from, rank->calls, 0, NO_STEP};
+    drawn[um_step] = (struct drawn){rank->call.name ? rank->call.name : "its start", rank->call.from, rank->plan.calls, 0, NO_STEP};
     if (event->kind == LOSES) drawn[um_step].lost = um_first_lost(event->peer, event->rank);
 }
 
@@ -118,10 +118,10 @@ static void put_end(FILE *to, int rank) {
     char text[64];
     fprintf(to, "<path d=\"M%d %dh16\" stroke=\"#1b1b1b\" stroke-width=\"3\"/>\n", column(rank) - 8, height(rows));
     if (um_players[rank].state == OVER) {
-        snprintf(text, sizeof text, own->has_stopped ? "stopped" : "ended with %d", own->status);
-        put_text(to, column(rank) + 12, height(rows) + 4, own->status && !own->is_planned ? "#a31621" : "#1b1b1b", text);
-    } else if (own->has_stopped) put_text(to, column(rank) + 12, height(rows) + 4, "#1b1b1b", "stopped");
-    else put_call(to, rank, rows, um_players[rank].state == AT_CALL ? "loops over " : "waits in ", own->place.call ? own->place.call : "its start", own->place.from, own->calls, "#a31621");
+        snprintf(text, sizeof text, own->life.has_stopped ? "stopped" : "ended with %d", own->life.status);
+        put_text(to, column(rank) + 12, height(rows) + 4, own->life.status && !own->life.is_planned ? "#a31621" : "#1b1b1b", text);
+    } else if (own->life.has_stopped) put_text(to, column(rank) + 12, height(rows) + 4, "#1b1b1b", "stopped");
+    else put_call(to, rank, rows, um_players[rank].state == AT_CALL ? "loops over " : "waits in ", own->call.name ? own->call.name : "its start", own->call.from, own->plan.calls, "#a31621");
 }
 
 /* Draws the schedule that was played. False where the file can't be written. */

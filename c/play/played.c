@@ -77,7 +77,7 @@ static bool have_all_ended(void) {
 
 /* Nothing can happen any more, but that ranks look again at what they looked at: these loop. */
 static void tell_end(void) {
-    for (int k = 0; k < um_options.ranks; k++) um_ranks[k].loops = um_players[k].state == AT_CALL;
+    for (int k = 0; k < um_options.ranks; k++) um_ranks[k].played.loops = um_players[k].state == AT_CALL;
     um_tell_stuck();
 }
 

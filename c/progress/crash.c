@@ -53,7 +53,7 @@ static void find_spot(const struct rank *rank, void *at, struct spot_of_crash *s
     while (first < count && frames[first] != at) first++;   /* before it stand the handler's */
     for (int k = first < count ? first : 0; k < count; k++) {
         if (!dladdr(frames[k], &info) || !info.dli_fname) continue;
-        if (rank->path && !strcmp(info.dli_fname, rank->path)) {
+        if (rank->program.path && !strcmp(info.dli_fname, rank->program.path)) {
             um_line_before((char *)frames[k] + (frames[k] == at), spot->line, sizeof spot->line);
             return;
         }
@@ -62,7 +62,7 @@ static void find_spot(const struct rank *rank, void *at, struct spot_of_crash *s
 }
 
 static const char *words_of_signal(int number, const struct rank *rank, const char *at) {
-    bool is_overflow = rank && rank->stack && at >= rank->stack - GUARD && at < rank->stack + PAGE;
+    bool is_overflow = rank && rank->thread.stack && at >= rank->thread.stack - GUARD && at < rank->thread.stack + PAGE;
     if (number == SIGSEGV) return is_overflow ? "the stack overflowed" : "segmentation fault";
     return number == SIGABRT ? "aborted by the C library" : "see signal(7)";
 }
@@ -84,7 +84,7 @@ static void crashed(int number, siginfo_t *told, void *context) {
     else if (!um_me) length = snprintf(line, sizeof line, "ulfm-mpirun: a further thread of rank %d crashed by signal %d (%s)%s\n", rank->number, number, words, spot.line);
     else
         length = snprintf(line, sizeof line, "ulfm-mpirun: rank %d crashed by signal %d (%s)%s, in or after %s (call %d)\n", rank->number, number, words, spot.line,
-                          rank->place.call ? rank->place.call : "its start", rank->calls);
+                          rank->call.name ? rank->call.name : "its start", rank->plan.calls);
     if (spot.library && um_options.ranks > 1)
         length += snprintf(line + length, sizeof line - (size_t)length,
                            "ulfm-mpirun: it was in %.200s, whose variables all ranks share: linked statically, each rank has its own\n", spot.library);

@@ -29,26 +29,26 @@ static void hand_on(struct rank *rank) {
     char tag[16];
     pthread_mutex_lock(&lock);
     if (um_options.tag) write_all(tag, snprintf(tag, sizeof tag, "[%d] ", rank->number));
-    write_all(rank->line, rank->line_length);
+    write_all(rank->out.line, rank->out.length);
     pthread_mutex_unlock(&lock);
-    rank->line_length = 0;
+    rank->out.length = 0;
 }
 
 static bool add(struct rank *rank, char byte) {
-    if (rank->line_length == rank->line_room) {
-        size_t room = rank->line_room ? 2 * rank->line_room : 256;
-        char *line = realloc(rank->line, room);
+    if (rank->out.length == rank->out.room) {
+        size_t room = rank->out.room ? 2 * rank->out.room : 256;
+        char *line = realloc(rank->out.line, room);
         if (!line) return false;
-        rank->line = line;
-        rank->line_room = room;
+        rank->out.line = line;
+        rank->out.room = room;
     }
-    rank->line[rank->line_length++] = byte;
+    rank->out.line[rank->out.length++] = byte;
     return true;
 }
 
 static ssize_t take(void *of, const char *bytes, size_t length) {
     struct rank *rank = of;
-    for (size_t k = 0; k < length && !rank->has_closed; k++) {
+    for (size_t k = 0; k < length && !rank->out.has_closed; k++) {
         if (!add(rank, bytes[k])) return 0;
         if (bytes[k] == '\n') hand_on(rank);
     }
@@ -56,22 +56,22 @@ static ssize_t take(void *of, const char *bytes, size_t length) {
 }
 
 bool um_open_output(struct rank *rank) {
-    rank->out = fopencookie(rank, "w", (cookie_io_functions_t){.write = take});
-    return rank->out && setvbuf(rank->out, 0, _IOLBF, BUFSIZ) == 0;
+    rank->out.file = fopencookie(rank, "w", (cookie_io_functions_t){.write = take});
+    return rank->out.file && setvbuf(rank->out.file, 0, _IOLBF, BUFSIZ) == 0;
 }
 
 /* Writes what is left of a line, with an end where it would run into another one's. */
 static void write_rest(struct rank *rank) {
-    if (rank->line_length && (!keeps_lines() || add(rank, '\n'))) hand_on(rank);
+    if (rank->out.length && (!keeps_lines() || add(rank, '\n'))) hand_on(rank);
 }
 
 void um_close_output(struct rank *rank) {
     pthread_mutex_lock(&closing);
-    if (rank->out) fclose(rank->out);
-    rank->out = 0;
+    if (rank->out.file) fclose(rank->out.file);
+    rank->out.file = 0;
     write_rest(rank);
-    free(rank->line);
-    rank->line = 0;
+    free(rank->out.line);
+    rank->out.line = 0;
     pthread_mutex_unlock(&closing);
 }
 
@@ -82,15 +82,15 @@ void um_write_rests(bool all) {
     if (all && um_options.is_alone) real_fflush(0);
     if (pthread_mutex_trylock(&closing)) return;
     for (int k = 0; k < um_options.ranks; k++) {
-        if (!um_ranks[k].out || ftrylockfile(um_ranks[k].out)) continue;
-        if (all) real_fflush(um_ranks[k].out);
+        if (!um_ranks[k].out.file || ftrylockfile(um_ranks[k].out.file)) continue;
+        if (all) real_fflush(um_ranks[k].out.file);
         write_rest(&um_ranks[k]);
-        funlockfile(um_ranks[k].out);
+        funlockfile(um_ranks[k].out.file);
     }
     pthread_mutex_unlock(&closing);
 }
 
-static FILE *stream(FILE *file) { return um_me && file == stdout && um_me->out ? um_me->out : file; }
+static FILE *stream(FILE *file) { return um_me && file == stdout && um_me->out.file ? um_me->out.file : file; }
 
 int vfprintf(FILE *file, const char *format, va_list words) {
     REAL(vfprintf);
@@ -115,10 +115,10 @@ int fputc(int byte, FILE *file) {
 int fflush(FILE *file) {
     REAL(fflush);
     int code = real_fflush(stream(file));
-    if (um_me && um_me->out && (!file || file == stdout) && !keeps_lines()) {
-        flockfile(um_me->out);
+    if (um_me && um_me->out.file && (!file || file == stdout) && !keeps_lines()) {
+        flockfile(um_me->out.file);
         write_rest(um_me);
-        funlockfile(um_me->out);
+        funlockfile(um_me->out.file);
     }
     return code;
 }
@@ -126,15 +126,15 @@ int fflush(FILE *file) {
 /* The rank's own stream ends, and not that of the others. */
 int fclose(FILE *file) {
     REAL(fclose);
-    if (!um_me || !um_me->out || file != stdout) return real_fclose(file);
+    if (!um_me || !um_me->out.file || file != stdout) return real_fclose(file);
     int code = fflush(stdout);
-    um_me->has_closed = true;
+    um_me->out.has_closed = true;
     return code;
 }
 
 int setvbuf(FILE *file, char *buffer, int mode, size_t size) {
     REAL(setvbuf);
-    return um_me && um_me->out && file == stdout ? 0 : real_setvbuf(file, buffer, mode, size);
+    return um_me && um_me->out.file && file == stdout ? 0 : real_setvbuf(file, buffer, mode, size);
 }
 
 void setbuf(FILE *file, char *buffer) { setvbuf(file, buffer, buffer ? _IOFBF : _IONBF, BUFSIZ); }

@@ -9,10 +9,10 @@
 #include <time.h>
 
 static uint64_t next_random(void) {
-    um_me->random ^= um_me->random << 13;
-    um_me->random ^= um_me->random >> 7;
-    um_me->random ^= um_me->random << 17;
-    return um_me->random;
+    um_me->plan.random ^= um_me->plan.random << 13;
+    um_me->plan.random ^= um_me->plan.random >> 7;
+    um_me->plan.random ^= um_me->plan.random << 17;
+    return um_me->plan.random;
 }
 
 /* Lets others go first, by the seed. */
@@ -28,7 +28,7 @@ static void vary(void) {
 }
 
 static void stop_by_plan(void) {
-    um_me->is_planned = true;
+    um_me->life.is_planned = true;
     um_report("stopped %d\n", um_me->number);
     um_stop_here(0);
 }
@@ -36,10 +36,10 @@ static void stop_by_plan(void) {
 /* Whether a stop of the plan is at this place. */
 static bool is_at(struct stop *stop) {
     if (stop->rank != um_me->number) return false;
-    if (stop->call) return stop->call == um_me->calls && stop->inside == um_me->insides;
-    if (strcmp(stop->name, um_me->place.call)) return false;
-    if (um_me->insides == 0) stop->nth--;
-    return stop->nth == 0 && stop->inside == um_me->insides;
+    if (stop->call) return stop->call == um_me->plan.calls && stop->inside == um_me->plan.insides;
+    if (strcmp(stop->name, um_me->call.name)) return false;
+    if (um_me->plan.insides == 0) stop->nth--;
+    return stop->nth == 0 && stop->inside == um_me->plan.insides;
 }
 
 static void look_at_plan(void) {
@@ -50,16 +50,16 @@ static void look_at_plan(void) {
 
 /* A call that counts is reached. */
 void um_plan_call(void) {
-    um_me->calls++;
-    um_me->insides = 0;
-    if (um_options.calls) um_report("call %d %d %s\n", um_me->number, um_me->calls, um_me->place.call);
+    um_me->plan.calls++;
+    um_me->plan.insides = 0;
+    if (um_options.calls) um_report("call %d %d %s\n", um_me->number, um_me->plan.calls, um_me->call.name);
     vary();
     look_at_plan();
 }
 
 /* A place inside the call is reached. */
 void um_plan_inside(void) {
-    um_me->insides++;
-    if (um_options.calls) um_report("inside %d %d %d\n", um_me->number, um_me->calls, um_me->insides);
+    um_me->plan.insides++;
+    if (um_options.calls) um_report("inside %d %d %d\n", um_me->number, um_me->plan.calls, um_me->plan.insides);
     look_at_plan();
 }

@@ -57,16 +57,16 @@ static uint64_t all_moves(void) {
 static bool turn(void) {
     uint32_t did = 0;
     if (ulfm_turn(um_me->slot, &did) != ULFM_OK || !did) return false;
-    um_me->vain = 0;
+    um_me->patience.vain = 0;
     um_moved();
     return true;
 }
 
 /* Something came, perhaps: tells the senders that wait for a match, and looks at shrinks and agreements that are open. */
 void um_look_at_open(void) {
-    if (um_me->has_stopped) return;
-    if (atomic_load(&um_me->waited_for) > 0) um_look_at_all();
-    if (um_me->recoveries > 0) um_look_at_recoveries();
+    if (um_me->life.has_stopped) return;
+    if (atomic_load(&um_me->shared.waited_for) > 0) um_look_at_all();
+    if (um_me->mpi.recoveries > 0) um_look_at_recoveries();
 }
 
 /* Moves what goes out, and takes one item that came. Whether anything moved. */
@@ -89,8 +89,8 @@ static bool move_much(void) {
 static bool can_nobody_move(uint64_t seen) {
     bool all_gone = true;
     for (int k = 0; k < um_options.ranks; k++) {
-        if (!atomic_load(&um_ranks[k].is_gone)) all_gone = false;
-        if (!atomic_load(&um_ranks[k].is_ended) && atomic_load(&um_ranks[k].idle) != seen + 1) return false;
+        if (!atomic_load(&um_ranks[k].shared.is_gone)) all_gone = false;
+        if (!atomic_load(&um_ranks[k].shared.is_ended) && atomic_load(&um_ranks[k].shared.idle) != seen + 1) return false;
     }
     return !all_gone && all_moves() == seen;
 }
@@ -98,10 +98,10 @@ static bool can_nobody_move(uint64_t seen) {
 static void sleep_until_moved(uint64_t seen) {
     atomic_fetch_add(&beds.sleepers, 1);
     uint32_t wakes = atomic_load(&beds.wakes);   /* who moves from now on wakes this rank */
-    atomic_store(&um_me->idle, seen + 1);
+    atomic_store(&um_me->shared.idle, seen + 1);
     if (can_nobody_move(seen)) um_tell_stuck();
     if (all_moves() == seen) syscall(SYS_futex, &beds.wakes, FUTEX_WAIT_PRIVATE, wakes, 0, 0, 0);
-    atomic_store(&um_me->idle, 0);
+    atomic_store(&um_me->shared.idle, 0);
     atomic_fetch_sub(&beds.sleepers, 1);
 }
 
@@ -112,7 +112,7 @@ static int looks_before_yield(void) {
         processors = sched_getaffinity(0, sizeof set, &set) == 0 ? CPU_COUNT(&set) : 1;
     }
     if (um_options.ranks > processors) return 1;
-    return FEW_LOOKS + MOST_LOOKS - um_me->impatience;
+    return FEW_LOOKS + MOST_LOOKS - um_me->patience.impatience;
 }
 
 /* Moves what goes out and comes in, for a call that looks once. A program may loop over such calls: where so many looks were in vain that a wait would
@@ -120,15 +120,15 @@ static int looks_before_yield(void) {
 void um_progress(void) {
     if (um_is_played) um_look_as_played();
     if (um_is_played || move_much()) return;
-    if (um_me->vain < looks_before_yield()) um_me->vain++;
+    if (um_me->patience.vain < looks_before_yield()) um_me->patience.vain++;
     else sched_yield();
 }
 
 /* A rank whose looks were in vain, so that it slept, looks less the next time, and more again where looks served. The few that stay are as long as a
    collective takes, so that ranks which all slept come together again. */
 static void learn(bool has_slept) {
-    if (has_slept) um_me->impatience += (MOST_LOOKS - um_me->impatience) / 2;
-    else um_me->impatience -= um_me->impatience / 4;
+    if (has_slept) um_me->patience.impatience += (MOST_LOOKS - um_me->patience.impatience) / 2;
+    else um_me->patience.impatience -= um_me->patience.impatience / 4;
 }
 
 /* Makes progress until `is_done` says so, which looks once each time: when something came, and `is_settled` where nothing did for some time. What it looks
@@ -161,13 +161,13 @@ bool um_all_are_gone(void *unused, bool is_settled) {
     (void)unused;
     (void)is_settled;
     for (int k = 0; k < um_options.ranks; k++)
-        if (!atomic_load(&um_ranks[k].is_gone)) return false;
+        if (!atomic_load(&um_ranks[k].shared.is_gone)) return false;
     return true;
 }
 
 /* Leaves the others, and moves what goes out and comes in until all have left. */
 void um_drain(void) {
-    atomic_store(&um_me->is_gone, 1);
+    atomic_store(&um_me->shared.is_gone, 1);
     um_marked();
     um_wait_until(um_all_are_gone, 0, false);
     um_progress();

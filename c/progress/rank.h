@@ -1,4 +1,4 @@
-/* What a rank has: its communicators, requests, and what else it made; and what the launcher knows of it. */
+/* A rank, in parts by subject; and the objects that several folders know: communicators, groups, requests, parcels. */
 #ifndef UM_RANK_H
 #define UM_RANK_H
 
@@ -128,22 +128,23 @@ struct request {
 };
 
 /* What the rank's present call is, for reports. */
-struct place {
-    const char *call;
+struct call {
+    const char *name;
     const void *from;        /* an address in the program */
     struct comm *comm;
     int peer, tag;           /* MPI_UNDEFINED: none */
     uint32_t waits_for;      /* bits of world ranks, or 0 */
 };
 
-/* A rank: its thread, what it has of MPI, and what the launcher knows of it. */
-struct rank {
-    _Alignas(128) int number;  /* no rank writes to another one's cache lines but where it has to */
-    ulfm_slot *slot, home;     /* slot: home */
-    pthread_t thread;
-    char *stack;              /* its lowest byte */
+struct thread {
+    pthread_t id;
+    char *stack;             /* its lowest byte */
     jmp_buf bottom;
-    struct comm **comms, **old_comms;  /* those that the program freed too */
+};
+
+/* What its program made of MPI, by handles. */
+struct objects {
+    struct comm **comms, **old_comms;         /* those that the program freed too */
     struct group **groups;
     struct request **requests;
     struct message **messages;
@@ -155,46 +156,98 @@ struct rank {
     struct keyval *keyvals;
     struct info **infos;
     struct window **windows;
-    struct added *added;      /* classes and codes of errors */
-    void *attached;           /* by MPI_Buffer_attach */
+    struct added *added;                      /* classes and codes of errors */
+    void *attached;                           /* by MPI_Buffer_attach */
     MPI_Count attached_size;
     int keyval_count, info_count, window_count, added_count, last_code;
     int comm_count, old_comm_count, group_count, request_count, message_count, handler_count, type_count, op_count, first_free;
-    struct request *open;     /* receives that wait */
-    struct request *spare;    /* can be used again */
-    struct parcel *parcels, *last_parcel;   /* that it sent, in that order */
-    pthread_mutex_t parcels_lock;
+    struct request *open;                     /* receives that wait */
+    struct request *spare;                    /* can be used again */
+    int recoveries;                           /* requests of shrinks and agreements */
+    bool is_starting;                         /* MPI_Start makes a call of its own */
+};
+
+/* The parcels that it sent, in that order. */
+struct parcels {
+    struct parcel *first, *last;
+    pthread_mutex_t lock;
+};
+
+/* What it made of failures, and knows of them. */
+struct recovery {
     uint32_t shrunk[CONTEXTS];
     _Atomic int self_revoked;
-    _Atomic bool has_begun, has_finalized, has_stopped;
-    bool is_planned;          /* it stopped by plan */
-    bool is_starting;         /* MPI_Start makes a call of its own */
-    bool loops;               /* over looks that find nothing (a run that is played) */
-    int provided;             /* the level of threads that it was given */
-    struct place place;
     _Atomic uint32_t known;   /* the world ranks whose failures it knows, as bits, at its last call */
     int known_count;          /* how many */
     bool is_told;             /* a call answered a failure */
-    int recoveries;           /* requests of shrinks and agreements */
+};
+
+/* How far it came. */
+struct life {
+    _Atomic bool has_begun, has_finalized, has_stopped;
+    bool is_planned;          /* it stopped by plan */
+    int provided;             /* the level of threads that it was given */
+    int status;               /* of main */
+};
+
+/* How it waits. */
+struct patience {
     int vain;                 /* looks of calls that don't wait, since anything moved */
     int impatience;           /* by how much it looks less before it yields, where looks were in vain */
+};
+
+/* Where it is in the plan of stops and yields. */
+struct plan {
     int calls, insides;       /* calls that count; places inside the last one */
-    int status;               /* of main */
-    uint64_t times_asked;     /* calls of MPI_Wtime (a run that is played) */
-    uint32_t looks;           /* at the engine in its present call (a run that is played) */
     uint64_t random;
-    FILE *out;
-    bool has_closed;          /* the program closed its standard output */
+};
+
+/* Of a run that is played. */
+struct played {
+    bool loops;               /* over looks that find nothing */
+    uint64_t times_asked;     /* calls of MPI_Wtime */
+    uint32_t looks;           /* at the engine in its present call */
+};
+
+/* Its standard output. */
+struct output {
+    FILE *file;
+    bool has_closed;          /* the program closed it */
     char *line;
-    size_t line_length, line_room;
-    void *program;
+    size_t length, room;
+};
+
+/* Its copy of the program. */
+struct program {
+    void *handle;
     char *path, **words;
-    struct farewell *farewells;   /* what its program does at its end, the last first */
+    struct farewell *farewells;   /* what it does at its end, the last first */
+};
+
+/* What other ranks read. */
+struct shared {
     _Alignas(128) _Atomic uint64_t idle;  /* all moves before its last look, and 1; 0: it runs */
     _Atomic int is_gone;      /* it has finalized, or stopped */
     _Atomic int is_ended;     /* its thread needs nothing more */
     _Atomic int waited_for;   /* synchronous sends to it without a match */
     _Atomic uint32_t agreed[CONTEXTS];   /* how many agreements it entered */
+};
+
+struct rank {
+    _Alignas(128) int number;  /* no rank writes to another one's cache lines but where it has to */
+    ulfm_slot *slot, home;     /* slot: home */
+    struct thread thread;
+    struct objects mpi;
+    struct parcels sent;
+    struct recovery recovery;
+    struct life life;
+    struct call call;
+    struct patience patience;
+    struct plan plan;
+    struct played played;
+    struct output out;
+    struct program program;
+    struct shared shared;
 };
 
 /* A rank is a thread; `um_me` is the rank of the thread that runs, null outside of ranks. */

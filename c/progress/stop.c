@@ -31,15 +31,15 @@ static bool is_rank(void) { return um_me && !um_options.is_alone && um_is_launch
 /* The rank stops here; its thread goes on at its bottom. */
 void um_stop_here(int status) {
     struct rank *rank = um_me;
-    rank->status = status;
-    if (!rank->has_finalized && !rank->has_stopped) {
-        rank->has_stopped = true;
+    rank->life.status = status;
+    if (!rank->life.has_finalized && !rank->life.has_stopped) {
+        rank->life.has_stopped = true;
         atomic_fetch_add(&um_stopped_ranks, 1);
-        if (!rank->is_planned) um_report("failed %d %d\n", rank->number, status);
+        if (!rank->life.is_planned) um_report("failed %d %d\n", rank->number, status);
         ulfm_stop(rank->slot);
         um_drain();
     }
-    longjmp(rank->bottom, 1);
+    longjmp(rank->thread.bottom, 1);
 }
 
 typedef void ending(int);
@@ -57,11 +57,11 @@ struct farewell {
 /* What a rank's program leaves is done by the rank, since it may make calls of MPI; the C library would do it when the run is over. */
 int __cxa_atexit(void (*function)(void *), void *of, void *object) {
     Dl_info info;
-    if (um_me && um_me->path && object && dladdr(object, &info) && !strcmp(info.dli_fname, um_me->path)) {
+    if (um_me && um_me->program.path && object && dladdr(object, &info) && !strcmp(info.dli_fname, um_me->program.path)) {
         struct farewell *made = malloc(sizeof *made);
         if (!made) return -1;
-        *made = (struct farewell){um_me->farewells, function, of};
-        um_me->farewells = made;
+        *made = (struct farewell){um_me->program.farewells, function, of};
+        um_me->program.farewells = made;
         return 0;
     }
     int (*keep)(void (*)(void *), void *, void *) = (int (*)(void (*)(void *), void *, void *))real("__cxa_atexit");
@@ -69,9 +69,9 @@ int __cxa_atexit(void (*function)(void *), void *of, void *object) {
 }
 
 void um_say_farewells(void) {
-    while (um_me->farewells) {
-        struct farewell *last = um_me->farewells, said = *last;
-        um_me->farewells = said.next;
+    while (um_me->program.farewells) {
+        struct farewell *last = um_me->program.farewells, said = *last;
+        um_me->program.farewells = said.next;
         free(last);
         said.function(said.of);
     }
@@ -79,10 +79,10 @@ void um_say_farewells(void) {
 
 /* A rank that was stopped says none. */
 void um_clear_farewells(void) {
-    while (um_me->farewells) {
-        struct farewell *next = um_me->farewells->next;
-        free(um_me->farewells);
-        um_me->farewells = next;
+    while (um_me->program.farewells) {
+        struct farewell *next = um_me->program.farewells->next;
+        free(um_me->program.farewells);
+        um_me->program.farewells = next;
     }
 }
 
@@ -102,7 +102,7 @@ void exit(int status) {
         um_say_farewells();
         um_stop_here(status);
     }
-    if (um_me && um_me->out) um_close_output(um_me);
+    if (um_me && um_me->out.file) um_close_output(um_me);
     ending *end = (ending *)real("exit");
     end(status);
     __builtin_unreachable();

@@ -18,10 +18,10 @@ struct agreement {
 /* Whether each member is in the agreement that this rank is in, was in it, or has left: else there can't be a decision, and the engine needn't be
    asked. In a run that is played a rank goes by what it heard alone. */
 static bool can_be_agreed(const struct agreement *agreement) {
-    uint32_t context = agreement->comm->context, own = atomic_load(&um_me->agreed[context]);
+    uint32_t context = agreement->comm->context, own = atomic_load(&um_me->shared.agreed[context]);
     for (int k = 0; k < agreement->comm->size && !um_is_played; k++) {
         const struct rank *rank = &um_ranks[agreement->comm->members[k]];
-        if (atomic_load(&rank->agreed[context]) < own && !atomic_load(&rank->is_gone)) return false;
+        if (atomic_load(&rank->shared.agreed[context]) < own && !atomic_load(&rank->shared.is_gone)) return false;
     }
     return true;
 }
@@ -44,7 +44,7 @@ static int code_of(uint32_t code) {
 static int enter(struct agreement *agreement, uint32_t word) {
     uint32_t context = agreement->comm->context, code = ulfm_enter_agree(um_me->slot, context, word);
     if (code != ULFM_OK) return code_of(code);
-    atomic_fetch_add(&um_me->agreed[context], 1);   /* before its word goes out */
+    atomic_fetch_add(&um_me->shared.agreed[context], 1);   /* before its word goes out */
     um_progress();
     return MPI_SUCCESS;
 }
@@ -119,8 +119,8 @@ uint32_t um_missing_from_agreement(const struct request *request) {
     for (int k = 0; k < agreement->comm->size; k++) {
         const struct rank *rank = &um_ranks[agreement->comm->members[k]];
         uint32_t context = agreement->comm->context;
-        bool is_there = atomic_load(&rank->agreed[context]) >= atomic_load(&um_me->agreed[context]);
-        if (!is_there && !atomic_load(&rank->is_gone)) bits |= 1u << rank->number;
+        bool is_there = atomic_load(&rank->shared.agreed[context]) >= atomic_load(&um_me->shared.agreed[context]);
+        if (!is_there && !atomic_load(&rank->shared.is_gone)) bits |= 1u << rank->number;
     }
     return bits;
 }
@@ -169,6 +169,6 @@ int um_give_recovery(struct comm *comm, int code, struct request *request, MPI_R
 
 /* A second agreement of the engine has to be entered by a rank that waits in another call, too. */
 void um_look_at_recoveries(void) {
-    for (int k = 0; k < um_me->request_count && um_me->recoveries > 0; k++)
-        if (um_me->requests[k] && um_me->requests[k]->kind == RECOVERY) um_look_at(um_me->requests[k]);
+    for (int k = 0; k < um_me->mpi.request_count && um_me->mpi.recoveries > 0; k++)
+        if (um_me->mpi.requests[k] && um_me->mpi.requests[k]->kind == RECOVERY) um_look_at(um_me->mpi.requests[k]);
 }

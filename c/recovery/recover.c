@@ -50,7 +50,7 @@ static bool is_shrunk(void *of, bool is_settled) {
 static int enter(struct shrink *shrink, struct comm *comm, MPI_Comm *handle) {
     *shrink = (struct shrink){.comm = comm, .context = comm->chain->plane[0].context, .handle = handle};
     if (comm->is_part) return NOT_ON_PARTS;
-    while (um_me->shrunk[shrink->context]) shrink->context = um_me->shrunk[shrink->context];
+    while (um_me->recovery.shrunk[shrink->context]) shrink->context = um_me->recovery.shrunk[shrink->context];
     shrink->code = ulfm_enter_shrink(um_me->slot, shrink->context);
     if (shrink->code != ULFM_OK) return shrink->code == ULFM_ALREADY_MADE ? ONE_AT_A_TIME : um_class_of(shrink->code);
     um_progress();
@@ -61,7 +61,7 @@ static int enter(struct shrink *shrink, struct comm *comm, MPI_Comm *handle) {
 /* Makes the communicator of the members that run. */
 static int adopt(struct shrink *shrink) {
     if (shrink->code != ULFM_OK) return um_class_of(shrink->code);
-    um_me->shrunk[shrink->context] = shrink->made;
+    um_me->recovery.shrunk[shrink->context] = shrink->made;
     struct chain *chain = um_new_chain(shrink->made);
     struct group before;
     um_group_of(shrink->comm, &before);

@@ -81,7 +81,7 @@ int um_run_program(struct rank *rank) {
     uint32_t made;
     actor->me = (uint32_t)rank->number;
     if (!um_options.no_loss) ulfm_dup(&rank->home, 0, &made);
-    rank->has_begun = true;
+    rank->life.has_begun = true;
     for (size_t k = 0; k < actor->count && !has_stopped; k++) {
         struct step *at = &actor->steps[k];
         at->number = NONE;
@@ -93,7 +93,7 @@ int um_run_program(struct rank *rank) {
         play_step(actor, at);
         has_stopped = !strcmp(at->op, "stop");
     }
-    rank->has_finalized = true;
+    rank->life.has_finalized = true;
     return 0;
 }
 

@@ -25,8 +25,8 @@ static const char *const names[BASIC_TYPES] = {
 static char *name_of(MPI_Datatype handle, bool is_written) {
     struct type *type = um_type_at(handle);
     if (!type->is_basic) return type->name;
-    if (!um_me->type_names && is_written) um_me->type_names = calloc(BASIC_TYPES, sizeof *um_me->type_names);
-    return um_me->type_names ? um_me->type_names[(uintptr_t)handle] : 0;
+    if (!um_me->mpi.type_names && is_written) um_me->mpi.type_names = calloc(BASIC_TYPES, sizeof *um_me->mpi.type_names);
+    return um_me->mpi.type_names ? um_me->mpi.type_names[(uintptr_t)handle] : 0;
 }
 
 int MPI_Type_set_name(MPI_Datatype type, const char *name) {

@@ -60,7 +60,7 @@ struct type *um_type_at(MPI_Datatype handle) {
     uintptr_t number = (uintptr_t)handle;
     pthread_once(&once, make_basics);
     if (number < BASIC) return number ? &basics[number] : 0;
-    return number >= FIRST_OWN && number - FIRST_OWN < (uintptr_t)um_me->type_count ? um_me->types[number - FIRST_OWN] : 0;
+    return number >= FIRST_OWN && number - FIRST_OWN < (uintptr_t)um_me->mpi.type_count ? um_me->mpi.types[number - FIRST_OWN] : 0;
 }
 
 void um_free_type(struct type *type) {
@@ -78,15 +78,15 @@ MPI_Datatype um_handle_of_basic(const struct type *type) { return (MPI_Datatype)
 int um_add_type(struct type *type, MPI_Datatype *made) {
     int place = 0;
     if (!type) return MPI_ERR_NO_MEM;
-    while (place < um_me->type_count && um_me->types[place]) place++;
-    if (place == um_me->type_count) {
-        if (!um_grow(&um_me->types, place, sizeof *um_me->types)) {
+    while (place < um_me->mpi.type_count && um_me->mpi.types[place]) place++;
+    if (place == um_me->mpi.type_count) {
+        if (!um_grow(&um_me->mpi.types, place, sizeof *um_me->mpi.types)) {
             um_free_type(type);
             return MPI_ERR_NO_MEM;
         }
-        um_me->type_count++;
+        um_me->mpi.type_count++;
     }
-    um_me->types[place] = type;
+    um_me->mpi.types[place] = type;
     *made = (MPI_Datatype)(uintptr_t)(FIRST_OWN + place);
     if (!type->handle) type->handle = *made;
     return MPI_SUCCESS;
@@ -104,7 +104,7 @@ MPI_Datatype um_keep_type(MPI_Datatype handle) {
 void um_drop_type(MPI_Datatype handle) {
     struct type *type = um_type_at(handle);
     if (!type || type->is_basic) return;
-    um_me->types[(uintptr_t)handle - FIRST_OWN] = 0;
+    um_me->mpi.types[(uintptr_t)handle - FIRST_OWN] = 0;
     um_free_type(type);
 }
 
@@ -241,14 +241,14 @@ int MPI_Get_count(const MPI_Status *status, MPI_Datatype type, int *count) {
 }
 
 void um_clear_types(void) {
-    for (int k = 0; k < um_me->type_count; k++)
-        if (um_me->types[k]) um_free_type(um_me->types[k]);
+    for (int k = 0; k < um_me->mpi.type_count; k++)
+        if (um_me->mpi.types[k]) um_free_type(um_me->mpi.types[k]);
     um_clear_basic_attributes();
-    free(um_me->types);
-    free(um_me->type_names);
-    um_me->types = 0;
-    um_me->type_names = 0;
-    um_me->type_count = 0;
+    free(um_me->mpi.types);
+    free(um_me->mpi.type_names);
+    um_me->mpi.types = 0;
+    um_me->mpi.type_names = 0;
+    um_me->mpi.type_count = 0;
 }
 
 /* By the names of MPI 4.0. */

@@ -38,9 +38,9 @@ int MPI_Type_free_keyval(int *keyval) {
 /* What bears the attributes of a type. All ranks share the basic types, whose attributes are the rank's own. False where there is no memory. */
 static bool find_bearer(MPI_Datatype handle, struct bearer *bearer) {
     struct type *type = um_type_at(handle);
-    if (type->is_basic && !um_me->basic_attributes) um_me->basic_attributes = calloc(BASIC_TYPES, sizeof(struct attribute *));
-    if (type->is_basic && !um_me->basic_attributes) return false;
-    *bearer = (struct bearer){.kind = OF_TYPES, .type = handle, .first = type->is_basic ? &um_me->basic_attributes[(uintptr_t)handle] : &type->attributes};
+    if (type->is_basic && !um_me->mpi.basic_attributes) um_me->mpi.basic_attributes = calloc(BASIC_TYPES, sizeof(struct attribute *));
+    if (type->is_basic && !um_me->mpi.basic_attributes) return false;
+    *bearer = (struct bearer){.kind = OF_TYPES, .type = handle, .first = type->is_basic ? &um_me->mpi.basic_attributes[(uintptr_t)handle] : &type->attributes};
     return true;
 }
 
@@ -80,7 +80,7 @@ int um_delete_type_attributes(MPI_Datatype handle) {
 }
 
 void um_clear_basic_attributes(void) {
-    for (int k = 0; k < BASIC_TYPES && um_me->basic_attributes; k++) um_free_attributes(um_me->basic_attributes[k]);
-    free(um_me->basic_attributes);
-    um_me->basic_attributes = 0;
+    for (int k = 0; k < BASIC_TYPES && um_me->mpi.basic_attributes; k++) um_free_attributes(um_me->mpi.basic_attributes[k]);
+    free(um_me->mpi.basic_attributes);
+    um_me->mpi.basic_attributes = 0;
 }

@@ -123,7 +123,7 @@ static int write_down(struct window *window, struct deed deed, const struct data
 /* Asks for it in the next fence. Of a swap two values are given. */
 static int ask(MPI_Win win, struct window *window, struct deed deed, const struct data *given, const struct data *got, const struct target *target) {
     size_t bytes = 0;
-    um_me->place.peer = target->rank;
+    um_me->call.peer = target->rank;
     int code = check(window, deed.what == SWAP ? 0 : given, got, target, &bytes);
     if (code == MPI_SUCCESS && bytes && target->rank != MPI_PROC_NULL) code = write_down(window, deed, given, got, target, bytes);
     return um_fail_window(window, win, code);

@@ -8,7 +8,7 @@
 
 struct window *um_window_at(MPI_Win handle) {
     uintptr_t number = (uintptr_t)handle;
-    return number && number <= (uintptr_t)um_me->window_count ? um_me->windows[number - 1] : 0;
+    return number && number <= (uintptr_t)um_me->mpi.window_count ? um_me->mpi.windows[number - 1] : 0;
 }
 
 int um_fail_window(const struct window *window, MPI_Win handle, int code) {
@@ -76,11 +76,11 @@ static void free_window(struct window *window) {
 }
 
 void um_clear_windows(void) {
-    for (int k = 0; k < um_me->window_count; k++)
-        if (um_me->windows[k]) free_window(um_me->windows[k]);
-    free(um_me->windows);
-    um_me->windows = 0;
-    um_me->window_count = 0;
+    for (int k = 0; k < um_me->mpi.window_count; k++)
+        if (um_me->mpi.windows[k]) free_window(um_me->mpi.windows[k]);
+    free(um_me->mpi.windows);
+    um_me->mpi.windows = 0;
+    um_me->mpi.window_count = 0;
 }
 
 /* What a member tells of its window. */
@@ -109,9 +109,9 @@ static int tell_sizes(struct window *window, MPI_Aint size, int unit) {
 /* The place for a handle, or -1 where there is no memory. */
 static int free_place(void) {
     int place = 0;
-    while (place < um_me->window_count && um_me->windows[place]) place++;
-    if (place < um_me->window_count) return place;
-    return um_grow(&um_me->windows, place, sizeof *um_me->windows) ? um_me->window_count++, um_me->windows[place] = 0, place : -1;
+    while (place < um_me->mpi.window_count && um_me->mpi.windows[place]) place++;
+    if (place < um_me->mpi.window_count) return place;
+    return um_grow(&um_me->mpi.windows, place, sizeof *um_me->mpi.windows) ? um_me->mpi.window_count++, um_me->mpi.windows[place] = 0, place : -1;
 }
 
 static int create(const struct window *like, MPI_Aint size, int unit, struct comm *of, MPI_Win *win) {
@@ -129,7 +129,7 @@ static int create(const struct window *like, MPI_Aint size, int unit, struct com
     code = tell_sizes(window, size, unit);
     if (code == MPI_SUCCESS && !window->hold) code = MPI_ERR_NO_MEM;
     if (code == MPI_SUCCESS) {
-        um_me->windows[place] = window;
+        um_me->mpi.windows[place] = window;
         *win = (MPI_Win)(uintptr_t)(place + 1);
         return MPI_SUCCESS;
     }
@@ -173,7 +173,7 @@ int MPI_Win_free(MPI_Win *win) {
     if (code != MPI_SUCCESS) return um_fail_window(of, *win, code);
     code = um_meet(of, MPI_SUCCESS);
     MPI_Errhandler handler = of->handler;
-    um_me->windows[(uintptr_t)*win - 1] = 0;
+    um_me->mpi.windows[(uintptr_t)*win - 1] = 0;
     um_free_request(of->hold);
     struct comm *comm = of->comm;
     free_window(of);

@@ -83,9 +83,9 @@ int MPI_Win_set_info(MPI_Win win, MPI_Info info) {
 int MPI_Win_get_info(MPI_Win win, MPI_Info *info) {
     WINDOW(win, false);
     if (!info) return um_fail_window(of, win, MPI_ERR_ARG);
-    um_me->is_starting = true;
+    um_me->mpi.is_starting = true;
     int code = MPI_Info_create(info);
-    um_me->is_starting = false;
+    um_me->mpi.is_starting = false;
     return code;
 }
 
