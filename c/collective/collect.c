@@ -109,7 +109,7 @@ int MPI_Barrier(MPI_Comm comm) {
     int code = um_begin_collective(of);
     if (code != MPI_SUCCESS) return um_fail(of, code);
     code = um_gather_all(of, 0, 0, 0);
-    return um_fail(of, um_spread_verdict(of, code, verdict, 0));
+    return um_answer(of, um_spread_verdict(of, code, verdict, 0));
 }
 
 /* All get the root's data, where their types lay it out. */
@@ -140,5 +140,5 @@ int MPI_Bcast(void *buf, int count, MPI_Datatype type, int root, MPI_Comm comm) 
     ENTER(of, MPI_UNDEFINED, MPI_UNDEFINED);
     int code = um_check_broadcast(of, buf, count, type, root, &bytes);
     if (code == MPI_SUCCESS) code = um_begin_collective(of);
-    return um_fail(of, code != MPI_SUCCESS ? code : broadcast(of, buf, count, type, bytes, root));
+    return um_answer(of, code != MPI_SUCCESS ? code : broadcast(of, buf, count, type, bytes, root));
 }

@@ -49,7 +49,7 @@ static int start(const struct reduction *like, const void *sendbuf, bool receive
     int code = um_check_reduction(of, sendbuf, of->recvbuf, receives);
     if (code != MPI_SUCCESS) {
         free(of);
-        return um_fail(comm, code);
+        return um_answer(comm, code);
     }
     code = keep(of);
     if (code == MPI_SUCCESS) code = um_make_room(of);

@@ -107,7 +107,7 @@ int um_wait_for_collective(struct comm *comm, int code, struct request **made) {
     um_wait_for(*made);
     code = (*made)->code;
     um_free_request(*made);
-    return um_fail(comm, code);
+    return um_answer(comm, code);
 }
 
 /* Hands a collective that was begun to the program. Where its own data are longer than the room for them here, that is told at once. */

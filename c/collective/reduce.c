@@ -54,7 +54,7 @@ void um_deliver(const struct reduction *of, const void *result, void *recvbuf) {
 
 static int finish(struct reduction *of, int code) {
     free(of->room);
-    return um_fail(of->comm, code);
+    return um_answer(of->comm, code);
 }
 
 /* Folds parts 0 to last into `into`, in order. */

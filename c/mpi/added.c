@@ -42,14 +42,14 @@ int MPI_Add_error_class(int *errorclass) {
     WRITES(0, errorclass);
     int class = FIRST_CLASS;
     while (class < END_OF_CLASSES && added_at(class)) class++;
-    return um_fail(0, class < END_OF_CLASSES ? add(class, errorclass) : MPI_ERR_OTHER);
+    return um_answer(0, class < END_OF_CLASSES ? add(class, errorclass) : MPI_ERR_OTHER);
 }
 
 int MPI_Add_error_code(int errorclass, int *errorcode) {
     ENTER_LOOK(0, MPI_UNDEFINED, MPI_UNDEFINED);
     WRITES(0, errorcode);
     bool is_class = errorclass >= 0 && (errorclass <= MPI_ERR_LASTCODE || (errorclass < END_OF_CLASSES && added_at(errorclass)));
-    return um_fail(0, is_class ? add(errorclass | (FIRST_DETAIL + um_me->mpi.added_count) << 8, errorcode) : MPI_ERR_ARG);
+    return um_answer(0, is_class ? add(errorclass | (FIRST_DETAIL + um_me->mpi.added_count) << 8, errorcode) : MPI_ERR_ARG);
 }
 
 int MPI_Add_error_string(int errorcode, const char *string) {

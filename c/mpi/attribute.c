@@ -159,7 +159,7 @@ int MPI_Comm_set_attr(MPI_Comm comm, int keyval, void *value) {
     ENTER_LOOK(of, MPI_UNDEFINED, MPI_UNDEFINED);
     if (!of) return um_fail(0, MPI_ERR_COMM);
     struct bearer bearer = bearer_of(of);
-    return um_fail(of, um_set_attribute(&bearer, keyval, value));
+    return um_answer(of, um_set_attribute(&bearer, keyval, value));
 }
 
 int MPI_Comm_delete_attr(MPI_Comm comm, int keyval) {
@@ -167,7 +167,7 @@ int MPI_Comm_delete_attr(MPI_Comm comm, int keyval) {
     ENTER_LOOK(of, MPI_UNDEFINED, MPI_UNDEFINED);
     if (!of) return um_fail(0, MPI_ERR_COMM);
     struct bearer bearer = bearer_of(of);
-    return um_fail(of, um_delete_attribute(&bearer, keyval));
+    return um_answer(of, um_delete_attribute(&bearer, keyval));
 }
 
 /* The attributes that are there: the value is a pointer to a number. */
@@ -192,7 +192,7 @@ int MPI_Comm_get_attr(MPI_Comm comm, int keyval, void *value, int *flag) {
     WRITES(of, value && flag);
     int *there = value_of(keyval);
     struct bearer bearer = bearer_of(of);
-    if (!there) return um_fail(of, um_get_attribute(&bearer, keyval, value, flag));
+    if (!there) return um_answer(of, um_get_attribute(&bearer, keyval, value, flag));
     *flag = 1;
     *(void **)value = there;
     return MPI_SUCCESS;

@@ -58,7 +58,7 @@ int MPI_Bsend(const void *buf, int count, MPI_Datatype type, int dest, int tag, 
     struct comm *of = um_comm_at(comm);
     ENTER(of, dest, tag);
     int code = check_room(buf, count, type, dest, tag, of);
-    return um_fail(of, code != MPI_SUCCESS ? code : um_send_buffered(buf, count, type, dest, tag, of));
+    return um_answer(of, code != MPI_SUCCESS ? code : um_send_buffered(buf, count, type, dest, tag, of));
 }
 
 int MPI_Ibsend(const void *buf, int count, MPI_Datatype type, int dest, int tag, MPI_Comm comm, MPI_Request *request) {
@@ -70,5 +70,5 @@ int MPI_Ibsend(const void *buf, int count, MPI_Datatype type, int dest, int tag,
     int code = check_room(buf, count, type, dest, tag, of);
     if (code == MPI_SUCCESS) code = um_begin_send(buf, count, type, dest, tag, of, false, &begun);
     if (code == MPI_SUCCESS) *request = (MPI_Request)(uintptr_t)begun->handle;
-    return um_fail(of, code);
+    return um_answer(of, code);
 }

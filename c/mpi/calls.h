@@ -70,7 +70,9 @@ void um_clear_ops(void);
 
 /* error.c */
 bool um_is_handler(MPI_Errhandler handler);
+int um_succeed(void);
 int um_fail(struct comm *comm, int code);
+int um_answer(struct comm *comm, int code);
 void um_clear_handlers(void);
 
 /* added.c */

@@ -44,7 +44,7 @@ int MPI_Cart_create(MPI_Comm comm, int ndims, const int dims[], const int period
         cart.is_periodic[k] = periods[k] != 0;
     }
     if (nodes_of(&cart) > of->size) return um_fail(of, um_refuse_collective(of, MPI_ERR_ARG));
-    return um_fail(of, make_cart(of, &cart, of->position < nodes_of(&cart) ? 0 : MPI_UNDEFINED, 0, made));
+    return um_answer(of, make_cart(of, &cart, of->position < nodes_of(&cart) ? 0 : MPI_UNDEFINED, 0, made));
 }
 
 /* Begins a call on a communicator with a topology. */
@@ -138,7 +138,7 @@ int MPI_Cart_sub(MPI_Comm comm, const int remains[], MPI_Comm *made) {
         if (!remains[k]) color = color * of->cart->size[k] + coords[k];
         else cart.size[cart.dims] = of->cart->size[k], cart.is_periodic[cart.dims++] = of->cart->is_periodic[k];
     }
-    return um_fail(of, make_cart(of, &cart, color, of->position, made));
+    return um_answer(of, make_cart(of, &cart, color, of->position, made));
 }
 
 /* The neighbours along each dimension, below and above; MPI_PROC_NULL outside of the grid (8.6). How many. */

@@ -39,7 +39,7 @@ int MPI_Dist_graph_create_adjacent(MPI_Comm comm, int indegree, const int source
     code = um_begin_collective(of);
     struct graph graph = {MPI_DIST_GRAPH, indegree, outdegree, is_weighted(sourceweights), (int *)(uintptr_t)sources, (int *)(uintptr_t)destinations,
                           (int *)(uintptr_t)sourceweights, (int *)(uintptr_t)destweights};
-    return um_fail(of, code != MPI_SUCCESS ? code : make_graph(of, &graph, made));
+    return um_answer(of, code != MPI_SUCCESS ? code : make_graph(of, &graph, made));
 }
 
 /* What each has is told to all: the largest number of edges first. */
@@ -127,5 +127,5 @@ int MPI_Dist_graph_create(MPI_Comm comm, int count, const int sources[], const i
     if (code == MPI_SUCCESS) code = check_edges(of, own, destinations, weights);
     if (code != MPI_SUCCESS) return um_fail(of, um_refuse_collective(of, code));
     code = um_begin_collective(of);
-    return um_fail(of, code != MPI_SUCCESS ? code : create(of, count, sources, degrees, destinations, weights, own, made));
+    return um_answer(of, code != MPI_SUCCESS ? code : create(of, count, sources, degrees, destinations, weights, own, made));
 }

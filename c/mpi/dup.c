@@ -181,7 +181,7 @@ int MPI_Comm_dup(MPI_Comm comm, MPI_Comm *made) {
     ENTER(of, MPI_UNDEFINED, MPI_UNDEFINED);
     if (!of) return um_fail(0, MPI_ERR_COMM);
     WRITES(of, made);
-    return um_fail(of, duplicate(of, made));
+    return um_answer(of, duplicate(of, made));
 }
 
 /* No hint changes what a duplicate does. */
@@ -191,7 +191,7 @@ int MPI_Comm_dup_with_info(MPI_Comm comm, MPI_Info info, MPI_Comm *made) {
     if (!of) return um_fail(0, MPI_ERR_COMM);
     if (!um_is_info(info)) return um_fail(of, um_refuse_collective(of, MPI_ERR_INFO));
     WRITES(of, made);
-    return um_fail(of, duplicate(of, made));
+    return um_answer(of, duplicate(of, made));
 }
 
 /* The handle goes; requests that are open go on (7.4.3). */
@@ -200,7 +200,7 @@ int MPI_Comm_free(MPI_Comm *comm) {
     ENTER_LOOK(of, MPI_UNDEFINED, MPI_UNDEFINED);
     if (!of || *comm == MPI_COMM_WORLD || *comm == MPI_COMM_SELF) return um_fail(0, MPI_ERR_COMM);
     um_me->call.comm = 0;
-    return um_fail(of, um_release_comm(of, comm));
+    return um_answer(of, um_release_comm(of, comm));
 }
 
 /* What was sent is received after it too, so it has nothing to wait for (11.10.4). */

@@ -125,10 +125,14 @@ static void end_by(const char *name, int code) {
     um_end_run(STATUS_FATAL);
 }
 
+/* What came in the call, which ends here, is looked at. */
+static void end_call(void) {
+    if (um_is_played) um_look_as_played();
+}
+
 /* Hands an error on a communicator, or on a window of it, to a handler, and returns it. */
 int um_fail_by(MPI_Errhandler handler, struct comm *comm, void *window, const char *name, int code) {
-    if (um_is_played) um_look_as_played();   /* at what came in the call, which ends here */
-    if (code == MPI_SUCCESS) return code;
+    end_call();
     if (code == MPIX_ERR_PROC_FAILED || code == MPIX_ERR_PROC_FAILED_PENDING || code == MPI_ERR_IN_STATUS) um_me->recovery.is_told = true;
     uintptr_t number = (uintptr_t)handler;
     if (handler == MPI_ERRORS_RETURN) return code;
@@ -145,10 +149,18 @@ int um_fail_by(MPI_Errhandler handler, struct comm *comm, void *window, const ch
 
 /* Hands an error to the handler of its communicator, of MPI_COMM_WORLD where there is none (9.3), and returns it. */
 int um_fail(struct comm *comm, int code) {
-    if (code == MPI_SUCCESS) return um_fail_by(0, 0, 0, 0, code);   /* a communicator that the call took away isn't there any more */
     if (!comm) comm = um_comm_at(MPI_COMM_WORLD);
     return um_fail_by(comm->handler, comm, 0, comm->name[0] ? comm->name : "this communicator", code);
 }
+
+/* What a call answers that went well. */
+int um_succeed(void) {
+    end_call();
+    return MPI_SUCCESS;
+}
+
+/* What a call answers: a communicator that it took away isn't there any more where it went well. */
+int um_answer(struct comm *comm, int code) { return code == MPI_SUCCESS ? um_succeed() : um_fail(comm, code); }
 
 static int add_handler(struct errhandler made, MPI_Errhandler *handler) {
     if (!um_grow(&um_me->mpi.handlers, um_me->mpi.handler_count, sizeof *um_me->mpi.handlers)) return um_fail(0, MPI_ERR_NO_MEM);
@@ -191,7 +203,7 @@ int MPI_Comm_call_errhandler(MPI_Comm comm, int errorcode) {
     struct comm *of = um_comm_at(comm);
     ENTER_LOOK(of, MPI_UNDEFINED, MPI_UNDEFINED);
     if (!of) return um_fail(0, MPI_ERR_COMM);
-    (void)um_fail(of, errorcode);
+    (void)um_answer(of, errorcode);
     return MPI_SUCCESS;
 }
 

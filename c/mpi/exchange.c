@@ -43,7 +43,7 @@ int MPI_Isendrecv(const void *sendbuf, int sendcount, MPI_Datatype sendtype, int
     ENTER(of, source, recvtag);
     WRITES(of, request);
     *request = MPI_REQUEST_NULL;
-    return um_fail(of, isendrecv(sendbuf, sendcount, sendtype, dest, sendtag, recvbuf, recvcount, recvtype, source, recvtag, of, request));
+    return um_answer(of, isendrecv(sendbuf, sendcount, sendtype, dest, sendtag, recvbuf, recvcount, recvtype, source, recvtag, of, request));
 }
 
 /* What is sent is copied in the call. */
@@ -59,5 +59,5 @@ int MPI_Isendrecv_replace(void *buf, int count, MPI_Datatype type, int dest, int
     if (code != MPI_SUCCESS) return um_fail(of, code);
     code = isendrecv(copy, (int)bytes, MPI_BYTE, dest, sendtag, buf, count, type, source, recvtag, of, request);
     free(copy);
-    return um_fail(of, code);
+    return um_answer(of, code);
 }

@@ -66,9 +66,9 @@ int MPI_Graph_create(MPI_Comm comm, int nodes, const int index[], const int edge
     int code = made ? check_graph(of, nodes, index, edges) : MPI_ERR_ARG;
     if (code != MPI_SUCCESS) return um_fail(of, um_refuse_collective(of, code));
     code = um_split_comm(of, of->position < nodes ? 0 : MPI_UNDEFINED, 0, made);
-    if (code != MPI_SUCCESS || *made == MPI_COMM_NULL) return um_fail(of, code);
+    if (code != MPI_SUCCESS || *made == MPI_COMM_NULL) return um_answer(of, code);
     struct graph graph = {.kind = MPI_GRAPH, .nodes = nodes, .edges = index[nodes - 1], .index = (int *)(uintptr_t)index, .edge = (int *)(uintptr_t)edges};
-    return um_fail(of, um_keep_graph(&graph, um_comm_at(*made)));
+    return um_answer(of, um_keep_graph(&graph, um_comm_at(*made)));
 }
 
 /* Begins a call on a communicator with a graph of a kind. */
@@ -119,7 +119,7 @@ int MPI_Graph_map(MPI_Comm comm, int nodes, const int index[], const int edges[]
     WRITES(of, rank);
     int code = check_graph(of, nodes, index, edges);
     *rank = of->position < nodes ? of->position : MPI_UNDEFINED;
-    return um_fail(of, code);
+    return um_answer(of, code);
 }
 
 int MPI_Dist_graph_neighbors_count(MPI_Comm comm, int *indegree, int *outdegree, int *weighted) {

@@ -70,7 +70,7 @@ int MPI_Comm_group(MPI_Comm comm, MPI_Group *group) {
     ENTER_LOOK(of, MPI_UNDEFINED, MPI_UNDEFINED);
     if (!of) return um_fail(0, MPI_ERR_COMM);
     WRITES(of, group);
-    return um_fail(of, um_make_group(of->members, of->size, group));
+    return um_answer(of, um_make_group(of->members, of->size, group));
 }
 
 int MPI_Group_size(MPI_Group group, int *size) {
@@ -115,19 +115,19 @@ int MPI_Group_union(MPI_Group one, MPI_Group other, MPI_Group *made) {
     uint8_t members[2 * MAX_RANKS];
     memcpy(members, a->members, (size_t)a->size);
     int size = a->size + sift(b, a, false, members + a->size);
-    return um_fail(0, um_make_group(members, size, made));
+    return um_answer(0, um_make_group(members, size, made));
 }
 
 int MPI_Group_intersection(MPI_Group one, MPI_Group other, MPI_Group *made) {
     GROUPS(one, other, made);
     uint8_t members[MAX_RANKS];
-    return um_fail(0, um_make_group(members, sift(a, b, true, members), made));
+    return um_answer(0, um_make_group(members, sift(a, b, true, members), made));
 }
 
 int MPI_Group_difference(MPI_Group one, MPI_Group other, MPI_Group *made) {
     GROUPS(one, other, made);
     uint8_t members[MAX_RANKS];
-    return um_fail(0, um_make_group(members, sift(a, b, false, members), made));
+    return um_answer(0, um_make_group(members, sift(a, b, false, members), made));
 }
 
 /* The group of the positions listed; each once (7.3.2). */
@@ -147,8 +147,8 @@ static int incl_or_excl(const struct group *from, int count, const int positions
     uint8_t members[MAX_RANKS];
     int code = count < 0 ? MPI_ERR_ARG : pick(from, count, positions, &picked);
     if (code != MPI_SUCCESS) return um_fail(0, code);
-    if (is_incl) return um_fail(0, um_make_group(picked.members, picked.size, made));
-    return um_fail(0, um_make_group(members, sift(from, &picked, false, members), made));
+    if (is_incl) return um_answer(0, um_make_group(picked.members, picked.size, made));
+    return um_answer(0, um_make_group(members, sift(from, &picked, false, members), made));
 }
 
 int MPI_Group_incl(MPI_Group group, int count, const int positions[], MPI_Group *made) {

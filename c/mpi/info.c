@@ -203,5 +203,5 @@ int MPI_Comm_get_info(MPI_Comm comm, MPI_Info *made) {
     ENTER_LOOK(of, MPI_UNDEFINED, MPI_UNDEFINED);
     if (!of) return um_fail(0, MPI_ERR_COMM);
     WRITES(of, made);
-    return um_fail(of, make_info(0, made));
+    return um_answer(of, make_info(0, made));
 }

@@ -174,7 +174,7 @@ int MPI_Reduce_local(const void *inbuf, void *inoutbuf, int count, MPI_Datatype 
     int code = um_check_op(op, type);
     if (code != MPI_SUCCESS || !um_check_buffer(count, type, &bytes, &code)) return um_fail(0, code);
     if (!um_is_buffer(inbuf, bytes, type) || !um_is_buffer(inoutbuf, bytes, type)) return um_fail(0, MPI_ERR_BUFFER);
-    return um_fail(0, um_fold(inbuf, inoutbuf, count, type, op));
+    return um_answer(0, um_fold(inbuf, inoutbuf, count, type, op));
 }
 
 void um_clear_ops(void) {

@@ -40,7 +40,7 @@ int MPI_Comm_split(MPI_Comm comm, int color, int key, MPI_Comm *made) {
     ENTER(of, MPI_UNDEFINED, MPI_UNDEFINED);
     if (!of) return um_fail(0, MPI_ERR_COMM);
     if (!made || (color < 0 && color != MPI_UNDEFINED)) return um_fail(of, um_refuse_collective(of, MPI_ERR_ARG));
-    return um_fail(of, um_split_comm(of, color, key, made));
+    return um_answer(of, um_split_comm(of, color, key, made));
 }
 
 /* All ranks share memory, so MPI_COMM_TYPE_SHARED is one color. */
@@ -50,7 +50,7 @@ int MPI_Comm_split_type(MPI_Comm comm, int type, int key, MPI_Info info, MPI_Com
     if (!of) return um_fail(0, MPI_ERR_COMM);
     if (!um_is_info(info)) return um_fail(of, um_refuse_collective(of, MPI_ERR_INFO));
     if (!made || (type != MPI_COMM_TYPE_SHARED && type != MPI_UNDEFINED)) return um_fail(of, um_refuse_collective(of, MPI_ERR_ARG));
-    return um_fail(of, um_split_comm(of, type == MPI_UNDEFINED ? MPI_UNDEFINED : 0, key, made));
+    return um_answer(of, um_split_comm(of, type == MPI_UNDEFINED ? MPI_UNDEFINED : 0, key, made));
 }
 
 static bool is_member(const struct group *group) { return um_position_in(group, um_me->number) != MPI_UNDEFINED; }
@@ -76,8 +76,8 @@ int MPI_Comm_create(MPI_Comm comm, MPI_Group group, MPI_Comm *made) {
     *made = MPI_COMM_NULL;
     int code = um_begin_collective(of);
     if (code == MPI_SUCCESS) code = um_agree_on_plane(of, &plane, &plans);
-    if (code != MPI_SUCCESS || !is_member(members)) return um_fail(of, code);
-    return um_fail(of, um_make_on_plane(of, plane, members, &plans, made));
+    if (code != MPI_SUCCESS || !is_member(members)) return um_answer(of, code);
+    return um_answer(of, um_make_on_plane(of, plane, members, &plans, made));
 }
 
 /* Only the members call it. They speak by themselves, with a number of the plane of creations that the tag gives. */
@@ -101,5 +101,5 @@ int MPI_Comm_create_group(MPI_Comm comm, MPI_Group group, int tag, MPI_Comm *mad
     team.plane = CREATION;
     team.begun = (unsigned)tag % NUMBERS;
     int code = um_agree_on_plane(&team, &plane, &plans);
-    return um_fail(of, code != MPI_SUCCESS ? code : um_make_on_plane(of, plane, members, &plans, made));
+    return um_answer(of, code != MPI_SUCCESS ? code : um_make_on_plane(of, plane, members, &plans, made));
 }

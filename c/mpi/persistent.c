@@ -72,7 +72,7 @@ static int start(MPI_Request handle) {
     if (request->repeated) return um_start_repeated(request->repeated, request->comm, &request->active);
     if (of->is_receive) code = um_begin_receive(of->buf, of->count, of->type, request->peer, request->tag, request->comm, &request->active);
     else code = um_begin_send(of->buf, of->count, of->type, request->peer, request->tag, request->comm, of->waits, &request->active);
-    return um_fail(request->comm, code);
+    return um_answer(request->comm, code);
 }
 
 int MPI_Start(MPI_Request *handle) {

@@ -83,9 +83,9 @@ static int finish(struct request *request, MPI_Status *status) {
 
 static int send_and_wait(const void *buf, int count, MPI_Datatype type, int dest, int tag, struct comm *comm, bool waits) {
     struct request *request;
-    if (!waits) return um_fail(comm, um_send_buffered(buf, count, type, dest, tag, comm));
+    if (!waits) return um_answer(comm, um_send_buffered(buf, count, type, dest, tag, comm));
     int code = um_begin_send(buf, count, type, dest, tag, comm, waits, &request);
-    return code != MPI_SUCCESS ? um_fail(comm, code) : um_fail(comm, finish(request, 0));
+    return code != MPI_SUCCESS ? um_fail(comm, code) : um_answer(comm, finish(request, 0));
 }
 
 int MPI_Send(const void *buf, int count, MPI_Datatype type, int dest, int tag, MPI_Comm comm) {
@@ -111,7 +111,7 @@ int MPI_Recv(void *buf, int count, MPI_Datatype type, int source, int tag, MPI_C
     struct request *request;
     ENTER(of, source, tag);
     int code = um_begin_receive(buf, count, type, source, tag, of, &request);
-    return code != MPI_SUCCESS ? um_fail(of, code) : um_fail(of, finish(request, status));
+    return code != MPI_SUCCESS ? um_fail(of, code) : um_answer(of, finish(request, status));
 }
 
 static int isend(const void *buf, int count, MPI_Datatype type, int dest, int tag, struct comm *comm, bool waits, MPI_Request *made) {
@@ -181,7 +181,7 @@ int MPI_Sendrecv(const void *sendbuf, int sendcount, MPI_Datatype sendtype, int 
                  MPI_Datatype recvtype, int source, int recvtag, MPI_Comm comm, MPI_Status *status) {
     struct comm *of = um_comm_at(comm);
     ENTER(of, source, recvtag);
-    return um_fail(of, exchange(sendbuf, sendcount, sendtype, dest, sendtag, recvbuf, recvcount, recvtype, source, recvtag, of, status));
+    return um_answer(of, exchange(sendbuf, sendcount, sendtype, dest, sendtag, recvbuf, recvcount, recvtype, source, recvtag, of, status));
 }
 
 /* A copy of what is sent from a buffer that a receive writes to; the caller frees it. Why it can't be sent, or MPI_SUCCESS. */
@@ -205,5 +205,5 @@ int MPI_Sendrecv_replace(void *buf, int count, MPI_Datatype type, int dest, int 
     if (code != MPI_SUCCESS) return um_fail(of, code);
     code = exchange(copy, (int)bytes, MPI_BYTE, dest, sendtag, buf, count, type, source, recvtag, of, status);
     free(copy);
-    return um_fail(of, code);
+    return um_answer(of, code);
 }

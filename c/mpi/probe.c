@@ -98,7 +98,7 @@ int MPI_Probe(int source, int tag, MPI_Comm comm, MPI_Status *status) {
     ENTER(probe.comm, source, tag);
     int code = run_probe(&probe, true);
     if (code == MPI_SUCCESS) um_tell_status(status, &probe.status);
-    return um_fail(probe.comm, code);
+    return um_answer(probe.comm, code);
 }
 
 int MPI_Iprobe(int source, int tag, MPI_Comm comm, int *flag, MPI_Status *status) {
@@ -108,7 +108,7 @@ int MPI_Iprobe(int source, int tag, MPI_Comm comm, int *flag, MPI_Status *status
     int code = run_probe(&probe, false);
     *flag = probe.found;
     if (probe.found) um_tell_status(status, &probe.status);
-    return um_fail(probe.comm, code);
+    return um_answer(probe.comm, code);
 }
 
 /* Gives a message a handle. */
@@ -135,7 +135,7 @@ int MPI_Mprobe(int source, int tag, MPI_Comm comm, MPI_Message *message, MPI_Sta
     int code = run_probe(&probe, true);
     if (code == MPI_SUCCESS) code = keep(&probe, message);
     if (code == MPI_SUCCESS) um_tell_status(status, &probe.status);
-    return um_fail(probe.comm, code);
+    return um_answer(probe.comm, code);
 }
 
 int MPI_Improbe(int source, int tag, MPI_Comm comm, int *flag, MPI_Message *message, MPI_Status *status) {
@@ -146,7 +146,7 @@ int MPI_Improbe(int source, int tag, MPI_Comm comm, int *flag, MPI_Message *mess
     *flag = probe.found;
     if (code == MPI_SUCCESS && probe.found) code = keep(&probe, message);
     if (probe.found) um_tell_status(status, &probe.status);
-    return um_fail(probe.comm, code);
+    return um_answer(probe.comm, code);
 }
 
 /* The message of a handle, which has none then; null: it isn't one. */
@@ -193,7 +193,7 @@ int MPI_Mrecv(void *buf, int count, MPI_Datatype type, MPI_Message *message, MPI
     WRITES(0, message);
     int code = receive(buf, count, type, message, &told, &comm);
     um_tell_status(status, &told);
-    return um_fail(comm, code);
+    return um_answer(comm, code);
 }
 
 int MPI_Imrecv(void *buf, int count, MPI_Datatype type, MPI_Message *message, MPI_Request *handle) {

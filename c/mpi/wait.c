@@ -64,7 +64,7 @@ int MPI_Wait(MPI_Request *handle, MPI_Status *status) {
     if (!request) return tell_idle(*handle, status);
     tell_place(request);
     struct comm *comm = request->comm;
-    return um_fail(comm, um_wait_for(request) ? pending(request, status) : release(handle, request, status));
+    return um_answer(comm, um_wait_for(request) ? pending(request, status) : release(handle, request, status));
 }
 
 int MPI_Test(MPI_Request *handle, int *flag, MPI_Status *status) {
@@ -78,8 +78,8 @@ int MPI_Test(MPI_Request *handle, int *flag, MPI_Status *status) {
     int pends = um_look_at(request);
     *flag = request->over;
     if (request->over || pends) um_plan_call();
-    if (request->over) return um_fail(comm, release(handle, request, status));
-    return pends ? um_fail(comm, pending(request, status)) : MPI_SUCCESS;
+    if (request->over) return um_answer(comm, release(handle, request, status));
+    return pends ? um_answer(comm, pending(request, status)) : MPI_SUCCESS;
 }
 
 int MPI_Request_get_status(MPI_Request handle, int *flag, MPI_Status *status) {
@@ -192,7 +192,7 @@ static int release_all(struct several *several, MPI_Status statuses[]) {
         else if (status) *status = um_empty_status;
         if (status && result != MPI_SUCCESS) status->MPI_ERROR = error;
     }
-    return um_fail(comm, result);
+    return um_answer(comm, result);
 }
 
 int MPI_Waitall(int count, MPI_Request handles[], MPI_Status statuses[]) {
@@ -226,7 +226,7 @@ static int release_one(struct several *several, int *index, MPI_Status *status) 
     if (several->first < 0) return MPI_SUCCESS;
     struct request *request = um_active_at(several->handles[several->first]);
     struct comm *comm = request->comm;
-    return um_fail(comm, request->over ? release(&several->handles[several->first], request, status) : pending(request, status));
+    return um_answer(comm, request->over ? release(&several->handles[several->first], request, status) : pending(request, status));
 }
 
 int MPI_Waitany(int count, MPI_Request handles[], int *index, MPI_Status *status) {
@@ -263,7 +263,7 @@ static int release_some(struct several *several, int *outcount, int indices[], M
         indices[found++] = k;
     }
     if (several->active) *outcount = found;
-    return um_fail(comm, several->failed ? MPI_ERR_IN_STATUS : MPI_SUCCESS);
+    return um_answer(comm, several->failed ? MPI_ERR_IN_STATUS : MPI_SUCCESS);
 }
 
 int MPI_Waitsome(int incount, MPI_Request handles[], int *outcount, int indices[], MPI_Status statuses[]) {

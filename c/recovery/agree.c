@@ -95,14 +95,14 @@ int MPIX_Comm_agree(MPI_Comm comm, int *flag) {
     ENTER(of, MPI_UNDEFINED, MPI_UNDEFINED);
     if (!of) return um_fail(0, MPI_ERR_COMM);
     WRITES(of, flag);
-    if (of->is_part) return um_fail(of, of->size > 1 ? NOT_ON_PARTS : MPI_SUCCESS);
+    if (of->is_part) return um_answer(of, of->size > 1 ? NOT_ON_PARTS : MPI_SUCCESS);
     int code = begin(&agreement, of, flag);
     for (bool is_over = code != MPI_SUCCESS; !is_over; is_over = is_last(&agreement, &code)) {
         um_plan_inside();
         um_wait_until(is_agreed, &agreement, true);
         um_plan_inside();
     }
-    return um_fail(of, code);
+    return um_answer(of, code);
 }
 
 static void look_at_agreement(struct request *request) {
@@ -160,7 +160,7 @@ int um_new_recovery(struct comm *comm, void (*look)(struct request *), size_t by
 int um_give_recovery(struct comm *comm, int code, struct request *request, MPI_Request *handle) {
     if (code != MPI_SUCCESS) {
         if (request) um_free_request(request);
-        return um_fail(comm, code);
+        return um_answer(comm, code);
     }
     *handle = (MPI_Request)(uintptr_t)request->handle;
     um_look_at(request);

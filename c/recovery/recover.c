@@ -15,7 +15,7 @@ int MPIX_Comm_revoke(MPI_Comm comm) {
     int code = of->is_part ? MPI_SUCCESS : um_class_of(ulfm_revoke(um_me->slot, of->context));
     um_marked();
     um_progress();
-    return um_fail(of, code);
+    return um_answer(of, code);
 }
 
 int MPIX_Comm_is_revoked(MPI_Comm comm, int *flag) {
@@ -80,12 +80,12 @@ int MPIX_Comm_shrink(MPI_Comm comm, MPI_Comm *made) {
     ENTER(of, MPI_UNDEFINED, MPI_UNDEFINED);
     if (!of) return um_fail(0, MPI_ERR_COMM);
     WRITES(of, made);
-    if (is_alone(of)) return um_fail(of, um_make_another(of, made));
+    if (is_alone(of)) return um_answer(of, um_make_another(of, made));
     int code = enter(&shrink, of, made);
     if (code != MPI_SUCCESS) return um_fail(of, code);
     um_wait_until(is_shrunk, &shrink, true);
     if (shrink.code == ULFM_OK) um_plan_inside();
-    return um_fail(of, adopt(&shrink));
+    return um_answer(of, adopt(&shrink));
 }
 
 static void look_at_shrink(struct request *request) {
@@ -117,7 +117,7 @@ int MPIX_Comm_get_failed(MPI_Comm comm, MPI_Group *group) {
     WRITES(of, group);
     um_progress();
     int code = um_failed_of(of, &failed);
-    return um_fail(of, code != MPI_SUCCESS ? code : um_make_group(failed.members, (int)failed.size, group));
+    return um_answer(of, code != MPI_SUCCESS ? code : um_make_group(failed.members, (int)failed.size, group));
 }
 
 /* Acknowledges the first `count` of them, or all, never fewer than before. */
@@ -143,7 +143,7 @@ int MPIX_Comm_ack_failed(MPI_Comm comm, int count, int *acknowledged) {
     if (code == MPI_SUCCESS && (count < 0 || (uint32_t)count > failed.size)) code = MPI_ERR_ARG;
     if (code == MPI_SUCCESS) code = acknowledge(of, (uint32_t)count);
     if (code == MPI_SUCCESS) *acknowledged = (int)of->acknowledged;
-    return um_fail(of, code);
+    return um_answer(of, code);
 }
 
 int MPIX_Comm_failure_ack(MPI_Comm comm) {
@@ -151,7 +151,7 @@ int MPIX_Comm_failure_ack(MPI_Comm comm) {
     ENTER_LOOK(of, MPI_UNDEFINED, MPI_UNDEFINED);
     if (!of) return um_fail(0, MPI_ERR_COMM);
     um_progress();
-    return um_fail(of, acknowledge(of, MAX_RANKS));
+    return um_answer(of, acknowledge(of, MAX_RANKS));
 }
 
 int MPIX_Comm_failure_get_acked(MPI_Comm comm, MPI_Group *group) {
@@ -162,5 +162,5 @@ int MPIX_Comm_failure_get_acked(MPI_Comm comm, MPI_Group *group) {
     WRITES(of, group);
     um_progress();
     int code = um_failed_of(of, &failed);
-    return um_fail(of, code != MPI_SUCCESS ? code : um_make_group(failed.members, (int)of->acknowledged, group));
+    return um_answer(of, code != MPI_SUCCESS ? code : um_make_group(failed.members, (int)of->acknowledged, group));
 }

@@ -29,7 +29,7 @@ static int contiguous(int count, MPI_Datatype of, MPI_Datatype *made) {
 int MPI_Type_contiguous(int count, MPI_Datatype type, MPI_Datatype *made) {
     ENTER_LOOK(0, MPI_UNDEFINED, MPI_UNDEFINED);
     struct arguments arguments = {.combiner = MPI_COMBINER_CONTIGUOUS, .ints = {{1, &count}}, .types = 1, .type = &type};
-    return um_fail(0, um_describe(contiguous(count, type, made), made, &arguments));
+    return um_answer(0, um_describe(contiguous(count, type, made), made, &arguments));
 }
 
 int MPI_Type_dup(MPI_Datatype type, MPI_Datatype *made) {
@@ -42,7 +42,7 @@ int MPI_Type_dup(MPI_Datatype type, MPI_Datatype *made) {
     if (code == MPI_SUCCESS) return MPI_SUCCESS;
     um_drop_type(*made);   /* a copy function failed: there is no duplicate (7.7.4) */
     *made = MPI_DATATYPE_NULL;
-    return um_fail(0, code);
+    return um_answer(0, code);
 }
 
 /* Blocks of one type: lengths in elements, or all of `length`; displacements in bytes (`at`), or in extents (`displs`). */
@@ -87,13 +87,13 @@ int MPI_Type_vector(int count, int length, int stride, MPI_Datatype type, MPI_Da
     ptrdiff_t bytes = 0;
     if (um_type_at(type) && __builtin_mul_overflow(stride, extent_of(um_type_at(type)), &bytes)) return um_fail(0, MPI_ERR_ARG);
     struct arguments arguments = {MPI_COMBINER_VECTOR, {{1, &count}, {1, &length}, {1, &stride}}, 0, 0, 1, &type};
-    return um_fail(0, um_describe(vector(count, length, bytes, type, made), made, &arguments));
+    return um_answer(0, um_describe(vector(count, length, bytes, type, made), made, &arguments));
 }
 
 int MPI_Type_create_hvector(int count, int length, MPI_Aint stride, MPI_Datatype type, MPI_Datatype *made) {
     ENTER_LOOK(0, MPI_UNDEFINED, MPI_UNDEFINED);
     struct arguments arguments = {MPI_COMBINER_HVECTOR, {{1, &count}, {1, &length}}, 1, &stride, 1, &type};
-    return um_fail(0, um_describe(vector(count, length, stride, type, made), made, &arguments));
+    return um_answer(0, um_describe(vector(count, length, stride, type, made), made, &arguments));
 }
 
 int MPI_Type_indexed(int count, const int lengths[], const int displs[], MPI_Datatype type, MPI_Datatype *made) {
@@ -101,7 +101,7 @@ int MPI_Type_indexed(int count, const int lengths[], const int displs[], MPI_Dat
     if (count > 0 && (!lengths || !displs)) return um_fail(0, MPI_ERR_ARG);
     struct blocks blocks = {.count = count, .lengths = lengths, .displs = displs};
     struct arguments arguments = {MPI_COMBINER_INDEXED, {{1, &count}, {count, lengths}, {count, displs}}, 0, 0, 1, &type};
-    return um_fail(0, um_describe(make_blocks(&blocks, type, made), made, &arguments));
+    return um_answer(0, um_describe(make_blocks(&blocks, type, made), made, &arguments));
 }
 
 int MPI_Type_create_hindexed(int count, const int lengths[], const MPI_Aint displs[], MPI_Datatype type, MPI_Datatype *made) {
@@ -109,7 +109,7 @@ int MPI_Type_create_hindexed(int count, const int lengths[], const MPI_Aint disp
     if (count > 0 && (!lengths || !displs)) return um_fail(0, MPI_ERR_ARG);
     struct blocks blocks = {.count = count, .lengths = lengths, .at = displs};
     struct arguments arguments = {MPI_COMBINER_HINDEXED, {{1, &count}, {count, lengths}}, count, displs, 1, &type};
-    return um_fail(0, um_describe(make_blocks(&blocks, type, made), made, &arguments));
+    return um_answer(0, um_describe(make_blocks(&blocks, type, made), made, &arguments));
 }
 
 int MPI_Type_create_indexed_block(int count, int length, const int displs[], MPI_Datatype type, MPI_Datatype *made) {
@@ -117,7 +117,7 @@ int MPI_Type_create_indexed_block(int count, int length, const int displs[], MPI
     if (count > 0 && !displs) return um_fail(0, MPI_ERR_ARG);
     struct blocks blocks = {.count = count, .length = length, .displs = displs};
     struct arguments arguments = {MPI_COMBINER_INDEXED_BLOCK, {{1, &count}, {1, &length}, {count, displs}}, 0, 0, 1, &type};
-    return um_fail(0, um_describe(make_blocks(&blocks, type, made), made, &arguments));
+    return um_answer(0, um_describe(make_blocks(&blocks, type, made), made, &arguments));
 }
 
 int MPI_Type_create_hindexed_block(int count, int length, const MPI_Aint displs[], MPI_Datatype type, MPI_Datatype *made) {
@@ -125,7 +125,7 @@ int MPI_Type_create_hindexed_block(int count, int length, const MPI_Aint displs[
     if (count > 0 && !displs) return um_fail(0, MPI_ERR_ARG);
     struct blocks blocks = {.count = count, .length = length, .at = displs};
     struct arguments arguments = {MPI_COMBINER_HINDEXED_BLOCK, {{1, &count}, {1, &length}}, count, displs, 1, &type};
-    return um_fail(0, um_describe(make_blocks(&blocks, type, made), made, &arguments));
+    return um_answer(0, um_describe(make_blocks(&blocks, type, made), made, &arguments));
 }
 
 /* The upper bound of a structure is rounded up, so that the next one is aligned as C has it (5.1.6). */
@@ -158,7 +158,7 @@ int MPI_Type_create_struct(int count, const int lengths[], const MPI_Aint displs
     struct arguments arguments = {MPI_COMBINER_STRUCT, {{1, &count}, {count, lengths}}, count, displs, count, types};
     code = um_describe(code, &handle, &arguments);
     if (code == MPI_SUCCESS) *made = handle;
-    return um_fail(0, code);
+    return um_answer(0, code);
 }
 
 int MPI_Type_create_resized(MPI_Datatype type, MPI_Aint lower, MPI_Aint extent, MPI_Datatype *made) {
@@ -168,7 +168,7 @@ int MPI_Type_create_resized(MPI_Datatype type, MPI_Aint lower, MPI_Aint extent, 
     int code = check(0, type, made);
     if (code == MPI_SUCCESS) code = um_resize(um_type_at(type), lower, extent, &sized);
     if (code == MPI_SUCCESS) code = um_add_type(sized, made);
-    return um_fail(0, um_describe(code, made, &arguments));
+    return um_answer(0, um_describe(code, made, &arguments));
 }
 
 /* MPI_Count is as wide as MPI_Aint. */

@@ -143,7 +143,7 @@ static int tell_contents(MPI_Datatype type, MPI_Count ints, MPI_Count addresses,
     if (recipe->ints) memcpy(number, recipe->number, (size_t)recipe->ints * sizeof *number);
     if (recipe->addresses) memcpy(address, recipe->address, (size_t)recipe->addresses * sizeof *address);
     for (int k = 0; k < recipe->types && code == MPI_SUCCESS; k++) code = hand_out(recipe->type[k], &of[k]);
-    return um_fail(0, code);
+    return um_answer(0, code);
 }
 
 int MPI_Type_get_contents(MPI_Datatype type, int ints, int addresses, int types, int number[], MPI_Aint address[], MPI_Datatype of[]) {

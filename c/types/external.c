@@ -93,13 +93,13 @@ static int pack(const char *form, struct packing of, MPI_Count *position, enum w
 int MPI_Pack_external_c(const char form[], const void *buffer, MPI_Count count, MPI_Datatype type, void *packed, MPI_Count room, MPI_Count *position) {
     ENTER_LOOK(0, MPI_UNDEFINED, MPI_UNDEFINED);
     WRITES(0, position);
-    return um_fail(0, pack(form, (struct packing){(void *)(uintptr_t)buffer, count, type, packed, room}, position, OUT));
+    return um_answer(0, pack(form, (struct packing){(void *)(uintptr_t)buffer, count, type, packed, room}, position, OUT));
 }
 
 int MPI_Unpack_external_c(const char form[], const void *packed, MPI_Count room, MPI_Count *position, void *buffer, MPI_Count count, MPI_Datatype type) {
     ENTER_LOOK(0, MPI_UNDEFINED, MPI_UNDEFINED);
     WRITES(0, position);
-    return um_fail(0, pack(form, (struct packing){buffer, count, type, (char *)(uintptr_t)packed, room}, position, IN));
+    return um_answer(0, pack(form, (struct packing){buffer, count, type, (char *)(uintptr_t)packed, room}, position, IN));
 }
 
 int MPI_Pack_external_size_c(const char form[], MPI_Count count, MPI_Datatype type, MPI_Count *size) {
@@ -118,7 +118,7 @@ int MPI_Pack_external(const char form[], const void *buffer, int count, MPI_Data
     ENTER_LOOK(0, MPI_UNDEFINED, MPI_UNDEFINED);
     int code = pack(form, (struct packing){(void *)(uintptr_t)buffer, count, type, packed, room}, &at, OUT);
     if (code == MPI_SUCCESS) *position = (MPI_Aint)at;
-    return um_fail(0, code);
+    return um_answer(0, code);
 }
 
 int MPI_Unpack_external(const char form[], const void *packed, MPI_Aint room, MPI_Aint *position, void *buffer, int count, MPI_Datatype type) {
@@ -126,7 +126,7 @@ int MPI_Unpack_external(const char form[], const void *packed, MPI_Aint room, MP
     ENTER_LOOK(0, MPI_UNDEFINED, MPI_UNDEFINED);
     int code = pack(form, (struct packing){buffer, count, type, (char *)(uintptr_t)packed, room}, &at, IN);
     if (code == MPI_SUCCESS) *position = (MPI_Aint)at;
-    return um_fail(0, code);
+    return um_answer(0, code);
 }
 
 int MPI_Pack_external_size(const char form[], int count, MPI_Datatype type, MPI_Aint *size) {

@@ -56,7 +56,7 @@ static int make_vector(MPI_Count count, MPI_Count length, MPI_Count stride, bool
     if (code != MPI_SUCCESS) return um_fail(0, code);
     code = um_join(&(struct piece){length ? (size_t)count : 0, 0, step, row}, 1, &whole);
     um_free_type(row);
-    return um_fail(0, code == MPI_SUCCESS ? um_add_type(whole, made) : code);
+    return um_answer(0, code == MPI_SUCCESS ? um_add_type(whole, made) : code);
 }
 
 int MPI_Type_contiguous_c(MPI_Count count, MPI_Datatype type, MPI_Datatype *made) {
@@ -77,30 +77,30 @@ int MPI_Type_create_hvector_c(MPI_Count count, MPI_Count length, MPI_Count strid
 int MPI_Type_indexed_c(MPI_Count count, const MPI_Count lengths[], const MPI_Count displs[], MPI_Datatype type, MPI_Datatype *made) {
     ENTER_LOOK(0, MPI_UNDEFINED, MPI_UNDEFINED);
     WRITES(0, count <= 0 || lengths);
-    return um_fail(0, make_blocks(&(struct blocks){.count = count, .lengths = lengths, .displs = displs, .types = &type}, made));
+    return um_answer(0, make_blocks(&(struct blocks){.count = count, .lengths = lengths, .displs = displs, .types = &type}, made));
 }
 
 int MPI_Type_create_hindexed_c(MPI_Count count, const MPI_Count lengths[], const MPI_Count displs[], MPI_Datatype type, MPI_Datatype *made) {
     ENTER_LOOK(0, MPI_UNDEFINED, MPI_UNDEFINED);
     WRITES(0, count <= 0 || lengths);
-    return um_fail(0, make_blocks(&(struct blocks){.count = count, .lengths = lengths, .displs = displs, .is_bytes = true, .types = &type}, made));
+    return um_answer(0, make_blocks(&(struct blocks){.count = count, .lengths = lengths, .displs = displs, .is_bytes = true, .types = &type}, made));
 }
 
 int MPI_Type_create_indexed_block_c(MPI_Count count, MPI_Count length, const MPI_Count displs[], MPI_Datatype type, MPI_Datatype *made) {
     ENTER_LOOK(0, MPI_UNDEFINED, MPI_UNDEFINED);
-    return um_fail(0, make_blocks(&(struct blocks){.count = count, .length = length, .displs = displs, .types = &type}, made));
+    return um_answer(0, make_blocks(&(struct blocks){.count = count, .length = length, .displs = displs, .types = &type}, made));
 }
 
 int MPI_Type_create_hindexed_block_c(MPI_Count count, MPI_Count length, const MPI_Count displs[], MPI_Datatype type, MPI_Datatype *made) {
     ENTER_LOOK(0, MPI_UNDEFINED, MPI_UNDEFINED);
-    return um_fail(0, make_blocks(&(struct blocks){.count = count, .length = length, .displs = displs, .is_bytes = true, .types = &type}, made));
+    return um_answer(0, make_blocks(&(struct blocks){.count = count, .length = length, .displs = displs, .is_bytes = true, .types = &type}, made));
 }
 
 int MPI_Type_create_struct_c(MPI_Count count, const MPI_Count lengths[], const MPI_Count displs[], const MPI_Datatype types[], MPI_Datatype *made) {
     ENTER_LOOK(0, MPI_UNDEFINED, MPI_UNDEFINED);
     WRITES(0, count <= 0 || lengths);
     struct blocks blocks = {.count = count, .lengths = lengths, .displs = displs, .is_bytes = true, .types = types, .has_several = true};
-    return um_fail(0, make_blocks(&blocks, made));
+    return um_answer(0, make_blocks(&blocks, made));
 }
 
 int MPI_Get_count_c(const MPI_Status *status, MPI_Datatype type, MPI_Count *count) {

@@ -185,7 +185,7 @@ int MPI_Pack(const void *buffer, int count, MPI_Datatype type, void *packed, int
     ENTER_LOOK(of, MPI_UNDEFINED, MPI_UNDEFINED);
     int code = pack((struct packing){(void *)(uintptr_t)buffer, count, type, packed, room}, &at, of, true);
     if (code == MPI_SUCCESS) *position = (int)at;
-    return um_fail(of, code);
+    return um_answer(of, code);
 }
 
 int MPI_Unpack(const void *packed, int room, int *position, void *buffer, int count, MPI_Datatype type, MPI_Comm comm) {
@@ -194,19 +194,19 @@ int MPI_Unpack(const void *packed, int room, int *position, void *buffer, int co
     ENTER_LOOK(of, MPI_UNDEFINED, MPI_UNDEFINED);
     int code = pack((struct packing){buffer, count, type, (char *)(uintptr_t)packed, room}, &at, of, false);
     if (code == MPI_SUCCESS) *position = (int)at;
-    return um_fail(of, code);
+    return um_answer(of, code);
 }
 
 int MPI_Pack_c(const void *buffer, MPI_Count count, MPI_Datatype type, void *packed, MPI_Count room, MPI_Count *position, MPI_Comm comm) {
     struct comm *of = um_comm_at(comm);
     ENTER_LOOK(of, MPI_UNDEFINED, MPI_UNDEFINED);
     WRITES(of, position);
-    return um_fail(of, pack((struct packing){(void *)(uintptr_t)buffer, count, type, packed, room}, position, of, true));
+    return um_answer(of, pack((struct packing){(void *)(uintptr_t)buffer, count, type, packed, room}, position, of, true));
 }
 
 int MPI_Unpack_c(const void *packed, MPI_Count room, MPI_Count *position, void *buffer, MPI_Count count, MPI_Datatype type, MPI_Comm comm) {
     struct comm *of = um_comm_at(comm);
     ENTER_LOOK(of, MPI_UNDEFINED, MPI_UNDEFINED);
     WRITES(of, position);
-    return um_fail(of, pack((struct packing){buffer, count, type, (char *)(uintptr_t)packed, room}, position, of, false));
+    return um_answer(of, pack((struct packing){buffer, count, type, (char *)(uintptr_t)packed, room}, position, of, false));
 }

@@ -53,18 +53,18 @@ static bool find_bearer(MPI_Datatype handle, struct bearer *bearer) {
 
 int MPI_Type_set_attr(MPI_Datatype type, int keyval, void *value) {
     TYPE(type);
-    return um_fail(0, um_set_attribute(&bearer, keyval, value));
+    return um_answer(0, um_set_attribute(&bearer, keyval, value));
 }
 
 int MPI_Type_get_attr(MPI_Datatype type, int keyval, void *value, int *flag) {
     TYPE(type);
     WRITES(0, value && flag);
-    return um_fail(0, um_get_attribute(&bearer, keyval, value, flag));
+    return um_answer(0, um_get_attribute(&bearer, keyval, value, flag));
 }
 
 int MPI_Type_delete_attr(MPI_Datatype type, int keyval) {
     TYPE(type);
-    return um_fail(0, um_delete_attribute(&bearer, keyval));
+    return um_answer(0, um_delete_attribute(&bearer, keyval));
 }
 
 /* A duplicate of a type, which a copy function that fails takes back. */

@@ -128,5 +128,5 @@ int MPI_Win_fence(int assertion, MPI_Win win) {
     um_forget_epoch(of);
     code = um_meet(of, code);
     of->is_open = !(assertion & MPI_MODE_NOSUCCEED);
-    return um_fail_window(of, win, code);
+    return um_answer_window(of, win, code);
 }

@@ -126,7 +126,7 @@ static int ask(MPI_Win win, struct window *window, struct deed deed, const struc
     um_me->call.peer = target->rank;
     int code = check(window, deed.what == SWAP ? 0 : given, got, target, &bytes);
     if (code == MPI_SUCCESS && bytes && target->rank != MPI_PROC_NULL) code = write_down(window, deed, given, got, target, bytes);
-    return um_fail_window(window, win, code);
+    return um_answer_window(window, win, code);
 }
 
 /* The basic type that a fold is of, in `deed`: one for all data (12.3.4), and an operation of MPI for it. */

@@ -15,6 +15,10 @@ int um_fail_window(const struct window *window, MPI_Win handle, int code) {
     return um_fail_by(window->handler, window->comm, &handle, window->name[0] ? window->name : "this window", code);
 }
 
+int um_answer_window(const struct window *window, MPI_Win handle, int code) {
+    return code == MPI_SUCCESS ? um_succeed() : um_fail_window(window, handle, code);
+}
+
 /* Room for so many bytes more, at an aligned place; null where there is no memory. */
 void *um_extend(struct pile *pile, size_t bytes) {
     size_t length = pile->length + (bytes + ALIGNED - 1) / ALIGNED * ALIGNED;
@@ -147,7 +151,7 @@ int MPI_Win_create(void *base, MPI_Aint size, int unit, MPI_Info info, MPI_Comm 
     if (!win || (size > 0 && !base)) return um_fail(of, um_refuse_collective(of, MPI_ERR_ARG));
     *win = MPI_WIN_NULL;
     if (!um_is_info(info)) return um_fail(of, um_refuse_collective(of, MPI_ERR_INFO));
-    return um_fail(of, create(&(struct window){.base = base, .flavor = MPI_WIN_FLAVOR_CREATE}, size, unit, of, win));
+    return um_answer(of, create(&(struct window){.base = base, .flavor = MPI_WIN_FLAVOR_CREATE}, size, unit, of, win));
 }
 
 int MPI_Win_allocate(MPI_Aint size, int unit, MPI_Info info, MPI_Comm comm, void *base, MPI_Win *win) {
@@ -161,7 +165,7 @@ int MPI_Win_allocate(MPI_Aint size, int unit, MPI_Info info, MPI_Comm comm, void
     int code = like.base ? create(&like, size, unit, of, win) : um_refuse_collective(of, MPI_ERR_NO_MEM);
     if (code == MPI_SUCCESS) *(void **)base = like.base;
     else free(like.base);
-    return um_fail(of, code);
+    return um_answer(of, code);
 }
 
 /* The window goes, also where a member failed: then that is told. */
@@ -178,5 +182,5 @@ int MPI_Win_free(MPI_Win *win) {
     struct comm *comm = of->comm;
     free_window(of);
     *win = MPI_WIN_NULL;
-    return um_fail_by(handler, comm, win, "this window", code);
+    return code == MPI_SUCCESS ? um_succeed() : um_fail_by(handler, comm, win, "this window", code);
 }

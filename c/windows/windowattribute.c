@@ -46,13 +46,13 @@ int um_delete_window_attributes(struct window *window, MPI_Win handle) {
 int MPI_Win_set_attr(MPI_Win win, int keyval, void *value) {
     WINDOW(win, false);
     struct bearer bearer = bearer_of(of, win);
-    return um_fail_window(of, win, um_set_attribute(&bearer, keyval, value));
+    return um_answer_window(of, win, um_set_attribute(&bearer, keyval, value));
 }
 
 int MPI_Win_delete_attr(MPI_Win win, int keyval) {
     WINDOW(win, false);
     struct bearer bearer = bearer_of(of, win);
-    return um_fail_window(of, win, um_delete_attribute(&bearer, keyval));
+    return um_answer_window(of, win, um_delete_attribute(&bearer, keyval));
 }
 
 /* Of those that are there, a pointer to the value; of the base, that itself (12.2.6). */
@@ -62,7 +62,7 @@ int MPI_Win_get_attr(MPI_Win win, int keyval, void *value, int *flag) {
     int own = of->comm->position;
     void *values[] = {0, of->base, &of->sizes[own], &of->units[own], &of->flavor, &of->model};
     struct bearer bearer = bearer_of(of, win);
-    if (keyval < MPI_WIN_BASE || keyval > MPI_WIN_MODEL) return um_fail_window(of, win, um_get_attribute(&bearer, keyval, value, flag));
+    if (keyval < MPI_WIN_BASE || keyval > MPI_WIN_MODEL) return um_answer_window(of, win, um_get_attribute(&bearer, keyval, value, flag));
     *(void **)value = values[keyval];
     *flag = 1;
     return MPI_SUCCESS;
@@ -71,13 +71,13 @@ int MPI_Win_get_attr(MPI_Win win, int keyval, void *value, int *flag) {
 int MPI_Win_get_group(MPI_Win win, MPI_Group *group) {
     WINDOW(win, false);
     if (!group) return um_fail_window(of, win, MPI_ERR_ARG);
-    return um_fail_window(of, win, um_make_group(of->comm->members, of->comm->size, group));
+    return um_answer_window(of, win, um_make_group(of->comm->members, of->comm->size, group));
 }
 
 /* No hint is heeded, so none is kept. */
 int MPI_Win_set_info(MPI_Win win, MPI_Info info) {
     WINDOW(win, false);
-    return um_fail_window(of, win, um_is_info(info) ? MPI_SUCCESS : MPI_ERR_INFO);
+    return um_answer_window(of, win, um_is_info(info) ? MPI_SUCCESS : MPI_ERR_INFO);
 }
 
 int MPI_Win_get_info(MPI_Win win, MPI_Info *info) {
@@ -119,6 +119,6 @@ int MPI_Win_get_errhandler(MPI_Win win, MPI_Errhandler *handler) {
 
 int MPI_Win_call_errhandler(MPI_Win win, int errorcode) {
     WINDOW(win, false);
-    (void)um_fail_window(of, win, errorcode);
+    (void)um_answer_window(of, win, errorcode);
     return MPI_SUCCESS;
 }

@@ -56,6 +56,7 @@ enum { ALIGNED = 16 };         /* deeds, runs and data begin so */
 /* window.c */
 struct window *um_window_at(MPI_Win handle);
 int um_fail_window(const struct window *window, MPI_Win handle, int code);
+int um_answer_window(const struct window *window, MPI_Win handle, int code);
 void *um_extend(struct pile *pile, size_t bytes);
 int um_exchange(struct window *window, const struct pile *out, struct pile *in, bool also_empty);
 int um_meet(struct window *window, int code);
