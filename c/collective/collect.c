@@ -31,8 +31,8 @@ int um_refuse_collective(struct comm *comm, int code) {
 }
 
 int um_collect_send(struct comm *comm, int to, const void *bytes, size_t length) {
-    int code = um_send_body(comm->hidden, comm->place[to], comm->members[to], tag_of(comm), bytes, length, 0);
-    um_plan_inside();
+    int code = um_send_body(comm->hidden, comm->engine_position[to], comm->members[to], tag_of(comm), bytes, length, 0);
+    um_count_inside();
     return code;
 }
 

@@ -15,12 +15,12 @@
 
 struct branch {
     pid_t pid;
-    struct spot spot;
+    struct place place;
     int report, output;   /* files */
 };
 static struct branch *branches;
 static int branch_count;
-static struct spot *wanted;
+static struct place *wanted;
 static size_t wanted_count;
 /* What the run told before, but for its places. */
 static char past[4096];
@@ -39,7 +39,7 @@ bool um_note_past(const char *line, size_t length) {
 }
 
 bool um_begin_branches(void) {
-    wanted = (struct spot *)um_read_all(um_options.branches);
+    wanted = (struct place *)um_read_all(um_options.branches);
     wanted_count = wanted ? (size_t)lseek(um_options.branches, 0, SEEK_END) / sizeof *wanted : 0;
     branches = calloc((size_t)um_options.jobs, sizeof *branches);
     return wanted && branches;
@@ -56,7 +56,7 @@ static void append(int from, int to) {
 /* Hands on what came of one: its report, and its output where that is compared. */
 static void hand_on(const struct branch *of) {
     off_t length = um_options.same_output ? lseek(of->output, 0, SEEK_END) : 0;
-    dprintf(um_options.report, "branch %d %d %d\n", of->spot.rank, of->spot.call, of->spot.inside);
+    dprintf(um_options.report, "branch %d %d %d\n", of->place.rank, of->place.call, of->place.inside);
     append(of->report, um_options.report);
     dprintf(um_options.report, "done %ld\n", (long)length);
     if (length) append(of->output, um_options.report);
@@ -98,8 +98,8 @@ static void become(const struct branch *of) {
 
 /* The run is at a place: whether this is the process in which the rank stops here. */
 bool um_is_branch(void) {
-    struct branch made = {.spot = {.rank = um_me->number, .call = um_me->plan.calls, .inside = um_me->plan.insides}};
-    if (!bsearch(&made.spot, wanted, wanted_count, sizeof *wanted, um_compare_spots)) return false;
+    struct branch made = {.place = {.rank = um_me->number, .call = um_me->plan.calls, .inside = um_me->plan.insides}};
+    if (!bsearch(&made.place, wanted, wanted_count, sizeof *wanted, um_compare_places)) return false;
     while (branch_count == um_options.jobs) end_one();
     made.report = memfd_create("ulfm-branch", MFD_CLOEXEC);
     made.output = memfd_create("ulfm-branch", MFD_CLOEXEC);
@@ -112,35 +112,35 @@ bool um_is_branch(void) {
 /* ---- In the process of the table ---- */
 
 /* A file with the places, or 0. */
-int um_write_wanted(const struct spot *spots, int count) {
+int um_write_wanted(const struct place *places, int count) {
     int file = memfd_create("ulfm-places", MFD_CLOEXEC);
-    size_t length = (size_t)count * sizeof *spots;
-    return file > 0 && write(file, spots, length) == (ssize_t)length ? file : 0;
+    size_t length = (size_t)count * sizeof *places;
+    return file > 0 && write(file, places, length) == (ssize_t)length ? file : 0;
 }
 
 /* Reads what came of one place, which ends before `end`: behind it, or null where that isn't whole. */
-static char *read_branch(char *at, const char *end, const struct spot *spots, int count, struct result *results) {
-    struct spot spot = {0};
+static char *read_branch(char *at, const char *end, const struct place *places, int count, struct result *results) {
+    struct place place = {0};
     char *done = strstr(at, "\ndone "), *output = done ? strchr(done + 1, '\n') : 0;
-    if (!output || sscanf(at, "branch %d %d %d", &spot.rank, &spot.call, &spot.inside) != 3) return 0;
-    const struct spot *known = bsearch(&spot, spots, (size_t)count, sizeof *spots, um_compare_spots);
+    if (!output || sscanf(at, "branch %d %d %d", &place.rank, &place.call, &place.inside) != 3) return 0;
+    const struct place *known = bsearch(&place, places, (size_t)count, sizeof *places, um_compare_places);
     long length = atol(done + 6);
     if (!known || length > end - output - 1) return 0;
     char *next = ++output + length, kept = *next;
     *done = 0;
     *next = 0;
     char *lines = strchr(at, '\n');
-    um_read_report(lines ? lines + 1 : 0, &results[known - spots]);
-    um_read_output(output, &results[known - spots]);
+    um_read_report(lines ? lines + 1 : 0, &results[known - places]);
+    um_read_output(output, &results[known - places]);
     *next = kept;
     return next;
 }
 
 /* Reads what came of all places. */
-bool um_read_branches(const struct job *job, const struct spot *spots, int count, struct result *results) {
-    char *text = um_read_all(job->files[2]);
-    const char *end = text ? text + lseek(job->files[2], 0, SEEK_END) : 0;
-    for (char *at = text; at && at < end;) at = read_branch(at, end, spots, count, results);
+bool um_read_branches(const struct trial *trial, const struct place *places, int count, struct result *results) {
+    char *text = um_read_all(trial->files[2]);
+    const char *end = text ? text + lseek(trial->files[2], 0, SEEK_END) : 0;
+    for (char *at = text; at && at < end;) at = read_branch(at, end, places, count, results);
     free(text);
     return text != 0;
 }

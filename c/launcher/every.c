@@ -16,27 +16,27 @@ enum { MANY = 1000 };   /* so many places may take long */
 struct kind_of_sends {
     bool sends_wait;
     struct result base;
-    struct spot *spots;
+    struct place *places;
     int count;
     double seconds;        /* that the run took */
     struct found *found;   /* of --every-schedule: what the search at each place found; else null */
 };
 
-static struct job *jobs;
-static int job_count, counts[2][OUTCOMES];
+static struct trial *trials;
+static int trial_count, counts[2][OUTCOMES];
 
-static bool make_jobs(void) {
-    job_count = um_options.jobs ? um_options.jobs : um_processors();
-    jobs = calloc((size_t)job_count, sizeof *jobs);
-    return jobs != 0;
+static bool make_trials(void) {
+    trial_count = um_options.jobs ? um_options.jobs : um_processors();
+    trials = calloc((size_t)trial_count, sizeof *trials);
+    return trials != 0;
 }
 
-/* Waits until a job ends. Its place in the table, or -1 where there is none. */
-static int wait_for_job(void) {
+/* Waits until a trial ends. Its place in the table, or -1 where there is none. */
+static int wait_for_trial(void) {
     int status;
     pid_t pid = waitpid(-1, &status, 0);
-    for (int k = 0; k < job_count; k++)
-        if (pid > 0 && jobs[k].pid == pid) return k;
+    for (int k = 0; k < trial_count; k++)
+        if (pid > 0 && trials[k].pid == pid) return k;
     return -1;
 }
 
@@ -48,48 +48,48 @@ static double seconds(void) {
 
 /* Runs the program once, alone, without a stop. False where it doesn't end well. */
 static bool run_base(struct kind_of_sends *kind, const char *launcher) {
-    struct job *job = &jobs[0];
-    *job = (struct job){.spot = -1, .sends_wait = kind->sends_wait};
+    struct trial *trial = &trials[0];
+    *trial = (struct trial){.place = -1, .sends_wait = kind->sends_wait};
     double begun = seconds();
-    if (!um_start_job(job, launcher, 0)) return false;
-    while (wait_for_job() != 0) {}
-    um_read_result(job, &kind->base);
-    kind->spots = um_read_spots(job, &kind->count);
+    if (!um_start_trial(trial, launcher, 0)) return false;
+    while (wait_for_trial() != 0) {}
+    um_read_result(trial, &kind->base);
+    kind->places = um_read_places(trial, &kind->count);
     kind->seconds = seconds() - begun;
     bool is_well = kind->base.end == RIGHT && kind->count > 0;
     for (int k = 0; k < um_options.ranks; k++) is_well = is_well && (kind->base.fate[k] == ENDED || kind->base.fate[k] == STOPPED);
     if (!is_well) {
-        char *errors = um_read_all(job->files[1]);
+        char *errors = um_read_all(trial->files[1]);
         printf("without a further stop, %s: the run doesn't end well, so no places are tried:\n", kind->sends_wait ? "sends that wait" : "buffered sends");
         fputs(errors ? errors : "", stdout);
         um_tell_command(stdout, 0, kind->sends_wait);
         free(errors);
     }
-    um_close_job(job);
-    job->pid = 0;
+    um_close_trial(trial);
+    trial->pid = 0;
     return is_well;
 }
 
-static void tell_result(const struct kind_of_sends *kind, const struct spot *spot, struct result *result) {
+static void tell_result(const struct kind_of_sends *kind, const struct place *place, struct result *result) {
     char why[600];
-    enum outcome outcome = um_judge(&kind->base, result, spot, why, sizeof why);
+    enum outcome outcome = um_judge(&kind->base, result, place, why, sizeof why);
     counts[kind->sends_wait][outcome]++;
-    um_tell_outcome(spot, kind->sends_wait, outcome, why);
+    um_tell_outcome(place, kind->sends_wait, outcome, why);
     free(result->output);
 }
 
-static void end_job(struct job *job, const struct kind_of_sends *kind) {
+static void end_trial(struct trial *trial, const struct kind_of_sends *kind) {
     struct result result;
     if (kind->found) {
-        um_read_found(job, &kind->found[job->spot]);
-        um_close_job(job);
-        job->pid = 0;
+        um_read_found(trial, &kind->found[trial->place]);
+        um_close_trial(trial);
+        trial->pid = 0;
         return;
     }
-    um_read_result(job, &result);
-    tell_result(kind, &kind->spots[job->spot], &result);
-    um_close_job(job);
-    job->pid = 0;
+    um_read_result(trial, &result);
+    tell_result(kind, &kind->places[trial->place], &result);
+    um_close_trial(trial);
+    trial->pid = 0;
 }
 
 /* ---- --every-schedule ---- */
@@ -100,9 +100,9 @@ static time_t begun;
 /* What is known is told when the searches that run have ended, which they do soon. */
 static void interrupt(int number) { is_interrupted = number; }
 
-static void interrupt_jobs(void) {
-    for (int k = 0; k < job_count; k++)
-        if (jobs[k].pid > 0) kill(jobs[k].pid, SIGINT);
+static void interrupt_trials(void) {
+    for (int k = 0; k < trial_count; k++)
+        if (trials[k].pid > 0) kill(trials[k].pid, SIGINT);
 }
 
 /* How far it is, on a terminal. */
@@ -115,35 +115,35 @@ static void tell_progress(int done, int count) {
 
 /* The program as it stands, before its places: a place of no rank. */
 static bool add_no_stop(struct kind_of_sends *kind) {
-    struct spot *spots = calloc((size_t)kind->count + 1, sizeof *spots);
-    if (!spots) return false;
-    spots[0] = (struct spot){.rank = -1, .name = "without a stop"};
-    if (kind->count) memcpy(&spots[1], kind->spots, (size_t)kind->count * sizeof *spots);
-    free(kind->spots);
-    kind->spots = spots;
+    struct place *places = calloc((size_t)kind->count + 1, sizeof *places);
+    if (!places) return false;
+    places[0] = (struct place){.rank = -1, .name = "without a stop"};
+    if (kind->count) memcpy(&places[1], kind->places, (size_t)kind->count * sizeof *places);
+    free(kind->places);
+    kind->places = places;
     kind->count = um_options.search_stops ? kind->count + 1 : 1;
     kind->found = calloc((size_t)kind->count, sizeof *kind->found);
     return kind->found != 0;
 }
 
-/* Runs the program for each place, `job_count` at the same time. */
-static bool run_spots(const struct kind_of_sends *kind, const char *launcher) {
+/* Runs the program for each place, `trial_count` at the same time. */
+static bool run_places(const struct kind_of_sends *kind, const char *launcher) {
     int next = 0, running = 0;
     while ((next < kind->count && !is_interrupted) || running > 0) {
-        int free_job = 0;
-        while (free_job < job_count && jobs[free_job].pid) free_job++;
+        int free_trial = 0;
+        while (free_trial < trial_count && trials[free_trial].pid) free_trial++;
         tell_progress(next - running, kind->count);
-        if (next < kind->count && free_job < job_count && !is_interrupted) {
-            jobs[free_job] = (struct job){.spot = next, .sends_wait = kind->sends_wait};
-            if (!um_start_job(&jobs[free_job], launcher, &kind->spots[next])) return false;
+        if (next < kind->count && free_trial < trial_count && !is_interrupted) {
+            trials[free_trial] = (struct trial){.place = next, .sends_wait = kind->sends_wait};
+            if (!um_start_trial(&trials[free_trial], launcher, &kind->places[next])) return false;
             next++;
             running++;
             continue;
         }
-        int done = wait_for_job();
-        if (is_interrupted) interrupt_jobs();
+        int done = wait_for_trial();
+        if (is_interrupted) interrupt_trials();
         if (done < 0) continue;
-        end_job(&jobs[done], kind);
+        end_trial(&trials[done], kind);
         running--;
     }
     return true;
@@ -154,28 +154,28 @@ int um_every_schedule(const char *launcher) {
     struct kind_of_sends kind = {.sends_wait = um_options.sends_wait};
     struct sigaction action = {.sa_handler = interrupt};   /* it ends a wait */
     if (!um_options.limit) um_options.limit = LIMIT;
-    if (!make_jobs()) return STATUS_USAGE;
+    if (!make_trials()) return STATUS_USAGE;
     if (!um_options.search_stops || !run_base(&kind, launcher)) kind.count = 0;
     if (!add_no_stop(&kind)) return STATUS_USAGE;
     sigaction(SIGINT, &action, 0);
     begun = time(0);
     printf(kind.count == 1 ? "%d place, at most %ld schedules\n" : "%d places, at most %ld schedules at each\n", kind.count, um_options.limit);
     fflush(stdout);
-    if (!run_spots(&kind, launcher)) return STATUS_USAGE;
+    if (!run_places(&kind, launcher)) return STATUS_USAGE;
     tell_progress(kind.count, kind.count);
-    int status = um_tell_all_found(kind.spots, kind.found, kind.count);
+    int status = um_tell_all_found(kind.places, kind.found, kind.count);
     for (int k = 0; k < kind.count; k++) free(kind.found[k].endings);
     free(kind.found);
-    free(kind.spots);
+    free(kind.places);
     free(kind.base.output);
-    free(jobs);
+    free(trials);
     fflush(stdout);
     return status;
 }
 
 /* Of many places, how many there are and about how long they take, before they are tried. */
 static void tell_estimate(const struct kind_of_sends *kind) {
-    double whole = kind->seconds * kind->count / job_count, left = um_options.seed ? whole / 2 : whole;
+    double whole = kind->seconds * kind->count / trial_count, left = um_options.seed ? whole / 2 : whole;
     if (kind->count < MANY) return;
     fprintf(stderr, "ulfm-mpirun: %d places with %s, about %.0f s; --sample N tries N of them%s\n", kind->count, kind->sends_wait ? "sends that wait" : "buffered sends", left,
             um_options.seed ? "" : ", and by --seed 1 each is gone on from where the run comes to it");
@@ -183,26 +183,26 @@ static void tell_estimate(const struct kind_of_sends *kind) {
 
 /* Plays the program once by its seed, and goes on from each place in a process of its own. */
 static bool run_branches(const struct kind_of_sends *kind, const char *launcher) {
-    struct job *job = &jobs[0];
-    *job = (struct job){.spot = -1, .sends_wait = kind->sends_wait, .branches = um_write_wanted(kind->spots, kind->count)};
+    struct trial *trial = &trials[0];
+    *trial = (struct trial){.place = -1, .sends_wait = kind->sends_wait, .branches = um_write_wanted(kind->places, kind->count)};
     struct result *results = calloc((size_t)kind->count, sizeof *results);
-    bool is_well = results && job->branches > 0 && um_start_job(job, launcher, 0);
-    while (is_well && wait_for_job() != 0) {}
-    if (is_well) is_well = um_read_branches(job, kind->spots, kind->count, results);
-    for (int k = 0; k < kind->count && is_well; k++) tell_result(kind, &kind->spots[k], &results[k]);
+    bool is_well = results && trial->branches > 0 && um_start_trial(trial, launcher, 0);
+    while (is_well && wait_for_trial() != 0) {}
+    if (is_well) is_well = um_read_branches(trial, kind->places, kind->count, results);
+    for (int k = 0; k < kind->count && is_well; k++) tell_result(kind, &kind->places[k], &results[k]);
     if (!is_well) fprintf(stderr, "ulfm-mpirun: the places can't be gone on from\n");
-    close(job->branches);
-    um_close_job(job);
-    job->pid = 0;
+    close(trial->branches);
+    um_close_trial(trial);
+    trial->pid = 0;
     free(results);
     return is_well;
 }
 
 static bool try_places(struct kind_of_sends *kind, const char *launcher) {
-    kind->count = um_choose_spots(kind->spots, kind->count);
+    kind->count = um_choose_places(kind->places, kind->count);
     tell_estimate(kind);
     begun = time(0);
-    bool is_well = um_options.seed ? run_branches(kind, launcher) : run_spots(kind, launcher);
+    bool is_well = um_options.seed ? run_branches(kind, launcher) : run_places(kind, launcher);
     tell_progress(kind->count, kind->count);
     return is_well;
 }
@@ -210,19 +210,19 @@ static bool try_places(struct kind_of_sends *kind, const char *launcher) {
 /* 0: each stop that was reached came out right. 1: not so. 2: it couldn't be tried. */
 int um_every_stop(const char *launcher) {
     bool is_well = true;
-    if (!make_jobs()) return STATUS_USAGE;
+    if (!make_trials()) return STATUS_USAGE;
     printf("%-10s %-22s %-7s %s\n", "stop", "call", "sends", "what came out");
     for (int k = 0; k < 2; k++) {
         struct kind_of_sends kind = {.sends_wait = k};
         if (!run_base(&kind, launcher)) is_well = false;
         else if (!try_places(&kind, launcher)) return STATUS_USAGE;
-        free(kind.spots);
+        free(kind.places);
         free(kind.base.output);
     }
     um_tell_counts(counts);
     for (int k = 0; k < 2; k++)
         for (int outcome = OTHER_STATUS; outcome < OUTCOMES; outcome++) is_well = is_well && counts[k][outcome] == 0;
-    free(jobs);
+    free(trials);
     fflush(stdout);
     return is_well ? 0 : 1;
 }

@@ -9,7 +9,7 @@ enum outcome { RIGHT, NOT_REACHED, OTHER_STATUS, OTHER_OUTPUT, FAILED, STUCK, LO
 enum fate { NO_FATE, ENDED, STOPPED, FAILED_ITSELF };
 
 /* A place where a rank may stop: before a call, or inside it. */
-struct spot {
+struct place {
     int rank, call, inside;
     char name[40];
 };
@@ -24,9 +24,9 @@ struct result {
 };
 
 /* A run of the program. */
-struct job {
+struct trial {
     pid_t pid;                  /* 0: none */
-    int spot;                   /* its number, -1: no stop */
+    int place;                   /* its number, -1: no stop */
     bool sends_wait;
     int files[3];               /* what it writes to standard output, to standard error, and for the table */
     int branches;               /* a file with the places from which it goes on in processes of their own, or 0 */
@@ -49,38 +49,38 @@ struct found {
 };
 
 /* Whether it is a place, and not the program without a further stop. */
-static inline bool is_place(const struct spot *spot) { return spot && spot->rank >= 0; }
+static inline bool is_place(const struct place *place) { return place && place->rank >= 0; }
 
-/* places.c */
-void um_path_of_schedule(const struct spot *spot, int number, char *path, size_t room);
-void um_read_found(const struct job *job, struct found *found);
+/* findings.c */
+void um_path_of_schedule(const struct place *place, int number, char *path, size_t room);
+void um_read_found(const struct trial *trial, struct found *found);
 bool um_is_right(const struct found *found);
-int um_tell_all_found(const struct spot *spots, const struct found *found, int count);
+int um_tell_all_found(const struct place *places, const struct found *found, int count);
 
-/* jobs.c */
+/* trials.c */
 int um_processors(void);
-bool um_start_job(struct job *job, const char *launcher, const struct spot *spot);
+bool um_start_trial(struct trial *trial, const char *launcher, const struct place *place);
 void um_read_report(char *text, struct result *result);
-void um_read_result(const struct job *job, struct result *result);
+void um_read_result(const struct trial *trial, struct result *result);
 void um_read_output(char *text, struct result *result);
-void um_close_job(struct job *job);
+void um_close_trial(struct trial *trial);
 char *um_read_all(int file);
 
-/* spots.c */
-struct spot *um_read_spots(const struct job *job, int *count);
-int um_compare_spots(const void *a, const void *b);
-int um_choose_spots(struct spot *spots, int count);
+/* places.c */
+struct place *um_read_places(const struct trial *trial, int *count);
+int um_compare_places(const void *a, const void *b);
+int um_choose_places(struct place *places, int count);
 
 /* branches.c */
-int um_write_wanted(const struct spot *spots, int count);
-bool um_read_branches(const struct job *job, const struct spot *spots, int count, struct result *results);
+int um_write_wanted(const struct place *places, int count);
+bool um_read_branches(const struct trial *trial, const struct place *places, int count, struct result *results);
 
 /* table.c */
 const char *um_words_of_outcome(enum outcome outcome);
 void um_text_of_stop(const struct stop *stop, char *text, size_t room);
-void um_tell_command(FILE *to, const struct spot *spot, bool sends_wait);
-enum outcome um_judge(const struct result *base, const struct result *result, const struct spot *spot, char *why, size_t room);
-void um_tell_outcome(const struct spot *spot, bool sends_wait, enum outcome outcome, const char *why);
+void um_tell_command(FILE *to, const struct place *place, bool sends_wait);
+enum outcome um_judge(const struct result *base, const struct result *result, const struct place *place, char *why, size_t room);
+void um_tell_outcome(const struct place *place, bool sends_wait, enum outcome outcome, const char *why);
 void um_tell_counts(int counts[2][OUTCOMES]);
 
 #endif

@@ -55,7 +55,7 @@ void um_live(void) {
         if (!um_me->life.has_finalized) um_stop_here(status);
         um_me->life.status = status;
     }
-    if (um_me->life.has_finalized) um_report("end %d %d\n", um_me->number, um_me->life.status);
+    if (um_me->life.has_finalized) um_tell_table("end %d %d\n", um_me->number, um_me->life.status);
     um_close_output(um_me);
     clear_rank();
     atomic_store(&um_me->shared.is_ended, 1);
@@ -121,7 +121,7 @@ void um_tell_late(void) {
     fprintf(stderr, "ulfm-mpirun: the time is over after %g seconds:\n", um_options.timeout);
     um_tell_places(true);
     um_write_rests(true);
-    um_report("late\n");
+    um_tell_table("late\n");
     um_end_run(STATUS_LATE);
 }
 

@@ -24,9 +24,9 @@ static void tell_word(FILE *to, const char *word) {
 }
 
 /* Writes the command that repeats a run. */
-void um_tell_command(FILE *to, const struct spot *spot, bool sends_wait) {
+void um_tell_command(FILE *to, const struct place *place, bool sends_wait) {
     fprintf(to, "           ulfm-mpirun -n %d", um_options.ranks);
-    if (is_place(spot)) fprintf(to, spot->inside ? " --stop %d@%d.%d" : " --stop %d@%d", spot->rank, spot->call, spot->inside);
+    if (is_place(place)) fprintf(to, place->inside ? " --stop %d@%d.%d" : " --stop %d@%d", place->rank, place->call, place->inside);
     for (int k = 0; k < um_options.stops; k++) {
         char text[80];
         um_text_of_stop(&um_options.stop[k], text, sizeof text);
@@ -58,15 +58,15 @@ static void first_difference(const char *base, const char *output, char *why, si
 }
 
 /* How a run with a stop came out, or without one, compared with how it should, and why. */
-enum outcome um_judge(const struct result *base, const struct result *result, const struct spot *spot, char *why, size_t room) {
+enum outcome um_judge(const struct result *base, const struct result *result, const struct place *place, char *why, size_t room) {
     *why = 0;
     if (result->end != RIGHT) {
         snprintf(why, room, ":%s", result->detail);
         return result->end;
     }
-    if (spot && result->fate[spot->rank] != STOPPED) return NOT_REACHED;
+    if (place && result->fate[place->rank] != STOPPED) return NOT_REACHED;
     for (int k = 0; k < um_options.ranks; k++) {
-        if ((spot && k == spot->rank) || (base->fate[k] == STOPPED && result->fate[k] == STOPPED)) continue;
+        if ((place && k == place->rank) || (base->fate[k] == STOPPED && result->fate[k] == STOPPED)) continue;
         if (result->fate[k] != ENDED) {
             snprintf(why, room, ": rank %d", k);
             return FAILED;
@@ -82,12 +82,12 @@ enum outcome um_judge(const struct result *base, const struct result *result, co
 }
 
 /* A line for a run, where it came out wrong or all are wanted, and the command below. */
-void um_tell_outcome(const struct spot *spot, bool sends_wait, enum outcome outcome, const char *why) {
+void um_tell_outcome(const struct place *place, bool sends_wait, enum outcome outcome, const char *why) {
     char stop[32];
     if ((outcome == RIGHT || outcome == NOT_REACHED) && !um_options.all) return;
-    snprintf(stop, sizeof stop, spot->inside ? "%d@%d.%d" : "%d@%d", spot->rank, spot->call, spot->inside);
-    printf("%-10s %-22s %-7s %s%s\n", stop, spot->name, sends_wait ? "wait" : "buffer", outcomes[outcome], why);
-    um_tell_command(stdout, spot, sends_wait);
+    snprintf(stop, sizeof stop, place->inside ? "%d@%d.%d" : "%d@%d", place->rank, place->call, place->inside);
+    printf("%-10s %-22s %-7s %s%s\n", stop, place->name, sends_wait ? "wait" : "buffer", outcomes[outcome], why);
+    um_tell_command(stdout, place, sends_wait);
 }
 
 /* How many places came out how. */

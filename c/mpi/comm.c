@@ -33,7 +33,7 @@ struct chain *um_new_chain(uint32_t context) {
 /* The position of the member that stands at a place of the context's group. */
 int um_position_at(const struct comm *comm, uint32_t place) {
     for (int k = 0; k < comm->size; k++)
-        if (comm->place[k] == place) return k;
+        if (comm->engine_position[k] == place) return k;
     return MPI_UNDEFINED;
 }
 
@@ -54,7 +54,7 @@ bool um_fill_comm(struct comm *comm, const struct group *group) {
         int member = group ? group->members[k] : whole.members[k], place = um_position_in(&whole, member);
         if (place == MPI_UNDEFINED) continue;
         if (member == um_me->number) comm->position = comm->size;
-        comm->place[comm->size] = (uint8_t)place;
+        comm->engine_position[comm->size] = (uint8_t)place;
         comm->members[comm->size++] = (uint8_t)member;
     }
     comm->is_part = comm->size < whole.size;

@@ -66,12 +66,12 @@ void um_decide(const struct comm *team, const struct wish *all, struct decided *
     *decided = (struct decided){0};
     for (int k = 0; k < team->size; k++) {
         common &= all[k].free;
-        decided->plans.colors[k] = all[k].color;
-        decided->plans.keys[k] = all[k].key;
+        decided->terms.colors[k] = all[k].color;
+        decided->terms.keys[k] = all[k].key;
     }
     decided->plane = common ? __builtin_ctz(common) : PLANES;
     for (int k = 0; k < team->size && decided->plane < PLANES; k++) {
-        if (all[k].begun[decided->plane] > decided->plans.begun) decided->plans.begun = all[k].begun[decided->plane];
+        if (all[k].begun[decided->plane] > decided->terms.begun) decided->terms.begun = all[k].begun[decided->plane];
         decided->is_old = decided->is_old || (all[k].old >> decided->plane & 1);
     }
 }
@@ -96,26 +96,26 @@ static int empty_plane(struct comm *team, int plane) {
 }
 
 /* The plane that all members of a team take, and what else they agree on. */
-int um_agree_on_plane(struct comm *team, int *plane, struct plans *plans) {
+int um_agree_on_plane(struct comm *team, int *plane, struct terms *terms) {
     struct wish own, all[MAX_RANKS];
     struct decided decided = {0};
     char verdict[VERDICT + sizeof decided];
     um_wait_for_copies(team->chain);
     um_wish_for(team->chain, &own);
-    own.color = plans->colors[0];
-    own.key = plans->keys[0];
+    own.color = terms->colors[0];
+    own.key = terms->keys[0];
     int code = um_gather_all(team, &own, sizeof own, all);
     if (team->position == 0 && code == MPI_SUCCESS) {
         um_decide(team, all, &decided);
-        decided.plans.marks = um_new_marks();
+        decided.terms.marks = um_new_marks();
     }
     memcpy(verdict + VERDICT, &decided, sizeof decided);
     code = um_spread_verdict(team, code, verdict, sizeof decided);
     memcpy(&decided, verdict + VERDICT, sizeof decided);
     *plane = decided.plane;
-    *plans = decided.plans;
+    *terms = decided.terms;
     if (code == MPI_SUCCESS && decided.is_old) code = empty_plane(team, *plane);
-    return code != MPI_SUCCESS || plans->marks ? code : MPI_ERR_NO_MEM;
+    return code != MPI_SUCCESS || terms->marks ? code : MPI_ERR_NO_MEM;
 }
 
 /* Takes the planes of a chain into use, up to this one. */
@@ -126,14 +126,14 @@ static int lengthen(struct chain *chain, int plane) {
 }
 
 /* Makes a communicator of a group on a plane of another one's chain. */
-int um_make_on_plane(struct comm *of, int plane, const struct group *group, const struct plans *plans, MPI_Comm *made) {
+int um_make_on_plane(struct comm *of, int plane, const struct group *group, const struct terms *terms, MPI_Comm *made) {
     struct chain *chain = of->chain;
     int code = lengthen(chain, plane);
     if (code != MPI_SUCCESS) return code;
-    chain->plane[plane].begun = plans->begun;
+    chain->plane[plane].begun = terms->begun;
     struct comm *comm = um_new_comm(chain, plane, of->handler, group);
     if (!comm) return MPI_ERR_NO_MEM;
-    comm->revoked = &plans->marks[comm->members[0]];
+    comm->revoked = &terms->marks[comm->members[0]];
     *made = um_handle_of(comm);
     return MPI_SUCCESS;
 }
@@ -155,12 +155,12 @@ int um_release_comm(struct comm *of, MPI_Comm *handle) {
 
 /* Makes a communicator of the same members, with none of what a program added to the other one. */
 int um_make_another(struct comm *of, MPI_Comm *made) {
-    struct plans plans = {0};
+    struct terms terms = {0};
     struct group group;
     int plane = 0;
     um_group_of(of, &group);
-    int code = um_agree_on_plane(of, &plane, &plans);
-    return code == MPI_SUCCESS ? um_make_on_plane(of, plane, &group, &plans, made) : code;
+    int code = um_agree_on_plane(of, &plane, &terms);
+    return code == MPI_SUCCESS ? um_make_on_plane(of, plane, &group, &terms, made) : code;
 }
 
 static int duplicate(struct comm *of, MPI_Comm *made) {

@@ -15,7 +15,7 @@ struct wish {
 struct decided {
     int plane;
     bool is_old;             /* a member had it before */
-    struct plans plans;
+    struct terms terms;
 };
 
 _Atomic int *um_new_marks(void);

@@ -37,8 +37,8 @@ static int begin_round(struct comm *of, struct copy *copy, const void *own, void
 static int agree(struct comm *of, struct copy *copy) {
     copy->all[of->position] = copy->own;
     um_decide(of, copy->all, &copy->decided);
-    copy->decided.plans.marks = copy->all[0].marks;
-    if (!copy->decided.plans.marks) return MPI_ERR_NO_MEM;
+    copy->decided.terms.marks = copy->all[0].marks;
+    if (!copy->decided.terms.marks) return MPI_ERR_NO_MEM;
     copy->is_emptied = !copy->decided.is_old;
     if (copy->is_emptied) return MPI_SUCCESS;
     copy->is_emptied = true;
@@ -50,7 +50,7 @@ static int agree(struct comm *of, struct copy *copy) {
 static int make(struct comm *of, struct copy *copy) {
     struct group group;
     um_group_of(of, &group);
-    int code = um_make_on_plane(of, copy->decided.plane, &group, &copy->decided.plans, copy->made);
+    int code = um_make_on_plane(of, copy->decided.plane, &group, &copy->decided.terms, copy->made);
     if (code != MPI_SUCCESS) return code;
     struct comm *made = um_comm_at(*copy->made);
     made->cart = copy->like.cart;

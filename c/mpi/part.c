@@ -9,13 +9,13 @@
 enum { CREATION = PLANES, NUMBERS = 4096 };
 
 /* Those of a color, by their keys and positions. */
-static void group_of_color(const struct comm *comm, const struct plans *plans, int color, struct group *group) {
+static void group_of_color(const struct comm *comm, const struct terms *terms, int color, struct group *group) {
     bool is_in[MAX_RANKS] = {false};
     group->size = 0;
     for (;;) {
         int next = -1;
         for (int k = 0; k < comm->size; k++)
-            if (plans->colors[k] == color && !is_in[k] && (next < 0 || plans->keys[k] < plans->keys[next])) next = k;
+            if (terms->colors[k] == color && !is_in[k] && (next < 0 || terms->keys[k] < terms->keys[next])) next = k;
         if (next < 0) return;
         is_in[next] = true;
         group->members[group->size++] = comm->members[next];
@@ -24,15 +24,15 @@ static void group_of_color(const struct comm *comm, const struct plans *plans, i
 
 /* Makes the communicator of those of a color, or none at those of MPI_UNDEFINED. */
 int um_split_comm(struct comm *of, int color, int key, MPI_Comm *made) {
-    struct plans plans = {.colors = {color}, .keys = {key}};
+    struct terms terms = {.colors = {color}, .keys = {key}};
     struct group group;
     int plane = 0;
     *made = MPI_COMM_NULL;
     int code = um_begin_collective(of);
-    if (code == MPI_SUCCESS) code = um_agree_on_plane(of, &plane, &plans);
+    if (code == MPI_SUCCESS) code = um_agree_on_plane(of, &plane, &terms);
     if (code != MPI_SUCCESS || color == MPI_UNDEFINED) return code;
-    group_of_color(of, &plans, color, &group);
-    return um_make_on_plane(of, plane, &group, &plans, made);
+    group_of_color(of, &terms, color, &group);
+    return um_make_on_plane(of, plane, &group, &terms, made);
 }
 
 int MPI_Comm_split(MPI_Comm comm, int color, int key, MPI_Comm *made) {
@@ -67,7 +67,7 @@ static bool is_within(const struct group *group, const struct comm *of) {
 int MPI_Comm_create(MPI_Comm comm, MPI_Group group, MPI_Comm *made) {
     struct comm *of = um_comm_at(comm);
     const struct group *members = um_group_at(group);
-    struct plans plans = {0};
+    struct terms terms = {0};
     int plane = 0;
     ENTER(of, MPI_UNDEFINED, MPI_UNDEFINED);
     if (!of) return um_fail(0, MPI_ERR_COMM);
@@ -75,16 +75,16 @@ int MPI_Comm_create(MPI_Comm comm, MPI_Group group, MPI_Comm *made) {
     if (!members || !is_within(members, of)) return um_fail(of, um_refuse_collective(of, MPI_ERR_GROUP));
     *made = MPI_COMM_NULL;
     int code = um_begin_collective(of);
-    if (code == MPI_SUCCESS) code = um_agree_on_plane(of, &plane, &plans);
+    if (code == MPI_SUCCESS) code = um_agree_on_plane(of, &plane, &terms);
     if (code != MPI_SUCCESS || !is_member(members)) return um_answer(of, code);
-    return um_answer(of, um_make_on_plane(of, plane, members, &plans, made));
+    return um_answer(of, um_make_on_plane(of, plane, members, &terms, made));
 }
 
 /* Only the members call it. They speak by themselves, with a number of the plane of creations that the tag gives. */
 int MPI_Comm_create_group(MPI_Comm comm, MPI_Group group, int tag, MPI_Comm *made) {
     struct comm *of = um_comm_at(comm);
     const struct group *members = um_group_at(group);
-    struct plans plans = {0};
+    struct terms terms = {0};
     int plane = 0;
     ENTER(of, MPI_UNDEFINED, tag);
     if (!of) return um_fail(0, MPI_ERR_COMM);
@@ -100,6 +100,6 @@ int MPI_Comm_create_group(MPI_Comm comm, MPI_Group group, int tag, MPI_Comm *mad
     team.is_part = of->is_part;
     team.plane = CREATION;
     team.begun = (unsigned)tag % NUMBERS;
-    int code = um_agree_on_plane(&team, &plane, &plans);
-    return um_answer(of, code != MPI_SUCCESS ? code : um_make_on_plane(of, plane, members, &plans, made));
+    int code = um_agree_on_plane(&team, &plane, &terms);
+    return um_answer(of, code != MPI_SUCCESS ? code : um_make_on_plane(of, plane, members, &terms, made));
 }

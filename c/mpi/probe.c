@@ -45,7 +45,7 @@ static void take_message(struct probe *probe, uint64_t id) {
 static void look(struct probe *probe) {
     struct comm *comm = probe->comm;
     uint32_t context = comm->context;
-    uint32_t source = comm->is_self ? comm->place[0] : probe->source == MPI_ANY_SOURCE ? ULFM_ANY : comm->place[probe->source];
+    uint32_t source = comm->is_self ? comm->engine_position[0] : probe->source == MPI_ANY_SOURCE ? ULFM_ANY : comm->engine_position[probe->source];
     uint32_t tag = probe->tag == MPI_ANY_TAG ? ULFM_ANY : (uint32_t)probe->tag, code;
     ulfm_status told;
     uint64_t id;
@@ -88,7 +88,7 @@ static int run_probe(struct probe *probe, bool waits) {
     else {
         um_progress();
         look(probe);
-        if (probe->found || probe->code != MPI_SUCCESS) um_plan_call();
+        if (probe->found || probe->code != MPI_SUCCESS) um_count_call();
     }
     return waits && probe->code == MPIX_ERR_PROC_FAILED_PENDING ? MPIX_ERR_PROC_FAILED : probe->code;
 }

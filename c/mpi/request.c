@@ -109,7 +109,7 @@ void um_start_receive(struct request *request, void *buffer, size_t room) {
         return;
     }
     const struct comm *comm = request->comm;
-    uint32_t source = comm->is_self ? comm->place[0] : request->peer == MPI_ANY_SOURCE ? ULFM_ANY : comm->place[request->peer];
+    uint32_t source = comm->is_self ? comm->engine_position[0] : request->peer == MPI_ANY_SOURCE ? ULFM_ANY : comm->engine_position[request->peer];
     uint32_t tag = request->tag == MPI_ANY_TAG ? ULFM_ANY : (uint32_t)request->tag, code = ULFM_REVOKED;
     if (!comm->is_part || !um_is_revoked(comm)) code = ulfm_irecv(um_me->slot, request->context, source, tag, BODY, &request->id);
     link_open(request);
@@ -120,7 +120,7 @@ void um_start_receive(struct request *request, void *buffer, size_t room) {
 /* Sends a message of the program. Where `parcel` isn't null, it gets a parcel whose flag tells the match. */
 int um_send_now(struct comm *comm, int peer, int tag, const void *buffer, size_t length, struct parcel **parcel) {
     if (comm->is_part && um_is_revoked(comm)) return MPIX_ERR_REVOKED;
-    return um_send_body(comm->context, comm->place[peer], comm->members[peer], tag, buffer, length, parcel);
+    return um_send_body(comm->context, comm->engine_position[peer], comm->members[peer], tag, buffer, length, parcel);
 }
 
 /* Starts the send of a request. A refusal is told where the request ends. */

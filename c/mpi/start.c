@@ -25,7 +25,7 @@ void um_enter_call(const char *call, const void *from, struct comm *comm, int pe
     if (um_me->recovery.known_count < atomic_load_explicit(&um_stopped_ranks, memory_order_relaxed)) um_note_failures();
     um_me->call = (struct call){.name = call, .from = from, .comm = comm, .peer = peer, .tag = tag};
     um_me->played.looks = 0;
-    if (counts) um_plan_call();
+    if (counts) um_count_call();
 }
 
 int MPI_Init_thread(int *argc, char ***argv, int required, int *provided) {
@@ -92,7 +92,7 @@ int MPI_Abort(MPI_Comm comm, int errorcode) {
         um_begin_report();
         fprintf(stderr, "ulfm-mpirun: rank %d called MPI_Abort with %d%s: the run ends\n", um_me->number, errorcode, um_line_of(um_me, line, sizeof line));
         um_write_rests(true);
-        um_report("abort %d %d\n", um_me->number, errorcode);
+        um_tell_table("abort %d %d\n", um_me->number, errorcode);
     }
     um_end_run((errorcode & 255) ? errorcode & 255 : 1);
 }

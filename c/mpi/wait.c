@@ -77,7 +77,7 @@ int MPI_Test(MPI_Request *handle, int *flag, MPI_Status *status) {
     um_progress();
     int pends = um_look_at(request);
     *flag = request->over;
-    if (request->over || pends) um_plan_call();
+    if (request->over || pends) um_count_call();
     if (request->over) return um_answer(comm, release(handle, request, status));
     return pends ? um_answer(comm, pending(request, status)) : MPI_SUCCESS;
 }
@@ -215,7 +215,7 @@ int MPI_Testall(int count, MPI_Request handles[], int *flag, MPI_Status statuses
     look_at_several(&several);
     *flag = several.over == several.active || several.broken;
     if (!*flag) return MPI_SUCCESS;
-    if (several.active) um_plan_call();
+    if (several.active) um_count_call();
     return release_all(&several, statuses);
 }
 
@@ -245,7 +245,7 @@ int MPI_Testany(int count, MPI_Request handles[], int *index, int *flag, MPI_Sta
     if (code != MPI_SUCCESS) return um_fail(0, code);
     um_progress();
     *flag = are_done(&several, true);
-    if (*flag && several.active) um_plan_call();
+    if (*flag && several.active) um_count_call();
     return release_one(&several, index, status);
 }
 
@@ -281,6 +281,6 @@ int MPI_Testsome(int incount, MPI_Request handles[], int *outcount, int indices[
     int code = check_requests(incount, handles, outcount && (indices || incount == 0));
     if (code != MPI_SUCCESS) return um_fail(0, code);
     um_progress();
-    if (are_done(&several, true) && several.active) um_plan_call();
+    if (are_done(&several, true) && several.active) um_count_call();
     return release_some(&several, outcount, indices, statuses);
 }

@@ -1,10 +1,10 @@
 /* What a stop loses: of the items that a rank sent to another one, and that this one hasn't taken when the rank stops, the last ones may never come, for
-   each receiver apart. The engine loses what waits to go out. So before the first item that is to be lost the ring is filled with letters that nobody
+   each receiver apart. The engine loses what waits to go out. So before the first item that is to be lost the ring is filled with messages that nobody
    receives, and these are taken when the loss is met. A loss has to be known before: from the choices that are given, or from the file. */
 #include "search/search.h"
 #include <stdlib.h>
 
-enum { OF_LETTERS = 1, TAG = 32767 };   /* the first duplicate of the world; no collective has this tag (collect.c) */
+enum { OF_FILLERS = 1, TAG = 32767 };   /* the first duplicate of the world; no collective has this tag (collect.c) */
 
 /* From each rank to each. */
 static struct loss {
@@ -24,16 +24,16 @@ void um_plan_loss(int from, int to, int kept) { losses[from][to] = (struct loss)
 /* Whether what a rank sent may be lost where it stops. */
 bool um_can_lose(int from) {
     ulfm_group group;
-    return um_options.limit && !um_options.no_loss && ulfm_group_of(&um_ranks[from].home, OF_LETTERS, &group) == ULFM_OK;
+    return um_options.limit && !um_options.no_loss && ulfm_group_of(&um_ranks[from].home, OF_FILLERS, &group) == ULFM_OK;
 }
 
 /* It has stopped. */
 bool um_may_lose(int from) { return um_players[from].has_stopped && um_can_lose(from); }
 
-/* Whether a letter that nobody receives is first. */
+/* Whether a message that nobody receives is first. */
 bool um_is_blocked(int from, int to) {
     const ulfm_next_item *head = &um_heads[from][to];
-    return losses[from][to].is_blocked && head->kind == ULFM_MESSAGE && head->comm == OF_LETTERS && head->tag == TAG;
+    return losses[from][to].is_blocked && head->kind == ULFM_MESSAGE && head->comm == OF_FILLERS && head->tag == TAG;
 }
 
 /* What a rank sent went out: nothing more does where the rest is to be lost. */
@@ -43,12 +43,12 @@ void um_block_rings(int from) {
         struct loss *loss = &losses[from][to];
         if (!loss->is_planned || loss->is_blocked || um_count_of_pushed(from, to) < loss->kept) continue;
         loss->is_blocked = true;
-        for (int k = 0; k < um_options.capacity; k++) __real_ulfm_isend(&um_ranks[from].home, OF_LETTERS, (uint32_t)to, TAG, 0, 0);
+        for (int k = 0; k < um_options.capacity; k++) __real_ulfm_isend(&um_ranks[from].home, OF_FILLERS, (uint32_t)to, TAG, 0, 0);
         ulfm_push(&um_ranks[from].home, &moved);
     }
 }
 
-/* Takes the letters away where they are first. What waits behind them comes. */
+/* Takes these messages away where they are first. What waits behind them comes. */
 void um_unblock(int from, int to) {
     uint32_t moved;
     if (um_is_blocked(from, to)) losses[from][to].is_planned = false;

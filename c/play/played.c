@@ -102,7 +102,7 @@ static void play_schedule(void) {
         if (alarms) um_tell_late();
     }
     if (um_is_searching() && um_cut_of_search() != NOT_CUT) return;
-    if (!has_room) um_report("long\n");
+    if (!has_room) um_tell_table("long\n");
     else if (!have_all_ended()) tell_end();
 }
 

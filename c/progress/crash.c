@@ -89,7 +89,7 @@ static void crashed(int number, siginfo_t *told, void *context) {
         length += snprintf(line + length, sizeof line - (size_t)length,
                            "ulfm-mpirun: it was in %.200s, whose variables all ranks share: linked statically, each rank has its own\n", spot.library);
     if (write(2, line, (size_t)length) < 0) length = 0;
-    um_report("crash %d %d\n", rank ? rank->number : -1, number);
+    um_tell_table("crash %d %d\n", rank ? rank->number : -1, number);
     if (is_first) um_write_rests(false);
     if (!um_is_played) um_remove_copies();
     if (!um_is_played) signal(number, SIG_DFL);

@@ -85,7 +85,7 @@ static void tell_place(struct rank *rank, bool is_late) {
         return;
     }
     if (is_late) failures_of(rank, failures, sizeof failures);
-    um_report("at %d %s%s\n", rank->number, call->name, failures);
+    um_tell_table("at %d %s%s\n", rank->number, call->name, failures);
     tell_peer(rank, peer, sizeof peer);
     fprintf(stderr, "%s %s%s%s%s (call %d)%s\n", rank->played.loops ? "loops over" : rank->shared.idle ? "waits in" : "runs, after", call->name, peer,
             name_of(call->comm, name, sizeof name), line, rank->plan.calls, failures);
@@ -109,6 +109,6 @@ void um_tell_stuck(void) {
     um_write_rests(true);
     bool loops = false;
     for (int k = 0; k < um_options.ranks; k++) loops = loops || um_ranks[k].played.loops;
-    um_report(loops ? "loops\n" : "stuck\n");
+    um_tell_table(loops ? "loops\n" : "stuck\n");
     um_end_run(STATUS_STUCK);
 }

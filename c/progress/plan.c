@@ -29,7 +29,7 @@ static void vary(void) {
 
 static void stop_by_plan(void) {
     um_me->life.is_planned = true;
-    um_report("stopped %d\n", um_me->number);
+    um_tell_table("stopped %d\n", um_me->number);
     um_stop_here(0);
 }
 
@@ -49,17 +49,17 @@ static void look_at_plan(void) {
 }
 
 /* A call that counts is reached. */
-void um_plan_call(void) {
+void um_count_call(void) {
     um_me->plan.calls++;
     um_me->plan.insides = 0;
-    if (um_options.calls) um_report("call %d %d %s\n", um_me->number, um_me->plan.calls, um_me->call.name);
+    if (um_options.calls) um_tell_table("call %d %d %s\n", um_me->number, um_me->plan.calls, um_me->call.name);
     vary();
     look_at_plan();
 }
 
 /* A place inside the call is reached. */
-void um_plan_inside(void) {
+void um_count_inside(void) {
     um_me->plan.insides++;
-    if (um_options.calls) um_report("inside %d %d %d\n", um_me->number, um_me->plan.calls, um_me->plan.insides);
+    if (um_options.calls) um_tell_table("inside %d %d %d\n", um_me->number, um_me->plan.calls, um_me->plan.insides);
     look_at_plan();
 }

@@ -6,8 +6,8 @@
 #include "progress/rank.h"
 #include <signal.h>
 
-/* report.c */
-void um_report(const char *format, ...) __attribute__((format(printf, 1, 2)));
+/* tell_table.c */
+void um_tell_table(const char *format, ...) __attribute__((format(printf, 1, 2)));
 
 /* room.c: room for one more in an array of `count`; false where there is no memory. */
 bool um_grow(void *array, int count, size_t size);
@@ -52,7 +52,7 @@ void um_tell_places(bool is_late);
 void um_tell_stuck(void);
 
 /* plan.c */
-void um_plan_call(void);
-void um_plan_inside(void);
+void um_count_call(void);
+void um_count_inside(void);
 
 #endif

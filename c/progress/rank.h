@@ -48,7 +48,7 @@ struct comm {
     unsigned repeats;      /* the number of the persistent one that is started now, or 0 */
     int size, position;
     uint8_t members[MAX_RANKS];  /* world ranks */
-    uint8_t place[MAX_RANKS];    /* where each member stands in the context's group */
+    uint8_t engine_position[MAX_RANKS];   /* where each member stands in the context's group */
     MPI_Errhandler handler;
     bool is_self;
     bool is_part;                /* not all of the context's group are members */
@@ -67,7 +67,7 @@ struct group {
 };
 
 /* What the members of a new communicator agree on, besides its plane. */
-struct plans {
+struct terms {
     unsigned begun;              /* the collectives that began on the plane before */
     _Atomic int *marks;          /* of parts: the marks of revocation, by the first member's world rank */
     int colors[MAX_RANKS], keys[MAX_RANKS];   /* of MPI_Comm_split, by positions; before, the own ones stand first */

@@ -35,7 +35,7 @@ void um_stop_here(int status) {
     if (!rank->life.has_finalized && !rank->life.has_stopped) {
         rank->life.has_stopped = true;
         atomic_fetch_add(&um_stopped_ranks, 1);
-        if (!rank->life.is_planned) um_report("failed %d %d\n", rank->number, status);
+        if (!rank->life.is_planned) um_tell_table("failed %d %d\n", rank->number, status);
         ulfm_stop(rank->slot);
         um_drain();
     }
@@ -92,7 +92,7 @@ static void end_by_thread(const char *call, int status) {
     um_begin_report();
     fprintf(stderr, "ulfm-mpirun: rank %d called %s with %d in a further thread: the run ends\n", um_owner->number, call, status);
     um_write_rests(true);
-    um_report("abort %d %d\n", um_owner->number, status);
+    um_tell_table("abort %d %d\n", um_owner->number, status);
     um_end_run(status & 255);
 }
 

@@ -98,9 +98,9 @@ int MPIX_Comm_agree(MPI_Comm comm, int *flag) {
     if (of->is_part) return um_answer(of, of->size > 1 ? NOT_ON_PARTS : MPI_SUCCESS);
     int code = begin(&agreement, of, flag);
     for (bool is_over = code != MPI_SUCCESS; !is_over; is_over = is_last(&agreement, &code)) {
-        um_plan_inside();
+        um_count_inside();
         um_wait_until(is_agreed, &agreement, true);
-        um_plan_inside();
+        um_count_inside();
     }
     return um_answer(of, code);
 }
@@ -137,7 +137,7 @@ int MPIX_Comm_iagree(MPI_Comm comm, int *flag, MPI_Request *handle) {
     int code = um_new_recovery(of, look_at_agreement, sizeof(struct agreement), &request);
     if (code == MPI_SUCCESS && of->is_part) um_end_request(request, MPI_SUCCESS);
     else if (code == MPI_SUCCESS) code = begin(request->more, of, flag);
-    if (code == MPI_SUCCESS && !of->is_part) um_plan_inside();
+    if (code == MPI_SUCCESS && !of->is_part) um_count_inside();
     return um_give_recovery(of, code, request, handle);
 }
 

@@ -54,7 +54,7 @@ static int enter(struct shrink *shrink, struct comm *comm, MPI_Comm *handle) {
     shrink->code = ulfm_enter_shrink(um_me->slot, shrink->context);
     if (shrink->code != ULFM_OK) return shrink->code == ULFM_ALREADY_MADE ? ONE_AT_A_TIME : um_class_of(shrink->code);
     um_progress();
-    um_plan_inside();
+    um_count_inside();
     return MPI_SUCCESS;
 }
 
@@ -84,7 +84,7 @@ int MPIX_Comm_shrink(MPI_Comm comm, MPI_Comm *made) {
     int code = enter(&shrink, of, made);
     if (code != MPI_SUCCESS) return um_fail(of, code);
     um_wait_until(is_shrunk, &shrink, true);
-    if (shrink.code == ULFM_OK) um_plan_inside();
+    if (shrink.code == ULFM_OK) um_count_inside();
     return um_answer(of, adopt(&shrink));
 }
 

@@ -17,15 +17,15 @@ int um_processors(void) {
 }
 
 /* The words of a search at a place, or of a first run without one: how many there are. */
-static int words_of_search(char *words[], char texts[][64], const struct spot *spot) {
+static int words_of_search(char *words[], char texts[][64], const struct place *place) {
     static char path[512];
     int count = 0;
-    if (!spot) {
+    if (!place) {
         words[count++] = "--seed";
         words[count++] = "1";
         return count;
     }
-    um_path_of_schedule(spot, 1, path, sizeof path);
+    um_path_of_schedule(place, 1, path, sizeof path);
     snprintf(texts[0], 64, "%ld", um_options.limit);
     snprintf(texts[1], 64, "%ld", um_options.checks);
     words[count++] = "--search";
@@ -41,9 +41,9 @@ static int words_of_search(char *words[], char texts[][64], const struct spot *s
 }
 
 /* The words of a run that goes on from each place: how many there are. */
-static int words_of_branches(char *words[], char texts[][64], const struct job *job) {
+static int words_of_branches(char *words[], char texts[][64], const struct trial *trial) {
     int count = 0;
-    snprintf(texts[0], 64, "%d", job->branches);
+    snprintf(texts[0], 64, "%d", trial->branches);
     snprintf(texts[1], 64, "%d", um_options.jobs ? um_options.jobs : um_processors());
     words[count++] = "--branches";
     words[count++] = texts[0];
@@ -54,7 +54,7 @@ static int words_of_branches(char *words[], char texts[][64], const struct job *
 }
 
 /* Fills in the words of a run, before those of the program: how many there are. */
-static int words_of(char *words[], const char *launcher, char texts[][64], const struct job *job, const struct spot *spot) {
+static int words_of(char *words[], const char *launcher, char texts[][64], const struct trial *trial, const struct place *place) {
     int count = 0;
     words[count++] = (char *)(uintptr_t)launcher;
     words[count++] = "-n";
@@ -66,70 +66,70 @@ static int words_of(char *words[], const char *launcher, char texts[][64], const
     words[count++] = "--rounds";
     words[count++] = texts[3];
     snprintf(texts[0], 64, "%d", um_options.ranks);
-    snprintf(texts[1], 64, "%d", job->files[2]);
+    snprintf(texts[1], 64, "%d", trial->files[2]);
     snprintf(texts[2], 64, "%g", um_options.timeout > 0 ? um_options.timeout : (double)SECONDS);
     snprintf(texts[3], 64, "%d", um_options.rounds);
-    if (is_place(spot)) {
+    if (is_place(place)) {
         words[count++] = "--stop";
         words[count++] = texts[4];
-        snprintf(texts[4], 64, spot->inside ? "%d@%d.%d" : "%d@%d", spot->rank, spot->call, spot->inside);
+        snprintf(texts[4], 64, place->inside ? "%d@%d.%d" : "%d@%d", place->rank, place->call, place->inside);
     }
     for (int k = 0; k < um_options.stops; k++) {
         words[count++] = "--stop";
         words[count++] = texts[8 + k];
         um_text_of_stop(&um_options.stop[k], texts[8 + k], 64);
     }
-    if (um_options.every_schedule) count += words_of_search(&words[count], &texts[6], spot);
-    if (!spot && !job->branches) words[count++] = "--calls";
-    if (job->branches) count += words_of_branches(&words[count], &texts[6], job);
+    if (um_options.every_schedule) count += words_of_search(&words[count], &texts[6], place);
+    if (!place && !trial->branches) words[count++] = "--calls";
+    if (trial->branches) count += words_of_branches(&words[count], &texts[6], trial);
     if (um_options.seed) {
         words[count++] = "--seed";
         words[count++] = texts[5];
         snprintf(texts[5], 64, "%llu", (unsigned long long)um_options.seed);
     }
     words[count++] = "--sends";
-    words[count++] = job->sends_wait ? "wait" : "buffer";
+    words[count++] = trial->sends_wait ? "wait" : "buffer";
     words[count++] = (char *)(uintptr_t)um_options.program;
     return count;
 }
 
 /* In the process of a run: becomes the launcher. */
-static void become(pid_t parent, const struct job *job, const char *launcher, const struct spot *spot) {
+static void become(pid_t parent, const struct trial *trial, const char *launcher, const struct place *place) {
     char texts[TEXTS][64];
     char **words = calloc((size_t)(MOST_WORDS + um_options.count + 1), sizeof *words);
     int none = open("/dev/null", O_RDONLY);
     prctl(PR_SET_PDEATHSIG, SIGTERM);   /* who ends the table ends its runs */
     if (!words || none < 0 || getppid() != parent) _exit(STATUS_USAGE);
-    int count = words_of(words, launcher, texts, job, spot);
+    int count = words_of(words, launcher, texts, trial, place);
     for (int k = 0; k < um_options.count; k++) words[count++] = um_options.words[k];
     dup2(none, 0);
-    dup2(job->files[0], 1);
-    dup2(job->files[1], 2);
-    fcntl(job->files[2], F_SETFD, 0);
-    if (job->branches) fcntl(job->branches, F_SETFD, 0);
+    dup2(trial->files[0], 1);
+    dup2(trial->files[1], 2);
+    fcntl(trial->files[2], F_SETFD, 0);
+    if (trial->branches) fcntl(trial->branches, F_SETFD, 0);
     execv("/proc/self/exe", words);
     _exit(STATUS_USAGE);
 }
 
 /* Starts a run with a stop, or with none. False where no process can be had. */
-bool um_start_job(struct job *job, const char *launcher, const struct spot *spot) {
+bool um_start_trial(struct trial *trial, const char *launcher, const struct place *place) {
     for (int k = 0; k < 3; k++) {
-        job->files[k] = memfd_create("ulfm-run", MFD_CLOEXEC);
-        if (job->files[k] < 0) {
+        trial->files[k] = memfd_create("ulfm-run", MFD_CLOEXEC);
+        if (trial->files[k] < 0) {
             fprintf(stderr, "ulfm-mpirun: no file for a run\n");
             return false;
         }
     }
     fflush(stdout);
     pid_t own = getpid();
-    job->pid = fork();
-    if (job->pid == 0) become(own, job, launcher, spot);
-    if (job->pid < 0) fprintf(stderr, "ulfm-mpirun: no process for a run\n");
-    return job->pid > 0;
+    trial->pid = fork();
+    if (trial->pid == 0) become(own, trial, launcher, place);
+    if (trial->pid < 0) fprintf(stderr, "ulfm-mpirun: no process for a run\n");
+    return trial->pid > 0;
 }
 
-void um_close_job(struct job *job) {
-    for (int k = 0; k < 3; k++) close(job->files[k]);
+void um_close_trial(struct trial *trial) {
+    for (int k = 0; k < 3; k++) close(trial->files[k]);
 }
 
 /* All of a file, or null where there is no memory. */
@@ -194,11 +194,11 @@ void um_read_report(char *text, struct result *result) {
 /* Reads what a run wrote, which is cut into its lines. */
 void um_read_output(char *text, struct result *result) { result->output = sorted(text); }
 
-void um_read_result(const struct job *job, struct result *result) {
-    char *text = um_read_all(job->files[2]);
+void um_read_result(const struct trial *trial, struct result *result) {
+    char *text = um_read_all(trial->files[2]);
     um_read_report(text, result);
     free(text);
-    text = um_read_all(job->files[0]);
+    text = um_read_all(trial->files[0]);
     um_read_output(text, result);
     free(text);
 }

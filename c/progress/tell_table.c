@@ -6,7 +6,7 @@
 #include <unistd.h>
 
 /* A line for --every-stop. */
-void um_report(const char *format, ...) {
+void um_tell_table(const char *format, ...) {
     static pthread_mutex_t lock = PTHREAD_MUTEX_INITIALIZER;
     char line[160];
     va_list words;
