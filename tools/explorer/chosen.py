@@ -1,6 +1,6 @@
 """Jobs by hand: what each kind of schedule gives, and jobs as long as there can be."""
 
-from toml_text import job_text
+from .toml_text import job_text
 
 # Jobs by hand, each with a step and its answers over lanes and over shared inboxes: a wrong carrier or a wrong reduction loses one.
 CHOSEN = [

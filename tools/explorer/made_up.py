@@ -1,8 +1,8 @@
 """Made-up jobs: small ones, with what schedules can turn: stops, full inboxes, revocations, shrinks, agreements, receives and probes
 from any source, cancels, duplicates and acknowledgements."""
 
-import reacting
-from toml_text import job_text
+from . import reacting
+from .toml_text import job_text
 
 MOST_STEPS = 12
 FLAGS = [0, 3, 5, 6, 7, 12, 4294967295]

@@ -1,4 +1,4 @@
-//! All outcomes of a job, over every schedule. `tools/explore` builds this and calls it with the job, in the plain form, on standard
+//! All outcomes of a job, over every schedule. `tools/developers/explore` builds this and calls it with the job, in the plain form, on standard
 //! input. It shares no code with the program that it checks, and nothing of it is proved.
 //!
 //!     explorer [--carrier lanes|shared] [--reduce NAMES] [--limit N] [--capacity N] [--stop R.K].. [--left R.K]..

@@ -1,7 +1,7 @@
 """Names, conditions and expectations for the steps of made-up jobs."""
 import collections
 
-import front
+from . import front
 
 # Words with which the answers of an op may begin.
 WORDS = {
