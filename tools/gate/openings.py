@@ -1,0 +1,41 @@
+"""Openings of sentences that pages don't have: there the subject comes first, and a condition begins with 'if'."""
+import re
+from collections import namedtuple
+
+from archive.links import without_blocks
+
+# How sentences begin that are refused, such a sentence, and how it is said instead.
+Opening = namedtuple("Opening", "begins refused right")
+REFUSED = [
+    Opening(r"Where [a-z`]", "Where a rank stops, its step ends.", "If a rank stops, its step ends."),
+    Opening(r"What ", "What is sent comes once.", "A message comes once."),
+    Opening(r"Who(ever)? ", "Who adopts is in the new group.", "A rank that adopts is in the new group."),
+    Opening(r"Which ", "Which rank dies is said by the place.", "The place says which rank dies."),
+    Opening(r"That (a|an|it|no|somebody|the|there|these|they|two) ", "That no rank hangs is proved.", "It is proved that no rank hangs."),
+    Opening(r"Of ", "Of `run` it is proved that it agrees.", "For `run` it is proved that it agrees."),
+    Opening(r"By `", "By `--stop` a rank ends.", "With `--stop` a rank ends."),
+    Opening(r"Behind ", "Behind a step stands its answer.", "A step is followed by its answer."),
+    Opening(r"Else ", "Else it is refused.", "Otherwise it is refused."),
+]
+# Pages that are records, and the page on C.
+LEFT_OUT = {"DECISIONS.md", "MEASURED.md", "CHANGELOG.md", "C.md"}
+HEAD_OF_TABLE = re.compile(r"^\|.*\n(?=\|[-|]+\n)", re.MULTILINE)
+LINE_AS_IT_IS = re.compile(r"^(    |#).*$", re.MULTILINE)
+PARTS = re.compile(r"\n\s*\n|\n(?= *(?:[-*]|\d+\.) )|\|")
+BULLET = re.compile(r"^([-*]|\d+\.)\s+")
+END = re.compile(r"(?<=[.:;?!])\s+(?=[A-Z`])")
+
+
+def sentences(page):
+    """The sentences of a page, without what it shows, its headings and the heads of its tables."""
+    text = LINE_AS_IT_IS.sub("", HEAD_OF_TABLE.sub("", without_blocks(page)))
+    for part in PARTS.split(text):
+        words = " ".join(BULLET.sub("", part.strip()).replace("**", "").split())
+        yield from END.split(words)
+
+
+def refused(page):
+    """The sentences of a page that begin as they shouldn't. A question may."""
+    for sentence in sentences(page):
+        if not sentence.endswith("?") and any(re.match(it.begins, sentence) for it in REFUSED):
+            yield sentence
