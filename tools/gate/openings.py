@@ -17,8 +17,8 @@ REFUSED = [
     Opening(r"Behind ", "Behind a step stands its answer.", "A step is followed by its answer."),
     Opening(r"Else ", "Else it is refused.", "Otherwise it is refused."),
 ]
-# Pages that are records, and the page on C.
-LEFT_OUT = {"DECISIONS.md", "MEASURED.md", "CHANGELOG.md", "C.md"}
+# Pages that are records.
+LEFT_OUT = {"DECISIONS.md", "MEASURED.md", "CHANGELOG.md"}
 HEAD_OF_TABLE = re.compile(r"^\|.*\n(?=\|[-|]+\n)", re.MULTILINE)
 LINE_AS_IT_IS = re.compile(r"^(    |#).*$", re.MULTILINE)
 PARTS = re.compile(r"\n\s*\n|\n(?= *(?:[-*]|\d+\.) )|\|")
