@@ -4,7 +4,7 @@
     each in a thread of its own: rank.isend(0, 1, 7, b"abc"), rank.wait(rank.irecv(0, 0, 7, 100), 100), ..
     at the end: rank.end()
 
-The library is the file that ULFM_LIBRARY names, else c/out/libulfm.so, which `tools/build c` makes.
+The library is the file that ULFM_LIBRARY names, else c/out/libulfm.so, which `tools/kit/build c` makes.
 """
 import ctypes
 import os
