@@ -56,9 +56,9 @@ static bool has_come(void *of, bool is_settled) {
 /* Waits for a message, and releases its request. */
 int um_collect_finish(struct request *request) {
     if (!request) return MPI_ERR_NO_MEM;
-    um_me->call.waits_for = 1u << request->comm->members[request->peer];
+    um_set_awaited(1u << request->comm->members[request->peer]);
     if (!request->over) um_wait_until(has_come, request, false);
-    um_me->call.waits_for = 0;
+    um_set_awaited(0);
     if (!request->over) um_withdraw(request);
     int code = request->status.cancelled ? MPIX_ERR_REVOKED : request->code;
     um_free_request(request);

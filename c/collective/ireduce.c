@@ -2,6 +2,7 @@
    when they are there, so all results have the same bits, as those of reductions that block. */
 #include "collective/collective.h"
 #include "collective/reduce.h"
+#include "progress/progress.h"
 #include "types/types.h"
 #include <stdlib.h>
 #include <string.h>
@@ -69,7 +70,7 @@ int um_end_reduction(struct reduction *of, int code) {
         code = um_fold_parts(of, of->last, of->result + VERDICT);
         if (code == MPI_SUCCESS) um_deliver_own_elements(of, of->recvbuf);
         of->type = kept;
-        um_me->call = call;
+        um_set_call(call);
     }
     um_free_reduction(of);
     return code;

@@ -24,6 +24,7 @@ static pthread_cond_t end_came = PTHREAD_COND_INITIALIZER;
 static int ended_count;
 
 static void clear_rank(void) {
+    um_forget_comm();
     um_clear_windows();
     um_clear_requests();
     um_clear_messages();
@@ -86,6 +87,7 @@ void um_prepare_rank(struct rank *rank, int number) {
     rank->number = number;
     rank->slot = &rank->home;
     pthread_mutex_init(&rank->sent.lock, 0);
+    pthread_mutex_init(&rank->call_lock, 0);
     rank->plan.random = um_options.yields * 0x9E3779B97F4A7C15u + (uint64_t)number * 0xBF58476D1CE4E5B9u + 1;
 }
 

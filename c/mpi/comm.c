@@ -157,7 +157,7 @@ int MPI_Comm_set_name(MPI_Comm comm, const char *name) {
     ENTER_LOOK(of, MPI_UNDEFINED, MPI_UNDEFINED);
     if (!of) return um_fail(0, MPI_ERR_COMM);
     if (!name) return um_fail(of, MPI_ERR_ARG);
-    snprintf(of->name, sizeof of->name, "%s", name);
+    um_name_comm(of, name);
     return MPI_SUCCESS;
 }
 

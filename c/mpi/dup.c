@@ -199,7 +199,7 @@ int MPI_Comm_free(MPI_Comm *comm) {
     struct comm *of = comm ? um_comm_at(*comm) : 0;
     ENTER_LOOK(of, MPI_UNDEFINED, MPI_UNDEFINED);
     if (!of || *comm == MPI_COMM_WORLD || *comm == MPI_COMM_SELF) return um_fail(0, MPI_ERR_COMM);
-    um_me->call.comm = 0;
+    um_forget_comm();
     return um_answer(of, um_release_comm(of, comm));
 }
 

@@ -119,7 +119,7 @@ static void end_by(const char *name, int code) {
     const char *call = um_me->call.name;
     char line[256];
     um_begin_report();
-    fprintf(stderr, "ulfm-mpirun: rank %d: %s%s: %s; errors are fatal on %s: the run ends\n", um_me->number, call, um_line_of(um_me, line, sizeof line), text_of(code), name);
+    fprintf(stderr, "ulfm-mpirun: rank %d: %s%s: %s; errors are fatal on %s: the run ends\n", um_me->number, call, um_line_of(&um_me->call, line, sizeof line), text_of(code), name);
     um_write_rests(true);
     um_tell_table("fatal %d %s %d\n", um_me->number, call, code & 255);
     um_end_run(STATUS_FATAL);

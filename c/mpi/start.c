@@ -23,7 +23,7 @@ void um_enter_call(const char *call, const void *from, struct comm *comm, int pe
     if (um_me->life.has_finalized) refuse(call, "was called after MPI_Finalize");
     if (um_me->mpi.is_starting) return;
     if (um_me->recovery.known_count < atomic_load_explicit(&um_stopped_ranks, memory_order_relaxed)) um_note_failures();
-    um_me->call = (struct call){.name = call, .from = from, .comm = comm, .peer = peer, .tag = tag};
+    um_set_call((struct call){.name = call, .from = from, .comm = comm, .peer = peer, .tag = tag});
     um_me->played.looks = 0;
     if (counts) um_count_call();
 }
@@ -35,7 +35,7 @@ int MPI_Init_thread(int *argc, char ***argv, int required, int *provided) {
     if (um_me->life.has_begun) refuse("MPI_Init", "was called twice");
     if ((um_options.is_alone && !um_begin_alone()) || !um_make_world()) refuse("MPI_Init", "found no memory");
     um_me->life.has_begun = true;
-    um_me->call = (struct call){.name = "MPI_Init", .from = __builtin_return_address(0), .peer = MPI_UNDEFINED, .tag = MPI_UNDEFINED};
+    um_set_call((struct call){.name = "MPI_Init", .from = __builtin_return_address(0), .peer = MPI_UNDEFINED, .tag = MPI_UNDEFINED});
     um_me->life.provided = required < MPI_THREAD_FUNNELED ? MPI_THREAD_SINGLE : MPI_THREAD_FUNNELED;
     if (provided) *provided = um_me->life.provided;
     return MPI_SUCCESS;
@@ -88,9 +88,11 @@ int MPI_Abort(MPI_Comm comm, int errorcode) {
     (void)comm;
     if (um_me) {
         char line[256];
-        um_me->call.from = __builtin_return_address(0);
+        struct call call = um_me->call;
+        call.from = __builtin_return_address(0);
+        um_set_call(call);
         um_begin_report();
-        fprintf(stderr, "ulfm-mpirun: rank %d called MPI_Abort with %d%s: the run ends\n", um_me->number, errorcode, um_line_of(um_me, line, sizeof line));
+        fprintf(stderr, "ulfm-mpirun: rank %d called MPI_Abort with %d%s: the run ends\n", um_me->number, errorcode, um_line_of(&um_me->call, line, sizeof line));
         um_write_rests(true);
         um_tell_table("abort %d %d\n", um_me->number, errorcode);
     }

@@ -17,7 +17,7 @@ static bool is_over(void *of, bool is_settled) {
     struct waiting *waiting = of;
     (void)is_settled;
     waiting->pends = um_look_at(waiting->request);
-    um_me->call.waits_for = waiting->request->over ? 0 : um_awaited_by(waiting->request);
+    um_set_awaited(waiting->request->over ? 0 : um_awaited_by(waiting->request));
     return waiting->request->over || waiting->pends;
 }
 
@@ -46,9 +46,11 @@ static int pending(struct request *request, MPI_Status *status) {
 
 static void tell_place(const struct request *request) {
     if (!request) return;
-    um_me->call.comm = request->comm;
-    um_me->call.peer = request->peer;
-    um_me->call.tag = request->tag;
+    struct call call = um_me->call;
+    call.comm = request->comm;
+    call.peer = request->peer;
+    call.tag = request->tag;
+    um_set_call(call);
 }
 
 /* Where there is nothing to wait for: no request, or a persistent one that isn't active. */

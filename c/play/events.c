@@ -81,7 +81,7 @@ static void tell_other(const char *line) {
     um_text_of_event(&um_players[number].call, text, sizeof text);
     const char *state = um_players[number].state == WAITS ? "waits" : um_players[number].state == OVER ? "has ended" : strchr(text + 5, ' ') + 1;
     const char *call = rank->call.name ? rank->call.name : "its start";
-    fprintf(stderr, "now rank %d %s, in %s%s (call %d)\n", number, state, call, um_line_of(rank, place, sizeof place), rank->plan.calls);
+    fprintf(stderr, "now rank %d %s, in %s%s (call %d)\n", number, state, call, um_line_of(&rank->call, place, sizeof place), rank->plan.calls);
     um_end_run(STATUS_OTHER);
 }
 

@@ -5,33 +5,36 @@
 #include <string.h>
 #include <unistd.h>
 
-static const char *name_of(const struct comm *comm, char *name, size_t room) {
-    if (!comm) return "";
-    if (comm->name[0]) snprintf(name, room, " on %s", comm->name);
-    else snprintf(name, room, " on a communicator of %d (context %u)", comm->size, comm->context);
+static const char *name_of(const struct sight *sight, char *name, size_t room) {
+    if (!sight->size) return "";
+    if (sight->name[0]) snprintf(name, room, " on %s", sight->name);
+    else snprintf(name, room, " on a communicator of %d (context %u)", sight->size, sight->context);
     return name;
 }
 
+/* Whether a rank is in the same call on the same communicator. */
+static bool is_in_same(struct rank *rank, const struct sight *waiting) {
+    struct sight sight = um_look_at_call(rank);
+    return sight.call.name == waiting->call.name && sight.size && sight.first == waiting->first;
+}
+
 /* The members that a shrink or an agreement waits for: those that run and aren't in the same one. */
-static uint32_t missing_from(const struct rank *waiting) {
-    const struct call *call = &waiting->call;
-    uint32_t bits = 0;
-    bool agrees = !strcmp(call->name, "MPIX_Comm_agree");
-    if (!call->comm || (strcmp(call->name, "MPIX_Comm_shrink") && !agrees)) return 0;
-    for (int k = 0; k < call->comm->size; k++) {
-        const struct rank *rank = &um_ranks[call->comm->members[k]];
-        uint32_t context = call->comm->context, first = call->comm->chain->plane[0].context;
-        bool is_there = rank->call.name == call->name && rank->call.comm && rank->call.comm->chain->plane[0].context == first;
-        if (agrees) is_there = atomic_load(&rank->shared.agreed[context]) >= atomic_load(&waiting->shared.agreed[context]);
+static uint32_t missing_from(const struct rank *waiting, const struct sight *sight) {
+    uint32_t bits = 0, context = sight->context;
+    bool agrees = !strcmp(sight->call.name, "MPIX_Comm_agree");
+    if (!sight->size || (strcmp(sight->call.name, "MPIX_Comm_shrink") && !agrees)) return 0;
+    for (int k = 0; k < sight->size; k++) {
+        struct rank *rank = &um_ranks[sight->members[k]];
+        bool is_there = agrees ? atomic_load(&rank->shared.agreed[context]) >= atomic_load(&waiting->shared.agreed[context]) : is_in_same(rank, sight);
         if (!rank->life.has_stopped && !is_there) bits |= 1u << rank->number;
     }
     return bits;
 }
 
-static void tell_peer(const struct rank *rank, char *text, size_t room) {
-    const struct call *call = &rank->call;
+static void tell_peer(const struct rank *rank, const struct sight *sight, char *text, size_t room) {
+    const struct call *call = &sight->call;
     size_t used = 0;
-    uint32_t waits_for = call->waits_for | missing_from(rank);
+    uint32_t waits_for = call->waits_for | missing_from(rank, sight);
     if (call->peer == MPI_ANY_SOURCE) used += snprintf(text + used, room - used, " from any source");
     else if (call->peer == MPI_PROC_NULL) used += snprintf(text + used, room - used, " with nobody");
     else if (call->peer >= 0) used += snprintf(text + used, room - used, " with %d", call->peer);
@@ -72,9 +75,10 @@ static const char *failures_of(struct rank *rank, char *text, size_t room) {
 
 static void tell_place(struct rank *rank, bool is_late) {
     char line[256], name[128], peer[128] = "", failures[96] = "";
-    const struct call *call = &rank->call;
+    struct sight sight = um_look_at_call(rank);
+    const struct call *call = &sight.call;
     fprintf(stderr, "  rank %d: ", rank->number);
-    um_line_of(rank, line, sizeof line);
+    um_line_of(call, line, sizeof line);
     if (rank->life.has_stopped) {
         fprintf(stderr, "stopped%s, %s %s%s (call %d)\n", rank->life.is_planned ? " by plan" : "", rank->life.is_planned ? "in" : "after",
                 call->name ? call->name : "its start", line, rank->plan.calls);
@@ -86,9 +90,9 @@ static void tell_place(struct rank *rank, bool is_late) {
     }
     if (is_late) failures_of(rank, failures, sizeof failures);
     um_tell_table("at %d %s%s\n", rank->number, call->name, failures);
-    tell_peer(rank, peer, sizeof peer);
+    tell_peer(rank, &sight, peer, sizeof peer);
     fprintf(stderr, "%s %s%s%s%s (call %d)%s\n", rank->played.loops ? "loops over" : rank->shared.idle ? "waits in" : "runs, after", call->name, peer,
-            name_of(call->comm, name, sizeof name), line, rank->plan.calls, failures);
+            name_of(&sight, name, sizeof name), line, rank->plan.calls, failures);
 }
 
 void um_tell_places(bool is_late) {

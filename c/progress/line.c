@@ -48,5 +48,5 @@ char *um_line_before(const void *at, char *text, size_t room) {
     return text;
 }
 
-/* That of the rank's present call; of many schedules it isn't wanted. */
-char *um_line_of(const struct rank *rank, char *text, size_t room) { return um_line_before(um_options.seeds || um_options.limit ? 0 : rank->call.from, text, room); }
+/* That of a call; of many schedules it isn't wanted. */
+char *um_line_of(const struct call *call, char *text, size_t room) { return um_line_before(um_options.seeds || um_options.limit ? 0 : call->from, text, room); }

@@ -43,9 +43,23 @@ void um_look_at_open(void);
 void um_wait_until(bool (*is_done)(void *, bool is_settled), void *of, bool is_dear);
 bool um_all_are_gone(void *unused, bool is_settled);
 
+/* call.c */
+struct sight {
+    struct call call;
+    int size;                 /* of its communicator; 0: it has none */
+    uint32_t context, first;  /* of its messages, and of the first one of its chain */
+    uint8_t members[MAX_RANKS];
+    char name[MPI_MAX_OBJECT_NAME];
+};
+void um_set_call(struct call call);
+void um_set_awaited(uint32_t ranks);
+void um_forget_comm(void);
+void um_name_comm(struct comm *comm, const char *name);
+struct sight um_look_at_call(struct rank *rank);
+
 /* line.c, hang.c */
 char *um_line_before(const void *at, char *text, size_t room);
-char *um_line_of(const struct rank *rank, char *text, size_t room);
+char *um_line_of(const struct call *call, char *text, size_t room);
 void um_begin_report(void);
 void um_note_failures(void);
 void um_tell_places(bool is_late);

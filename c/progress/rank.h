@@ -179,7 +179,7 @@ struct recovery {
     _Atomic int self_revoked;
     _Atomic uint32_t known;   /* the world ranks whose failures it knows, as bits, at its last call */
     int known_count;          /* how many */
-    bool is_told;             /* a call answered a failure */
+    _Atomic bool is_told;     /* a call answered a failure */
 };
 
 /* How far it came. */
@@ -198,7 +198,8 @@ struct patience {
 
 /* Where it is in the plan of stops and yields. */
 struct plan {
-    int calls, insides;       /* calls that count; places inside the last one */
+    _Atomic int calls;        /* that count */
+    int insides;              /* places inside the last one */
     uint64_t random;
 };
 
@@ -241,7 +242,8 @@ struct rank {
     struct parcels sent;
     struct recovery recovery;
     struct life life;
-    struct call call;
+    struct call call;          /* by progress/call.c alone */
+    pthread_mutex_t call_lock;
     struct patience patience;
     struct plan plan;
     struct played played;

@@ -1,6 +1,7 @@
 /* What is asked of windows (MPI 4.0, 12.3): it is written down, with its data, and goes out in the next fence. Whether it can be is known here, by the sizes
    of all windows. */
 #include "mpi/calls.h"
+#include "progress/progress.h"
 #include "windows/windows.h"
 #include <stdlib.h>
 #include <string.h>
@@ -123,7 +124,9 @@ static int write_down(struct window *window, struct deed deed, const struct data
 /* Asks for it in the next fence. Of a swap two values are given. */
 static int ask(MPI_Win win, struct window *window, struct deed deed, const struct data *given, const struct data *got, const struct target *target) {
     size_t bytes = 0;
-    um_me->call.peer = target->rank;
+    struct call call = um_me->call;
+    call.peer = target->rank;
+    um_set_call(call);
     int code = check(window, deed.what == SWAP ? 0 : given, got, target, &bytes);
     if (code == MPI_SUCCESS && bytes && target->rank != MPI_PROC_NULL) code = write_down(window, deed, given, got, target, bytes);
     return um_answer_window(window, win, code);
