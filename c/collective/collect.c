@@ -8,7 +8,7 @@
 #include <stdlib.h>
 #include <string.h>
 
-enum { NUMBERS = 4096, SINGLE = 3072 };   /* of each plane, and of them those of collectives that begin once */
+enum { NUMBERS = 4096, SINGLE = 3072 }; /* of each plane, and of them those of collectives that begin once */
 
 static int tag_of(const struct comm *comm) {
     unsigned number = comm->repeats ? SINGLE + comm->repeats % (NUMBERS - SINGLE) : comm->begun % SINGLE;
@@ -65,7 +65,9 @@ int um_collect_finish(struct request *request) {
     return code;
 }
 
-int um_collect_receive(struct comm *comm, int from, void *bytes, size_t room) { return um_collect_finish(um_collect_post(comm, from, bytes, room, 0)); }
+int um_collect_receive(struct comm *comm, int from, void *bytes, size_t room) {
+    return um_collect_finish(um_collect_post(comm, from, bytes, room, 0));
+}
 
 /* Position 0 gets `length` bytes of each, by positions; the others send theirs. The first error, after all were asked. */
 int um_gather_all(struct comm *comm, const void *in, size_t length, void *all) {

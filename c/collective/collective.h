@@ -1,4 +1,5 @@
-/* Collectives: what they are made of, those that block and those that are requests. Their messages go on the hidden context of a communicator. */
+/* Collectives: what they are made of, those that block and those that are requests. Their messages go on the hidden context of a
+   communicator, each with the number of its collective. */
 #ifndef UM_COLLECTIVE_H
 #define UM_COLLECTIVE_H
 
@@ -20,7 +21,7 @@ int um_gather_all(struct comm *comm, const void *in, size_t length, void *all);
 int um_spread(struct comm *comm, void *bytes, size_t length, int root);
 int um_check_broadcast(struct comm *comm, const void *buf, int count, MPI_Datatype type, int root, size_t *bytes);
 int um_spread_verdict(struct comm *comm, int code, void *buffer, size_t length);
-enum { VERDICT = 16 };   /* bytes before a result: what follows is aligned for each type */
+enum { VERDICT = 16 }; /* bytes before a result: what follows is aligned for each type */
 
 /* nonblocking.c */
 void um_look_at_collective(struct request *collective);

@@ -64,7 +64,7 @@ static int start(const struct reduction *like, const void *sendbuf, bool receive
 /* All parts are there, or an error is. */
 int um_end_reduction(struct reduction *of, int code) {
     if (code == MPI_SUCCESS && of->last >= 0) {
-        struct call call = um_me->call;   /* an operation of the program's may ask MPI something, and look at the type's handle */
+        struct call call = um_me->call; /* an operation of the program's may ask MPI something, and look at the type's handle */
         MPI_Datatype kept = of->type;
         if (um_type_at(of->given) == um_type_at(kept)) of->type = of->given;
         code = um_fold_parts(of, of->last, of->result + VERDICT);

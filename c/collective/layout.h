@@ -8,7 +8,7 @@
    displacements in bytes. */
 struct layout {
     char *at;
-    int count;                     /* of each, where there are no counts */
+    int count; /* of each, where there are no counts */
     bool has_counts, has_types;
     const int *counts, *displs;
     MPI_Datatype type;
@@ -25,4 +25,3 @@ int um_check_own(const void *buffer, int count, MPI_Datatype type, bool may_be_i
 void um_copy_own(struct request *collective, const void *from, int sent, MPI_Datatype sendtype, void *to, int count, MPI_Datatype type);
 
 #endif
-

@@ -9,7 +9,7 @@
 struct parts {
     const char *at;
     int count;
-    bool is_one, has_counts, has_types;   /* the same data for each; counts and displacements; types of their own */
+    bool is_one, has_counts, has_types; /* the same data for each; counts and displacements; types of their own */
     const int *counts, *displs;
     const MPI_Aint *bytes;
     MPI_Datatype type;
@@ -22,7 +22,9 @@ static int count_of(const struct parts *parts, int k) { return parts->has_counts
 /* The part of a neighbour, by its address. */
 static struct piece piece_of(const struct parts *parts, int k) {
     struct type *type = um_type_at(type_of(parts, k));
-    ptrdiff_t extent = extent_of(type), step = parts->is_one ? 0 : parts->has_counts && !parts->has_types ? parts->displs[k] : (ptrdiff_t)parts->count * k;
+    ptrdiff_t extent = extent_of(type), step = parts->is_one                            ? 0
+                                               : parts->has_counts && !parts->has_types ? parts->displs[k]
+                                                                                        : (ptrdiff_t)parts->count * k;
     return (struct piece){(size_t)count_of(parts, k), (ptrdiff_t)parts->at + (parts->has_types ? parts->bytes[k] : step * extent), extent, type};
 }
 
@@ -101,8 +103,8 @@ static int begin(const struct parts *send, const struct parts *recv, struct comm
     return MPI_SUCCESS;
 }
 
-int MPI_Neighbor_allgather(const void *sendbuf, int sendcount, MPI_Datatype sendtype, void *recvbuf, int recvcount, MPI_Datatype recvtype, MPI_Comm
-                           comm) {
+int MPI_Neighbor_allgather(const void *sendbuf, int sendcount, MPI_Datatype sendtype, void *recvbuf, int recvcount, MPI_Datatype recvtype,
+                           MPI_Comm comm) {
     struct comm *of = um_comm_at(comm);
     struct request *made;
     struct parts send = {.at = sendbuf, .count = sendcount, .type = sendtype, .is_one = true};
@@ -111,8 +113,8 @@ int MPI_Neighbor_allgather(const void *sendbuf, int sendcount, MPI_Datatype send
     return um_wait_for_collective(of, begin(&send, &recv, of, &made), &made);
 }
 
-int MPI_Ineighbor_allgather(const void *sendbuf, int sendcount, MPI_Datatype sendtype, void *recvbuf, int recvcount, MPI_Datatype recvtype, MPI_Comm
-                            comm, MPI_Request *request) {
+int MPI_Ineighbor_allgather(const void *sendbuf, int sendcount, MPI_Datatype sendtype, void *recvbuf, int recvcount, MPI_Datatype recvtype,
+                            MPI_Comm comm, MPI_Request *request) {
     struct comm *of = um_comm_at(comm);
     struct request *made;
     struct parts send = {.at = sendbuf, .count = sendcount, .type = sendtype, .is_one = true};
@@ -143,8 +145,8 @@ int MPI_Ineighbor_allgatherv(const void *sendbuf, int sendcount, MPI_Datatype se
     return um_give_collective(of, begin(&send, &recv, of, &made), &made, request);
 }
 
-int MPI_Neighbor_alltoall(const void *sendbuf, int sendcount, MPI_Datatype sendtype, void *recvbuf, int recvcount, MPI_Datatype recvtype, MPI_Comm
-                          comm) {
+int MPI_Neighbor_alltoall(const void *sendbuf, int sendcount, MPI_Datatype sendtype, void *recvbuf, int recvcount, MPI_Datatype recvtype,
+                          MPI_Comm comm) {
     struct comm *of = um_comm_at(comm);
     struct request *made;
     struct parts send = {.at = sendbuf, .count = sendcount, .type = sendtype}, recv = {.at = recvbuf, .count = recvcount, .type = recvtype};
@@ -152,8 +154,8 @@ int MPI_Neighbor_alltoall(const void *sendbuf, int sendcount, MPI_Datatype sendt
     return um_wait_for_collective(of, begin(&send, &recv, of, &made), &made);
 }
 
-int MPI_Ineighbor_alltoall(const void *sendbuf, int sendcount, MPI_Datatype sendtype, void *recvbuf, int recvcount, MPI_Datatype recvtype, MPI_Comm
-                           comm, MPI_Request *request) {
+int MPI_Ineighbor_alltoall(const void *sendbuf, int sendcount, MPI_Datatype sendtype, void *recvbuf, int recvcount, MPI_Datatype recvtype,
+                           MPI_Comm comm, MPI_Request *request) {
     struct comm *of = um_comm_at(comm);
     struct request *made;
     struct parts send = {.at = sendbuf, .count = sendcount, .type = sendtype}, recv = {.at = recvbuf, .count = recvcount, .type = recvtype};
@@ -162,8 +164,8 @@ int MPI_Ineighbor_alltoall(const void *sendbuf, int sendcount, MPI_Datatype send
     return um_give_collective(of, begin(&send, &recv, of, &made), &made, request);
 }
 
-int MPI_Neighbor_alltoallv(const void *sendbuf, const int sendcounts[], const int sdispls[], MPI_Datatype sendtype, void *recvbuf, const int
-                           recvcounts[], const int rdispls[], MPI_Datatype recvtype, MPI_Comm comm) {
+int MPI_Neighbor_alltoallv(const void *sendbuf, const int sendcounts[], const int sdispls[], MPI_Datatype sendtype, void *recvbuf,
+                           const int recvcounts[], const int rdispls[], MPI_Datatype recvtype, MPI_Comm comm) {
     struct comm *of = um_comm_at(comm);
     struct request *made;
     struct parts send = {.at = sendbuf, .counts = sendcounts, .displs = sdispls, .type = sendtype, .has_counts = true};
@@ -172,8 +174,8 @@ int MPI_Neighbor_alltoallv(const void *sendbuf, const int sendcounts[], const in
     return um_wait_for_collective(of, begin(&send, &recv, of, &made), &made);
 }
 
-int MPI_Ineighbor_alltoallv(const void *sendbuf, const int sendcounts[], const int sdispls[], MPI_Datatype sendtype, void *recvbuf, const int
-                            recvcounts[], const int rdispls[], MPI_Datatype recvtype, MPI_Comm comm, MPI_Request *request) {
+int MPI_Ineighbor_alltoallv(const void *sendbuf, const int sendcounts[], const int sdispls[], MPI_Datatype sendtype, void *recvbuf,
+                            const int recvcounts[], const int rdispls[], MPI_Datatype recvtype, MPI_Comm comm, MPI_Request *request) {
     struct comm *of = um_comm_at(comm);
     struct request *made;
     struct parts send = {.at = sendbuf, .counts = sendcounts, .displs = sdispls, .type = sendtype, .has_counts = true};
@@ -183,8 +185,8 @@ int MPI_Ineighbor_alltoallv(const void *sendbuf, const int sendcounts[], const i
     return um_give_collective(of, begin(&send, &recv, of, &made), &made, request);
 }
 
-int MPI_Neighbor_alltoallw(const void *sendbuf, const int sendcounts[], const MPI_Aint sdispls[], const MPI_Datatype sendtypes[], void *recvbuf, const
-                           int recvcounts[], const MPI_Aint rdispls[], const MPI_Datatype recvtypes[], MPI_Comm comm) {
+int MPI_Neighbor_alltoallw(const void *sendbuf, const int sendcounts[], const MPI_Aint sdispls[], const MPI_Datatype sendtypes[], void *recvbuf,
+                           const int recvcounts[], const MPI_Aint rdispls[], const MPI_Datatype recvtypes[], MPI_Comm comm) {
     struct comm *of = um_comm_at(comm);
     struct request *made;
     struct parts send = {.at = sendbuf, .counts = sendcounts, .bytes = sdispls, .types = sendtypes, .has_counts = true, .has_types = true};

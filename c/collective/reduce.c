@@ -1,6 +1,6 @@
 /* Reductions (MPI 4.0, 6.9 and 6.11): position 0 gets all parts and folds them in the order of positions, so that each run gives the same bits. */
-#include "collective/collective.h"
 #include "collective/reduce.h"
+#include "collective/collective.h"
 #include "types/types.h"
 #include <stdlib.h>
 #include <string.h>

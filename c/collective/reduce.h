@@ -14,15 +14,15 @@ struct reduction {
     int count;
     MPI_Datatype type;
     MPI_Op op;
-    size_t bytes;                    /* of the elements in memory */
-    char *result, *folded, *parts;   /* result has a verdict before it */
-    char *copy;                      /* this rank's elements, where their data aren't in one piece; else null */
-    char *room;                      /* of the heap, or null */
-    int to;                          /* of one that doesn't block: the root, TO_ALL or UPWARD */
-    int last;                        /* the last part that is folded here, -1: none */
-    MPI_Datatype given;              /* the program's handle of the type */
+    size_t bytes;                  /* of the elements in memory */
+    char *result, *folded, *parts; /* result has a verdict before it */
+    char *copy;                    /* this rank's elements, where their data aren't in one piece; else null */
+    char *room;                    /* of the heap, or null */
+    int to;                        /* of one that doesn't block: the root, TO_ALL or UPWARD */
+    int last;                      /* the last part that is folded here, -1: none */
+    MPI_Datatype given;            /* the program's handle of the type */
     void *recvbuf;
-    int before, own;                 /* this rank's elements of the result, where it doesn't get all of them */
+    int before, own; /* this rank's elements of the result, where it doesn't get all of them */
     bool is_scattered;
     _Alignas(16) char short_room[SHORT];
 };

@@ -11,7 +11,7 @@ struct repeated {
     const void *sendbuf;
     void *buf, *recvbuf;
     MPI_Count count, sendcount, recvcount;
-    const void *counts, *sendcounts, *recvcounts, *displs, *sdispls, *rdispls;   /* lists as the call has them */
+    const void *counts, *sendcounts, *recvcounts, *displs, *sdispls, *rdispls; /* lists as the call has them */
     MPI_Datatype type, sendtype, recvtype, kept[3];
     const MPI_Datatype *sendtypes, *recvtypes;
     MPI_Op op;

@@ -65,7 +65,9 @@ static int begin_alltoall(const struct layout *from, const struct layout *to, st
     code = um_start_collective(comm, made);
     if (code != MPI_SUCCESS || (*made)->over) return code;
     if (is_in_place) from = to;
-    else um_copy_own(*made, um_part_at(from, at), um_count_at(from, at), um_type_of_part(from, at), um_part_at(to, at), um_count_at(to, at), um_type_of_part(to, at));
+    else
+        um_copy_own(*made, um_part_at(from, at), um_count_at(from, at), um_type_of_part(from, at), um_part_at(to, at), um_count_at(to, at),
+                    um_type_of_part(to, at));
     for (int k = 0; k < comm->size; k++) um_send_data(*made, k, um_part_at(from, k), um_count_at(from, k), um_type_of_part(from, k));
     for (int k = 0; k < comm->size; k++) um_post_data(*made, k, um_part_at(to, k), um_count_at(to, k), um_type_of_part(to, k));
     return MPI_SUCCESS;
@@ -91,8 +93,8 @@ int MPI_Ialltoall(const void *sendbuf, int sendcount, MPI_Datatype sendtype, voi
     return um_give_collective(of, begin_alltoall(&from, &to, of, &made), &made, handle);
 }
 
-int MPI_Alltoallv(const void *sendbuf, const int sendcounts[], const int sdispls[], MPI_Datatype sendtype, void *recvbuf,
-                  const int recvcounts[], const int rdispls[], MPI_Datatype recvtype, MPI_Comm comm) {
+int MPI_Alltoallv(const void *sendbuf, const int sendcounts[], const int sdispls[], MPI_Datatype sendtype, void *recvbuf, const int recvcounts[],
+                  const int rdispls[], MPI_Datatype recvtype, MPI_Comm comm) {
     struct comm *of = um_comm_at(comm);
     struct request *made;
     struct layout from = {.at = (char *)(uintptr_t)sendbuf, .has_counts = true, .counts = sendcounts, .displs = sdispls, .type = sendtype};
@@ -101,8 +103,8 @@ int MPI_Alltoallv(const void *sendbuf, const int sendcounts[], const int sdispls
     return um_wait_for_collective(of, begin_alltoall(&from, &to, of, &made), &made);
 }
 
-int MPI_Ialltoallv(const void *sendbuf, const int sendcounts[], const int sdispls[], MPI_Datatype sendtype, void *recvbuf,
-                   const int recvcounts[], const int rdispls[], MPI_Datatype recvtype, MPI_Comm comm, MPI_Request *handle) {
+int MPI_Ialltoallv(const void *sendbuf, const int sendcounts[], const int sdispls[], MPI_Datatype sendtype, void *recvbuf, const int recvcounts[],
+                   const int rdispls[], MPI_Datatype recvtype, MPI_Comm comm, MPI_Request *handle) {
     struct comm *of = um_comm_at(comm);
     struct request *made;
     struct layout from = {.at = (char *)(uintptr_t)sendbuf, .has_counts = true, .counts = sendcounts, .displs = sdispls, .type = sendtype};

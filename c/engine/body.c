@@ -40,8 +40,14 @@ static int send_parcel(const struct parcel *like, int dest, struct parcel **wait
 
 int um_send_body(uint32_t context, int dest, int world, int tag, const void *bytes, size_t length, struct parcel **waits) {
     if (waits || length > AT_ONCE || length == AMBIGUOUS)
-        return send_parcel(&(struct parcel){.users = waits ? 3 : 2, .is_waited_for = waits != 0, .from = um_me->number, .to = world, .context = context,
-                                            .tag = tag, .length = length, .source = bytes},
+        return send_parcel(&(struct parcel){.users = waits ? 3 : 2,
+                                            .is_waited_for = waits != 0,
+                                            .from = um_me->number,
+                                            .to = world,
+                                            .context = context,
+                                            .tag = tag,
+                                            .length = length,
+                                            .source = bytes},
                            dest, waits);
     int code = send_whole(context, dest, tag, bytes, length);
     if (code == MPI_SUCCESS) um_move_once();

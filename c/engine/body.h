@@ -4,7 +4,7 @@
 
 #include "engine/engine.h"
 
-enum { BODY = 1024, AT_ONCE = BODY - 1 };   /* the longest body, and the longest message in one */
+enum { BODY = 1024, AT_ONCE = BODY - 1 }; /* the longest body, and the longest message in one */
 
 enum content { MESSAGE = 1, REFERENCE };
 
@@ -16,7 +16,7 @@ union body {
     } whole;
     struct reference {
         uint8_t content, unused[sizeof(struct parcel *) - 1];
-        struct parcel *parcel;   /* ranks share their memory */
+        struct parcel *parcel; /* ranks share their memory */
     } reference;
 };
 

@@ -53,7 +53,7 @@ void um_fill_parcel(struct parcel *parcel) {
     int live = LIVE;
     if (!atomic_compare_exchange_strong(&parcel->filling, &live, FILLED))
         for (size_t spins = 0; atomic_load(&parcel->filling) != TAKEN; spins++)
-            if (spins > SPINS + parcel->length) sched_yield();   /* the copy takes less, unless its rank doesn't run */
+            if (spins > SPINS + parcel->length) sched_yield(); /* the copy takes less, unless its rank doesn't run */
     um_let_go(parcel);
 }
 

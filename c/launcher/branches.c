@@ -5,18 +5,18 @@
 #include "launcher/launcher.h"
 #include "play/play.h"
 #include "progress/progress.h"
+#include <signal.h>
 #include <stdlib.h>
 #include <string.h>
 #include <sys/mman.h>
 #include <sys/prctl.h>
 #include <sys/wait.h>
-#include <signal.h>
 #include <unistd.h>
 
 struct branch {
     pid_t pid;
     struct place place;
-    int report, output;   /* files */
+    int report, output; /* files */
 };
 static struct branch *branches;
 static int branch_count;
@@ -103,7 +103,7 @@ bool um_is_branch(void) {
     while (branch_count == um_options.jobs) end_one();
     made.report = memfd_create("ulfm-branch", MFD_CLOEXEC);
     made.output = memfd_create("ulfm-branch", MFD_CLOEXEC);
-    made.pid = made.report < 0 || made.output < 0 ? -1 : _Fork();   /* the program's fork is another one */
+    made.pid = made.report < 0 || made.output < 0 ? -1 : _Fork(); /* the program's fork is another one */
     if (made.pid == 0) become(&made);
     else if (made.pid > 0) branches[branch_count++] = made;
     return made.pid == 0;

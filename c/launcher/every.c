@@ -10,7 +10,7 @@
 #include <time.h>
 #include <unistd.h>
 
-enum { MANY = 1000 };   /* so many places may take long */
+enum { MANY = 1000 }; /* so many places may take long */
 
 /* One kind of sends: the run without a stop, and its places. */
 struct kind_of_sends {
@@ -18,8 +18,8 @@ struct kind_of_sends {
     struct result base;
     struct place *places;
     int count;
-    double seconds;        /* that the run took */
-    struct found *found;   /* of --every-schedule: what the search at each place found; else null */
+    double seconds;      /* that the run took */
+    struct found *found; /* of --every-schedule: what the search at each place found; else null */
 };
 
 static struct trial *trials;
@@ -52,7 +52,7 @@ static bool run_base(struct kind_of_sends *kind, const char *launcher) {
     *trial = (struct trial){.place = -1, .sends_wait = kind->sends_wait};
     double begun = seconds();
     if (!um_start_trial(trial, launcher, 0)) return false;
-    while (wait_for_trial() != 0) {}
+    while (wait_for_trial() != 0) continue;
     um_read_result(trial, &kind->base);
     kind->places = um_read_places(trial, &kind->count);
     kind->seconds = seconds() - begun;
@@ -60,7 +60,8 @@ static bool run_base(struct kind_of_sends *kind, const char *launcher) {
     for (int k = 0; k < um_options.ranks; k++) is_well = is_well && (kind->base.fate[k] == ENDED || kind->base.fate[k] == STOPPED);
     if (!is_well) {
         char *errors = um_read_all(trial->files[1]);
-        printf("without a further stop, %s: the run doesn't end well, so no places are tried:\n", kind->sends_wait ? "sends that wait" : "buffered sends");
+        printf("without a further stop, %s: the run doesn't end well, so no places are tried:\n",
+               kind->sends_wait ? "sends that wait" : "buffered sends");
         fputs(errors ? errors : "", stdout);
         um_tell_command(stdout, 0, kind->sends_wait);
         free(errors);
@@ -152,7 +153,7 @@ static bool run_places(const struct kind_of_sends *kind, const char *launcher) {
 /* Searches all schedules of the program, and at each place of a stop. */
 int um_every_schedule(const char *launcher) {
     struct kind_of_sends kind = {.sends_wait = um_options.sends_wait};
-    struct sigaction action = {.sa_handler = interrupt};   /* it ends a wait */
+    struct sigaction action = {.sa_handler = interrupt}; /* it ends a wait */
     if (!um_options.limit) um_options.limit = LIMIT;
     if (!make_trials()) return STATUS_USAGE;
     if (!um_options.search_stops || !run_base(&kind, launcher)) kind.count = 0;
@@ -177,7 +178,8 @@ int um_every_schedule(const char *launcher) {
 static void tell_estimate(const struct kind_of_sends *kind) {
     double whole = kind->seconds * kind->count / trial_count, left = um_options.seed ? whole / 2 : whole;
     if (kind->count < MANY) return;
-    fprintf(stderr, "ulfm-mpirun: %d places with %s, about %.0f s; --sample N tries N of them%s\n", kind->count, kind->sends_wait ? "sends that wait" : "buffered sends", left,
+    fprintf(stderr, "ulfm-mpirun: %d places with %s, about %.0f s; --sample N tries N of them%s\n", kind->count,
+            kind->sends_wait ? "sends that wait" : "buffered sends", left,
             um_options.seed ? "" : ", and by --seed 1 each is gone on from where the run comes to it");
 }
 
@@ -187,7 +189,7 @@ static bool run_branches(const struct kind_of_sends *kind, const char *launcher)
     *trial = (struct trial){.place = -1, .sends_wait = kind->sends_wait, .branches = um_write_wanted(kind->places, kind->count)};
     struct result *results = calloc((size_t)kind->count, sizeof *results);
     bool is_well = results && trial->branches > 0 && um_start_trial(trial, launcher, 0);
-    while (is_well && wait_for_trial() != 0) {}
+    while (is_well && wait_for_trial() != 0) continue;
     if (is_well) is_well = um_read_branches(trial, kind->places, kind->count, results);
     for (int k = 0; k < kind->count && is_well; k++) tell_result(kind, &kind->places[k], &results[k]);
     if (!is_well) fprintf(stderr, "ulfm-mpirun: the places can't be gone on from\n");

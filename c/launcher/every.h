@@ -18,34 +18,34 @@ struct place {
 struct result {
     enum fate fate[MAX_RANKS];
     int status[MAX_RANKS];
-    enum outcome end;           /* RIGHT, or how the run ended else */
-    char detail[512];           /* who waits in what, or which error was fatal */
-    char *output;               /* its lines, sorted */
+    enum outcome end; /* RIGHT, or how the run ended else */
+    char detail[512]; /* who waits in what, or which error was fatal */
+    char *output;     /* its lines, sorted */
 };
 
 /* A run of the program. */
 struct trial {
-    pid_t pid;                  /* 0: none */
-    int place;                   /* its number, -1: no stop */
+    pid_t pid; /* 0: none */
+    int place; /* its number, -1: no stop */
     bool sends_wait;
-    int files[3];               /* what it writes to standard output, to standard error, and for the table */
-    int branches;               /* a file with the places from which it goes on in processes of their own, or 0 */
+    int files[3]; /* what it writes to standard output, to standard error, and for the table */
+    int branches; /* a file with the places from which it goes on in processes of their own, or 0 */
 };
 
 /* What the search at a place found. */
 struct found_ending {
     enum outcome outcome;
     long count;
-    int number;                 /* of the file that has such a schedule */
+    int number; /* of the file that has such a schedule */
     char why[600];
 };
 struct found {
-    bool is_there, is_whole;    /* all schedules were searched */
-    long searched, played, unseen;   /* played: by chance too. unseen: by chance, and not among those that were searched */
+    bool is_there, is_whole;       /* all schedules were searched */
+    long searched, played, unseen; /* played: by chance too. unseen: by chance, and not among those that were searched */
     struct found_ending *endings;
     int count;
-    char other[300];            /* where the program didn't do the same again */
-    char note[300];             /* what of it isn't followed: the first thing */
+    char other[300]; /* where the program didn't do the same again */
+    char note[300];  /* what of it isn't followed: the first thing */
 };
 
 /* Whether it is a place, and not the program without a further stop. */

@@ -9,7 +9,8 @@
 void um_path_of_schedule(const struct place *place, int number, char *path, size_t room) {
     const char *name = strrchr(um_options.program, '/');
     size_t used = (size_t)snprintf(path, room, "%s", name ? name + 1 : um_options.program);
-    if (is_place(place)) used += (size_t)snprintf(path + used, room - used, place->inside ? ".%d@%d.%d" : ".%d@%d", place->rank, place->call, place->inside);
+    if (is_place(place))
+        used += (size_t)snprintf(path + used, room - used, place->inside ? ".%d@%d.%d" : ".%d@%d", place->rank, place->call, place->inside);
     for (int k = 0; k < um_options.stops && used + 90 < room; k++) {
         char text[80];
         um_text_of_stop(&um_options.stop[k], text, sizeof text);

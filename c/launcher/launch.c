@@ -64,9 +64,9 @@ void um_live(void) {
 
 /* A stack for signals, since that of a rank may be used up. */
 static void have_stack_for_signals(void) {
-    static char rooms[MAX_RANKS + 1][65536];   /* where a crash is told; the last one is of the thread that plays all ranks */
+    static char rooms[MAX_RANKS + 1][65536]; /* where a crash is told; the last one is of the thread that plays all ranks */
     stack_t stack = {.ss_sp = rooms[um_me ? um_me->number : MAX_RANKS], .ss_size = sizeof *rooms}, old;
-    if (sigaltstack(0, &old) == 0 && old.ss_flags & SS_DISABLE) sigaltstack(&stack, 0);   /* AddressSanitizer has one of its own */
+    if (sigaltstack(0, &old) == 0 && old.ss_flags & SS_DISABLE) sigaltstack(&stack, 0); /* AddressSanitizer has one of its own */
 }
 
 static void *run_rank(void *of) {
@@ -105,7 +105,7 @@ static void keep_memory(void) {
     mallopt(M_MMAP_THRESHOLD, 32 << 20);
     mallopt(M_TRIM_THRESHOLD, 256 << 20);
     mallopt(M_TOP_PAD, 1 << 20);
-    if (um_is_played) mallopt(M_MMAP_MAX, 0);   /* so that all can be put back */
+    if (um_is_played) mallopt(M_MMAP_MAX, 0); /* so that all can be put back */
     if (um_is_played) mallopt(M_TRIM_THRESHOLD, INT_MAX);
 }
 
@@ -188,7 +188,7 @@ int ulfm_mpirun(int count, char **words) {
     if (um_options.every_stop) return um_every_stop(words[0]);
     if (um_is_played) um_fix_addresses(words);
     um_be_launcher();
-    um_handle_signals();   /* before there are copies, which each end takes away */
+    um_handle_signals(); /* before there are copies, which each end takes away */
     if (!um_copy_programs()) return STATUS_USAGE;
     keep_memory();
     uint32_t code = um_make_ranks();

@@ -19,7 +19,7 @@ static bool make_folder(void) {
         folder[0] = 0;
         return false;
     }
-    char *whole = realpath(folder, 0);   /* a rank may go to another folder */
+    char *whole = realpath(folder, 0); /* a rank may go to another folder */
     if (whole && strlen(whole) < sizeof folder) strcpy(folder, whole);
     free(whole);
     return true;
@@ -62,7 +62,8 @@ bool um_copy_programs(void) {
     bool is_well = bytes && make_folder();
     if (is_well && !um_mend_program(bytes, size)) return false;
     for (int k = 0; k < um_options.ranks && is_well; k++)
-        is_well = asprintf(&um_ranks[k].program.path, "%s/%s.rank%d", folder, name ? name + 1 : um_options.program, k) >= 0 && write_copy(um_ranks[k].program.path, bytes, size);
+        is_well = asprintf(&um_ranks[k].program.path, "%s/%s.rank%d", folder, name ? name + 1 : um_options.program, k) >= 0 &&
+                  write_copy(um_ranks[k].program.path, bytes, size);
     if (!is_well) fprintf(stderr, "ulfm-mpirun: %s can't be copied\n", um_options.program);
     free(bytes);
     return is_well;
@@ -102,7 +103,7 @@ static void refuse_program(void) {
     while (um_is_crashed) pause();
     static pthread_mutex_t lock = PTHREAD_MUTEX_INITIALIZER;
     char why[512];
-    snprintf(why, sizeof why, "%s", dlerror());   /* the next call of the loader takes it away */
+    snprintf(why, sizeof why, "%s", dlerror()); /* the next call of the loader takes it away */
     pthread_mutex_lock(&lock);
     fprintf(stderr, "ulfm-mpirun: %s can't be loaded: %s\n", um_options.program, why);
     um_end_run(STATUS_USAGE);

@@ -4,16 +4,19 @@
 #include <stdlib.h>
 #include <string.h>
 
+/* clang-format off */
 static const char *const outcomes[OUTCOMES] = {
     "right", "not reached", "another status", "another output", "a rank failed that wasn't stopped", "nobody can move", "looks that nobody ends", "the time was over",
     "not played to its end: it has 12,000 events and more",
     "an error was fatal", "the run was aborted", "a crash"};
+/* clang-format on */
 
 const char *um_words_of_outcome(enum outcome outcome) { return outcomes[outcome]; }
 
 /* A stop of the plan, as the command line has it. */
 void um_text_of_stop(const struct stop *stop, char *text, size_t room) {
-    int used = stop->call ? snprintf(text, room, "%d@%d", stop->rank, stop->call) : snprintf(text, room, "%d@%s:%d", stop->rank, stop->name, stop->nth);
+    int used =
+        stop->call ? snprintf(text, room, "%d@%d", stop->rank, stop->call) : snprintf(text, room, "%d@%s:%d", stop->rank, stop->name, stop->nth);
     if (stop->inside) snprintf(text + used, room - (size_t)used, ".%d", stop->inside);
 }
 

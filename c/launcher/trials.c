@@ -98,7 +98,7 @@ static void become(pid_t parent, const struct trial *trial, const char *launcher
     char texts[TEXTS][64];
     char **words = calloc((size_t)(MOST_WORDS + um_options.count + 1), sizeof *words);
     int none = open("/dev/null", O_RDONLY);
-    prctl(PR_SET_PDEATHSIG, SIGTERM);   /* who ends the table ends its runs */
+    prctl(PR_SET_PDEATHSIG, SIGTERM); /* who ends the table ends its runs */
     if (!words || none < 0 || getppid() != parent) _exit(STATUS_USAGE);
     int count = words_of(words, launcher, texts, trial, place);
     for (int k = 0; k < um_options.count; k++) words[count++] = um_options.words[k];
@@ -166,7 +166,8 @@ static void read_line(const char *line, struct result *result) {
     if (sscanf(line, "stopped %d", &rank) == 1) result->fate[rank] = STOPPED;
     else if (sscanf(line, "failed %d %d", &rank, &number) == 2) result->fate[rank] = FAILED_ITSELF;
     else if (sscanf(line, "end %d %d", &rank, &number) == 2) result->fate[rank] = ENDED, result->status[rank] = number;
-    else if (sscanf(line, "at %d %47s%95[^\n]", &rank, name, failures) >= 2) snprintf(result->detail + used, room, "%s %d in %s%s", used ? "," : "", rank, name, failures);
+    else if (sscanf(line, "at %d %47s%95[^\n]", &rank, name, failures) >= 2)
+        snprintf(result->detail + used, room, "%s %d in %s%s", used ? "," : "", rank, name, failures);
     else if (!strncmp(line, "stuck", 5)) result->end = STUCK;
     else if (!strncmp(line, "loops", 5)) result->end = LOOPS;
     else if (!strncmp(line, "late", 4)) result->end = LATE;

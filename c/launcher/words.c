@@ -158,9 +158,12 @@ static int refuse_clash(void) {
     if (um_options.every_schedule && by_chance) return refuse("--every-schedule doesn't go with", "--seed or --seeds");
     if (um_options.every_schedule && um_options.every_stop) return refuse("--every-schedule doesn't go with", "--every-stop");
     if (um_options.every_stop && um_options.seeds) return refuse("--every-stop plays each place once, which doesn't go with", "--seeds");
-    if (!um_options.every_stop && (um_options.first_call || um_options.last_call || um_options.sample)) return refuse("--sample, --from and --to go with", "--every-stop");
-    if (um_options.draw && (!um_is_played || um_options.seeds || um_options.every_stop || um_options.every_schedule)) return refuse("one schedule is drawn, by --seed or --schedule, and not by", "--draw");
-    if (um_options.keep && (!um_is_played || um_options.every_stop)) return refuse("one schedule by chance is kept, by --seed alone, and not by", "--keep");
+    if (!um_options.every_stop && (um_options.first_call || um_options.last_call || um_options.sample))
+        return refuse("--sample, --from and --to go with", "--every-stop");
+    if (um_options.draw && (!um_is_played || um_options.seeds || um_options.every_stop || um_options.every_schedule))
+        return refuse("one schedule is drawn, by --seed or --schedule, and not by", "--draw");
+    if (um_options.keep && (!um_is_played || um_options.every_stop))
+        return refuse("one schedule by chance is kept, by --seed alone, and not by", "--keep");
     return 0;
 }
 

@@ -40,9 +40,9 @@ int *um_last_used_code(void) {
 int MPI_Add_error_class(int *errorclass) {
     ENTER_LOOK(0, MPI_UNDEFINED, MPI_UNDEFINED);
     WRITES(0, errorclass);
-    int class = FIRST_CLASS;
-    while (class < END_OF_CLASSES && added_at(class)) class++;
-    return um_answer(0, class < END_OF_CLASSES ? add(class, errorclass) : MPI_ERR_OTHER);
+    int number = FIRST_CLASS;
+    while (number < END_OF_CLASSES && added_at(number)) number++;
+    return um_answer(0, number < END_OF_CLASSES ? add(number, errorclass) : MPI_ERR_OTHER);
 }
 
 int MPI_Add_error_code(int errorclass, int *errorcode) {

@@ -142,7 +142,9 @@ void um_free_attributes(struct attribute *first) {
     }
 }
 
-static struct bearer bearer_of(struct comm *comm) { return (struct bearer){.kind = OF_COMMS, .comm = um_handle_of(comm), .first = &comm->attributes}; }
+static struct bearer bearer_of(struct comm *comm) {
+    return (struct bearer){.kind = OF_COMMS, .comm = um_handle_of(comm), .first = &comm->attributes};
+}
 
 int um_copy_attributes(struct comm *from, struct comm *to) {
     struct bearer bearer = bearer_of(from);

@@ -19,7 +19,7 @@ struct keyval {
             MPI_Type_delete_attr_function *deletes;
         } type;
         struct {
-            MPI_Win_copy_attr_function *copies;   /* a window is never duplicated */
+            MPI_Win_copy_attr_function *copies; /* a window is never duplicated */
             MPI_Win_delete_attr_function *deletes;
         } win;
     };

@@ -84,8 +84,8 @@ void um_clear_added(void);
 int um_check_message(const void *buf, int count, MPI_Datatype type, int peer, int tag, const struct comm *comm, bool is_receive);
 int um_begin_send(const void *buf, int count, MPI_Datatype type, int dest, int tag, struct comm *comm, bool waits, struct request **made);
 int um_begin_receive(void *buf, int count, MPI_Datatype type, int source, int tag, struct comm *comm, struct request **made);
-int um_begin_both(const void *sendbuf, int sendcount, MPI_Datatype sendtype, int dest, int sendtag, void *recvbuf, int recvcount, MPI_Datatype recvtype,
-               int source, int recvtag, struct comm *comm, struct request **receive, struct request **send);
+int um_begin_both(const void *sendbuf, int sendcount, MPI_Datatype sendtype, int dest, int sendtag, void *recvbuf, int recvcount,
+                  MPI_Datatype recvtype, int source, int recvtag, struct comm *comm, struct request **receive, struct request **send);
 int um_copy_to_send(const void *buf, int count, MPI_Datatype type, int dest, int tag, const struct comm *comm, void **copy, size_t *bytes);
 int um_send_buffered(const void *buf, int count, MPI_Datatype type, int dest, int tag, struct comm *comm);
 void um_free_start(struct start *start);

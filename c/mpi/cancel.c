@@ -4,7 +4,7 @@
 
 /* A request without a handle goes when it is over. */
 static void give_up(struct request *request) {
-    um_look_at(request);   /* its message may have come, and nothing may come any more that lets it be looked at */
+    um_look_at(request); /* its message may have come, and nothing may come any more that lets it be looked at */
     if (request->kind == EXCHANGE && !request->over)
         for (int k = 0; k < 2; k++) give_up(request->parts[k]);
     if (request->over || request->kind == SYNCHRONOUS || request->kind == EXCHANGE) um_free_request(request);

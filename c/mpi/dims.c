@@ -5,13 +5,13 @@
 #include <stdlib.h>
 #include <string.h>
 
-enum { MOST_DIVISORS = 1536 };   /* of any int */
+enum { MOST_DIVISORS = 1536 }; /* of any int */
 
 struct search {
-    int count;                     /* dimensions */
+    int count; /* dimensions */
     int divisors, divisor[MOST_DIVISORS];
     int parts[MAX_DIMS], best[MAX_DIMS];
-    int difference;                /* of the best one */
+    int difference; /* of the best one */
 };
 
 /* Whether `base` to the power of so many dimensions is at least `nodes`. */
@@ -55,7 +55,7 @@ static void divide(struct search *search, int at, int nodes) {
         if (part > nodes || (at && part > search->parts[at - 1])) return;
         if (nodes % part || !reaches(part, left, nodes) || (left == 1 && part != nodes)) continue;
         search->parts[at] = part;
-        int least = largest - search->difference;   /* of the smallest one */
+        int least = largest - search->difference; /* of the smallest one */
         if (part < least || (least > 0 && !holds(least, left - 1, nodes / part))) continue;
         divide(search, at + 1, nodes / part);
     }

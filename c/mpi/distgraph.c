@@ -37,8 +37,14 @@ int MPI_Dist_graph_create_adjacent(MPI_Comm comm, int indegree, const int source
     if (code == MPI_SUCCESS && is_weighted(sourceweights) != is_weighted(destweights)) code = MPI_ERR_ARG;
     if (code != MPI_SUCCESS) return um_fail(of, um_refuse_collective(of, code));
     code = um_begin_collective(of);
-    struct graph graph = {MPI_DIST_GRAPH, indegree, outdegree, is_weighted(sourceweights), (int *)(uintptr_t)sources, (int *)(uintptr_t)destinations,
-                          (int *)(uintptr_t)sourceweights, (int *)(uintptr_t)destweights};
+    struct graph graph = {MPI_DIST_GRAPH,
+                          indegree,
+                          outdegree,
+                          is_weighted(sourceweights),
+                          (int *)(uintptr_t)sources,
+                          (int *)(uintptr_t)destinations,
+                          (int *)(uintptr_t)sourceweights,
+                          (int *)(uintptr_t)destweights};
     return um_answer(of, code != MPI_SUCCESS ? code : make_graph(of, &graph, made));
 }
 
@@ -112,8 +118,8 @@ static int create(struct comm *of, int count, const int sources[], const int deg
     return code;
 }
 
-int MPI_Dist_graph_create(MPI_Comm comm, int count, const int sources[], const int degrees[], const int destinations[], const int weights[], MPI_Info info,
-                          int reorder, MPI_Comm *made) {
+int MPI_Dist_graph_create(MPI_Comm comm, int count, const int sources[], const int degrees[], const int destinations[], const int weights[],
+                          MPI_Info info, int reorder, MPI_Comm *made) {
     struct comm *of = um_comm_at(comm);
     int own = 0;
     (void)reorder;

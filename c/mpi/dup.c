@@ -2,9 +2,9 @@
    chain: its first context, the duplicate of that, which all of them share for their collectives, the duplicate of the duplicate, and so on. A plane is
    a communicator's place in the chain. The members agree on it, so that those that missed one that others made, since a failure met it, agree with
    them again; and a plane that all of them freed is used again. */
+#include "mpi/dup.h"
 #include "collective/collective.h"
 #include "engine/body.h"
-#include "mpi/dup.h"
 #include "mpi/graph.h"
 #include "progress/progress.h"
 #include <stdlib.h>

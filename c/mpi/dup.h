@@ -5,16 +5,16 @@
 #include "progress/rank.h"
 
 struct wish {
-    unsigned free, old;      /* the planes that can be used, and those that were made here before, as bits */
-    unsigned begun[PLANES];  /* the collectives that began on each */
-    int color, key;          /* of MPI_Comm_split */
-    _Atomic int *marks;      /* of MPI_Comm_idup, from position 0 */
+    unsigned free, old;     /* the planes that can be used, and those that were made here before, as bits */
+    unsigned begun[PLANES]; /* the collectives that began on each */
+    int color, key;         /* of MPI_Comm_split */
+    _Atomic int *marks;     /* of MPI_Comm_idup, from position 0 */
 };
 
 /* What comes of their wishes. */
 struct decided {
     int plane;
-    bool is_old;             /* a member had it before */
+    bool is_old; /* a member had it before */
     struct terms terms;
 };
 

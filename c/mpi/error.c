@@ -119,7 +119,8 @@ static void end_by(const char *name, int code) {
     const char *call = um_me->call.name;
     char line[256];
     um_begin_report();
-    fprintf(stderr, "ulfm-mpirun: rank %d: %s%s: %s; errors are fatal on %s: the run ends\n", um_me->number, call, um_line_of(&um_me->call, line, sizeof line), text_of(code), name);
+    fprintf(stderr, "ulfm-mpirun: rank %d: %s%s: %s; errors are fatal on %s: the run ends\n", um_me->number, call,
+            um_line_of(&um_me->call, line, sizeof line), text_of(code), name);
     um_write_rests(true);
     um_tell_table("fatal %d %s %d\n", um_me->number, call, code & 255);
     um_end_run(STATUS_FATAL);
@@ -140,7 +141,7 @@ int um_fail_by(MPI_Errhandler handler, struct comm *comm, void *window, const ch
     const struct errhandler *own = &um_me->mpi.handlers[number - FIRST_OWN];
     MPI_Comm handle = um_handle_of(comm);
     int told = code;
-    um_me->mpi.is_starting = false;   /* the handler may jump out of the call */
+    um_me->mpi.is_starting = false; /* the handler may jump out of the call */
     comm->repeats = 0;
     if (window && own->of_windows) own->of_windows(window, &told);
     else if (own->function) own->function(&handle, &told);

@@ -1,6 +1,6 @@
 /* Graphs that all members know (MPI 4.0, 8.5.3): the neighbours of node k stand in `edges` from index[k - 1] to index[k]. Ranks keep their order. */
-#include "collective/collective.h"
 #include "mpi/graph.h"
+#include "collective/collective.h"
 #include <stdlib.h>
 #include <string.h>
 
@@ -30,7 +30,7 @@ int um_keep_graph(const struct graph *like, struct comm *comm) {
     graph->weight_out = like->is_weighted ? copy_of(like->weight_out, like->edges) : 0;
     comm->graph = graph;
     bool has_weights = !like->is_weighted || (graph->weight_in && graph->weight_out);
-    return graph->index && graph->edge && has_weights ? MPI_SUCCESS : MPI_ERR_NO_MEM;   /* what there is goes with the communicator */
+    return graph->index && graph->edge && has_weights ? MPI_SUCCESS : MPI_ERR_NO_MEM; /* what there is goes with the communicator */
 }
 
 int um_copy_graph(const struct comm *from, struct comm *to) { return from->graph ? um_keep_graph(from->graph, to) : MPI_SUCCESS; }
@@ -67,7 +67,8 @@ int MPI_Graph_create(MPI_Comm comm, int nodes, const int index[], const int edge
     if (code != MPI_SUCCESS) return um_fail(of, um_refuse_collective(of, code));
     code = um_split_comm(of, of->position < nodes ? 0 : MPI_UNDEFINED, 0, made);
     if (code != MPI_SUCCESS || *made == MPI_COMM_NULL) return um_answer(of, code);
-    struct graph graph = {.kind = MPI_GRAPH, .nodes = nodes, .edges = index[nodes - 1], .index = (int *)(uintptr_t)index, .edge = (int *)(uintptr_t)edges};
+    struct graph graph = {
+        .kind = MPI_GRAPH, .nodes = nodes, .edges = index[nodes - 1], .index = (int *)(uintptr_t)index, .edge = (int *)(uintptr_t)edges};
     return um_answer(of, um_keep_graph(&graph, um_comm_at(*made)));
 }
 
@@ -138,7 +139,8 @@ static void tell_edges(const int *from, const int *weights, int count, int most,
     }
 }
 
-int MPI_Dist_graph_neighbors(MPI_Comm comm, int maxindegree, int sources[], int sourceweights[], int maxoutdegree, int destinations[], int destweights[]) {
+int MPI_Dist_graph_neighbors(MPI_Comm comm, int maxindegree, int sources[], int sourceweights[], int maxoutdegree, int destinations[],
+                             int destweights[]) {
     GRAPH(comm, MPI_DIST_GRAPH);
     WRITES(of, (sources || maxindegree <= 0) && (destinations || maxoutdegree <= 0));
     if (maxindegree < 0 || maxoutdegree < 0) return um_fail(of, MPI_ERR_ARG);

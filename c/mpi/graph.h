@@ -5,11 +5,11 @@
 #include "progress/rank.h"
 
 struct graph {
-    int kind;               /* MPI_GRAPH or MPI_DIST_GRAPH */
-    int nodes;              /* of MPI_GRAPH, whose arrays are those that it was made with; of the other one: how many edges come in */
-    int edges;              /* of the other one: how many go out */
+    int kind;  /* MPI_GRAPH or MPI_DIST_GRAPH */
+    int nodes; /* of MPI_GRAPH, whose arrays are those that it was made with; of the other one: how many edges come in */
+    int edges; /* of the other one: how many go out */
     bool is_weighted;
-    int *index, *edge;      /* of the other one: whence edges come, and where they go */
+    int *index, *edge; /* of the other one: whence edges come, and where they go */
     int *weight_in, *weight_out;
 };
 

@@ -88,7 +88,7 @@ int MPI_Group_rank(MPI_Group group, int *rank) {
 int MPI_Group_translate_ranks(MPI_Group from, int count, const int members[], MPI_Group to, int result[]) {
     GROUPS(from, to, result || count <= 0);
     if (count < 0) return um_fail(0, MPI_ERR_ARG);
-    bool has_none = a->size == 0 || b->size == 0;   /* then MPI_PROC_NULL has no rank either, as in MPICH and Open MPI */
+    bool has_none = a->size == 0 || b->size == 0; /* then MPI_PROC_NULL has no rank either, as in MPICH and Open MPI */
     for (int k = 0; k < count; k++) {
         if (members[k] != MPI_PROC_NULL && (members[k] < 0 || members[k] >= a->size)) return um_fail(0, MPI_ERR_RANK);
         result[k] = has_none ? MPI_UNDEFINED : members[k] == MPI_PROC_NULL ? MPI_PROC_NULL : um_position_in(b, a->members[members[k]]);

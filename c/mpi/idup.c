@@ -10,13 +10,13 @@
 /* A duplicate that is being made. */
 struct copy {
     MPI_Comm *made;
-    unsigned number;          /* of its messages, as of a collective that is started */
-    unsigned turn;            /* how many of the chain go before it */
-    int code;                 /* of the copy functions of attributes */
-    struct comm like;         /* what the program gave the old one, when the call was made */
-    struct request *round;    /* what it waits for now */
+    unsigned number;       /* of its messages, as of a collective that is started */
+    unsigned turn;         /* how many of the chain go before it */
+    int code;              /* of the copy functions of attributes */
+    struct comm like;      /* what the program gave the old one, when the call was made */
+    struct request *round; /* what it waits for now */
     bool is_emptied;
-    bool is_looked_at;        /* what it does makes progress, and so looks at it once more */
+    bool is_looked_at; /* what it does makes progress, and so looks at it once more */
     struct decided decided;
     struct wish own, all[MAX_RANKS];
 };

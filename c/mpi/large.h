@@ -8,8 +8,8 @@ struct large {
     MPI_Datatype made[2];
     int *list[4];
     int types, lists;
-    int code;           /* why it can't be, or MPI_SUCCESS */
-    bool is_part;       /* the call is a part of another one itself */
+    int code;     /* why it can't be, or MPI_SUCCESS */
+    bool is_part; /* the call is a part of another one itself */
 };
 
 /* Data in memory, and where they are packed (pack.c, external.c). */

@@ -25,6 +25,7 @@ bool um_is_basic_op(MPI_Op op) { return (uintptr_t)op && (uintptr_t)op <= LAST_B
 
 bool um_is_op(MPI_Op op) { return um_is_basic_op(op) || own_at(op); }
 
+/* clang-format off */
 #define EACH(operation) \
     for (int k = 0; k < count; k++) operation; \
     return true
@@ -98,6 +99,7 @@ static folding *const foldings[] = {
     fold_ushort, fold_uint, fold_ulong, fold_long, fold_llong, fold_llong, locate_float, locate_double, locate_long, locate_int,
     locate_short, locate_ldouble, fold_cfloat, fold_cdouble, fold_cldouble,
 };
+/* clang-format on */
 
 /* Whether the operation is one for this type: MPI_SUCCESS, MPI_ERR_OP or MPI_ERR_TYPE. Those of MPI are for basic types alone (6.9.2); MPI_REPLACE
    and MPI_NO_OP are for one-sided calls. */

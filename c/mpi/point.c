@@ -155,8 +155,8 @@ int MPI_Irecv(void *buf, int count, MPI_Datatype type, int source, int tag, MPI_
 }
 
 /* Begins a receive, then a send. */
-int um_begin_both(const void *sendbuf, int sendcount, MPI_Datatype sendtype, int dest, int sendtag, void *recvbuf, int recvcount, MPI_Datatype recvtype,
-               int source, int recvtag, struct comm *comm, struct request **receive, struct request **send) {
+int um_begin_both(const void *sendbuf, int sendcount, MPI_Datatype sendtype, int dest, int sendtag, void *recvbuf, int recvcount,
+                  MPI_Datatype recvtype, int source, int recvtag, struct comm *comm, struct request **receive, struct request **send) {
     int code = um_begin_receive(recvbuf, recvcount, recvtype, source, recvtag, comm, receive);
     if (code != MPI_SUCCESS) return code;
     code = um_begin_send(sendbuf, sendcount, sendtype, dest, sendtag, comm, um_options.sends_wait, send);
@@ -195,8 +195,7 @@ int um_copy_to_send(const void *buf, int count, MPI_Datatype type, int dest, int
     return MPI_SUCCESS;
 }
 
-int MPI_Sendrecv_replace(void *buf, int count, MPI_Datatype type, int dest, int sendtag, int source, int recvtag, MPI_Comm comm,
-                         MPI_Status *status) {
+int MPI_Sendrecv_replace(void *buf, int count, MPI_Datatype type, int dest, int sendtag, int source, int recvtag, MPI_Comm comm, MPI_Status *status) {
     struct comm *of = um_comm_at(comm);
     void *copy;
     size_t bytes = 0;

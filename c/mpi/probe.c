@@ -15,8 +15,8 @@ struct message {
 struct probe {
     struct comm *comm;
     int source, tag;
-    bool takes;              /* it takes what it finds */
-    int code;                /* MPI_SUCCESS: `found` says whether there is one */
+    bool takes; /* it takes what it finds */
+    int code;   /* MPI_SUCCESS: `found` says whether there is one */
     bool found;
     MPI_Status status;
     struct message *message;

@@ -69,7 +69,8 @@ int MPI_Initialized(int *flag) {
 int MPI_Finalized(int *flag) {
     bool has_finalized = !um_me || um_me->life.has_finalized;
     if (!flag) return MPI_ERR_ARG;
-    for (int k = 0; k < um_options.ranks && !um_me; k++) has_finalized = has_finalized && (um_ranks[k].life.has_finalized || um_ranks[k].life.has_stopped);
+    for (int k = 0; k < um_options.ranks && !um_me; k++)
+        has_finalized = has_finalized && (um_ranks[k].life.has_finalized || um_ranks[k].life.has_stopped);
     *flag = has_finalized;
     return MPI_SUCCESS;
 }
@@ -77,7 +78,7 @@ int MPI_Finalized(int *flag) {
 /* Waits for each rank that hasn't failed: what others sent may need this rank to be handed on (11.2.2). */
 int MPI_Finalize(void) {
     ENTER(0, MPI_UNDEFINED, MPI_UNDEFINED);
-    um_delete_attributes(um_comm_at(MPI_COMM_SELF));   /* before all else (11.2.4) */
+    um_delete_attributes(um_comm_at(MPI_COMM_SELF)); /* before all else (11.2.4) */
     um_delete_attributes(um_comm_at(MPI_COMM_WORLD));
     um_drain();
     um_me->life.has_finalized = true;
@@ -92,7 +93,8 @@ int MPI_Abort(MPI_Comm comm, int errorcode) {
         call.from = __builtin_return_address(0);
         um_set_call(call);
         um_begin_report();
-        fprintf(stderr, "ulfm-mpirun: rank %d called MPI_Abort with %d%s: the run ends\n", um_me->number, errorcode, um_line_of(&um_me->call, line, sizeof line));
+        fprintf(stderr, "ulfm-mpirun: rank %d called MPI_Abort with %d%s: the run ends\n", um_me->number, errorcode,
+                um_line_of(&um_me->call, line, sizeof line));
         um_write_rests(true);
         um_tell_table("abort %d %d\n", um_me->number, errorcode);
     }

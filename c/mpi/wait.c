@@ -102,12 +102,12 @@ int MPI_Request_get_status(MPI_Request handle, int *flag, MPI_Status *status) {
 struct several {
     int count;
     MPI_Request *handles;
-    int active, over, failed;  /* how many there are, are over, have an error or pend */
-    int broken;                /* how many of those by a failure or a revocation */
-    int first;                 /* the first one that is over or pends, or -1 */
+    int active, over, failed; /* how many there are, are over, have an error or pend */
+    int broken;               /* how many of those by a failure or a revocation */
+    int first;                /* the first one that is over or pends, or -1 */
     bool wants_all, wants_one;
-    int next, looks;           /* all before `next` are over without an error; how often it looked */
-    int came;                  /* messages that came and may be those of further requests */
+    int next, looks; /* all before `next` are over without an error; how often it looked */
+    int came;        /* messages that came and may be those of further requests */
 };
 enum { LOOKS_AT_NEXT = 64 };
 
@@ -258,7 +258,7 @@ static int release_some(struct several *several, int *outcount, int indices[], M
     *outcount = several->active ? 0 : MPI_UNDEFINED;
     for (int k = 0; several->active && k < several->count; k++) {
         struct request *request = um_active_at(several->handles[k]);
-        if (!request || (!request->over && !(several->failed && um_look_at(request)))) continue;   /* where none failed, none pends */
+        if (!request || (!request->over && !(several->failed && um_look_at(request)))) continue; /* where none failed, none pends */
         MPI_Status *status = statuses ? &statuses[found] : 0;
         int error = request->over ? release(&several->handles[k], request, status) : pending(request, status);
         if (status && several->failed) status->MPI_ERROR = error;

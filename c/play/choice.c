@@ -56,8 +56,11 @@ static void stand_before(struct event call, uint64_t look) {
 }
 
 static struct event event_of(enum kind_of_event kind, uint32_t comm, uint32_t peer, uint32_t tag) {
-    return (struct event){.kind = (uint8_t)kind, .rank = (uint8_t)um_me->number, .peer = peer > MAX_RANKS ? NOBODY : (uint8_t)peer,
-                          .comm = (uint8_t)comm, .tag = tag == ULFM_ANY ? -1 : (int32_t)tag};
+    return (struct event){.kind = (uint8_t)kind,
+                          .rank = (uint8_t)um_me->number,
+                          .peer = peer > MAX_RANKS ? NOBODY : (uint8_t)peer,
+                          .comm = (uint8_t)comm,
+                          .tag = tag == ULFM_ANY ? -1 : (int32_t)tag};
 }
 
 /* Before a call that does something. */
@@ -195,7 +198,7 @@ uint32_t __wrap_ulfm_ack_failed(ulfm_slot *slot, uint32_t comm, uint32_t count, 
 
 REAL(dup);
 uint32_t __wrap_ulfm_dup(ulfm_slot *slot, uint32_t comm, uint32_t *made) {
-    bool is_event = um_is_played && um_me->life.has_begun;   /* nothing comes before MPI_Init is over */
+    bool is_event = um_is_played && um_me->life.has_begun; /* nothing comes before MPI_Init is over */
     if (is_event) before(event_of(DUPLICATES, comm, NOBODY, ULFM_ANY));
     uint32_t code = __real_ulfm_dup(slot, comm, made);
     if (um_footprints && is_event) um_end_question(code);

@@ -28,20 +28,20 @@ struct exceptions {
 
 struct context {
 #if defined __x86_64__
-    void *at;                 /* its stack pointer */
+    void *at; /* its stack pointer */
 #else
     ucontext_t at;
     fenv_t modes;
 #endif
-    char *low;                /* of its stack */
+    char *low; /* of its stack */
     size_t room;
-    char *deepest;            /* below this it uses nothing of it */
-    int error;                /* its errno */
+    char *deepest; /* below this it uses nothing of it */
+    int error;     /* its errno */
     bool knows_exceptions;
     struct exceptions exceptions, *(*find_exceptions)(void);
-    void *sanitized;          /* what AddressSanitizer keeps of it */
+    void *sanitized; /* what AddressSanitizer keeps of it */
 };
-enum { BELOW = 4096 };   /* more than what a switch needs */
+enum { BELOW = 4096 }; /* more than what a switch needs */
 static struct context contexts[MAX_RANKS], controller;
 static int present;
 

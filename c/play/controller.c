@@ -5,7 +5,7 @@
 #include <setjmp.h>
 
 ulfm_next_item um_heads[MAX_RANKS][MAX_RANKS];
-static int spins;   /* looks in a row that were made again */
+static int spins; /* looks in a row that were made again */
 enum { MOST_SPINS = 10000 };
 
 /* ---- What ranks do in place of threads: see progress.c ---- */
@@ -77,10 +77,17 @@ void um_settle(void) {
 
 static struct event event_of_item(int from, int to) {
     const ulfm_next_item *item = &um_heads[from][to];
-    if (um_players[from].has_stopped && um_is_blocked(from, to)) return (struct event){.kind = LOSES, .rank = (uint8_t)to, .peer = (uint8_t)from, .tag = -1};
+    if (um_players[from].has_stopped && um_is_blocked(from, to))
+        return (struct event){.kind = LOSES, .rank = (uint8_t)to, .peer = (uint8_t)from, .tag = -1};
     bool is_message = item->kind == ULFM_MESSAGE, is_agreement = item->kind == ULFM_AGREE_ENTRY;
-    return (struct event){.kind = TAKES, .rank = (uint8_t)to, .peer = (uint8_t)from, .item = (uint8_t)item->kind, .comm = (uint8_t)item->comm,
-                          .tag = is_message ? (int32_t)item->tag : is_agreement ? (int32_t)item->round : -1};
+    return (struct event){.kind = TAKES,
+                          .rank = (uint8_t)to,
+                          .peer = (uint8_t)from,
+                          .item = (uint8_t)item->kind,
+                          .comm = (uint8_t)item->comm,
+                          .tag = is_message     ? (int32_t)item->tag
+                                 : is_agreement ? (int32_t)item->round
+                                                : -1};
 }
 
 static bool can_take(int from, int to) { return !um_players[to].has_stopped && um_heads[from][to].kind != ULFM_NOTHING; }
@@ -120,9 +127,9 @@ static void take(const struct event *event) {
     um_note_item(event->rank, event->peer, &um_heads[event->peer][event->rank]);
     ulfm_take(&rank->home, event->peer, &took);
     if (um_footprints) um_note_taken(event, was_revoked);
-    ulfm_push(&rank->home, &moved);   /* word of a revocation is handed on */
+    ulfm_push(&rank->home, &moved); /* word of a revocation is handed on */
     um_block_rings(event->rank);
-    ulfm_push(&um_ranks[event->peer].home, &moved);   /* what found no place before */
+    ulfm_push(&um_ranks[event->peer].home, &moved); /* what found no place before */
     um_players[event->rank].taken++;
     um_forget_looks(&um_players[event->rank]);
     um_look_ahead(event->peer);

@@ -11,8 +11,8 @@ enum { TOP = 64, ROW = 26, LEFT = 52, COLUMN = 310, MOST_LINES = 256 };
 static struct drawn {
     const char *call;
     const void *from;
-    int calls, row, lost;   /* lost: the first of the events that sent what is lost, or NO_STEP */
-} *drawn;
+    int calls, row, lost; /* lost: the first of the events that sent what is lost, or NO_STEP */
+} * drawn;
 static int rows;
 
 /* Lines of the program that were asked for. */
@@ -23,22 +23,28 @@ static struct {
 
 static const struct look_of_item {
     const char *marker, *color, *dash;
-} looks[] = {{"lost", "#1b1b1b", "1 3"}, {"message", "#1a4f9c", "none"}, {"notice", "#a31621", "2 3"}, {"revocation", "#8a5000", "8 3"},
-             {"shrink", "#1f6f3a", "5 2"}, {"agreement", "#5b3a9c", "5 2"}};
+} looks[] = {{"lost", "#1b1b1b", "1 3"},       {"message", "#1a4f9c", "none"}, {"notice", "#a31621", "2 3"},
+             {"revocation", "#8a5000", "8 3"}, {"shrink", "#1f6f3a", "5 2"},   {"agreement", "#5b3a9c", "5 2"}};
 
 static const char marks[] =
     "<defs>\n"
-    "<marker id=\"message\" viewBox=\"0 0 10 10\" refX=\"9\" refY=\"5\" markerWidth=\"10\" markerHeight=\"10\" markerUnits=\"userSpaceOnUse\" orient=\"auto\"><path d=\"M0 0L10 5L0 10z\" fill=\"#1a4f9c\"/></marker>\n"
-    "<marker id=\"notice\" viewBox=\"0 0 10 10\" refX=\"8\" refY=\"5\" markerWidth=\"10\" markerHeight=\"10\" markerUnits=\"userSpaceOnUse\" orient=\"auto\"><path d=\"M1 1L9 9M9 1L1 9\" fill=\"none\" stroke=\"#a31621\" stroke-width=\"2\"/></marker>\n"
-    "<marker id=\"revocation\" viewBox=\"0 0 10 10\" refX=\"9\" refY=\"5\" markerWidth=\"11\" markerHeight=\"11\" markerUnits=\"userSpaceOnUse\" orient=\"auto\"><path d=\"M1 1L9 5L1 9\" fill=\"none\" stroke=\"#8a5000\" stroke-width=\"2\"/></marker>\n"
-    "<marker id=\"shrink\" viewBox=\"0 0 12 12\" refX=\"11\" refY=\"6\" markerWidth=\"12\" markerHeight=\"12\" markerUnits=\"userSpaceOnUse\" orient=\"auto\"><path d=\"M1 1L11 6L1 11z\" fill=\"#fff\" stroke=\"#1f6f3a\" stroke-width=\"1.5\"/></marker>\n"
-    "<marker id=\"agreement\" viewBox=\"0 0 12 12\" refX=\"11\" refY=\"6\" markerWidth=\"12\" markerHeight=\"12\" markerUnits=\"userSpaceOnUse\" orient=\"auto\"><circle cx=\"6\" cy=\"6\" r=\"4.5\" fill=\"#fff\" stroke=\"#5b3a9c\" stroke-width=\"1.5\"/></marker>\n"
-    "<marker id=\"lost\" viewBox=\"0 0 12 12\" refX=\"1\" refY=\"6\" markerWidth=\"12\" markerHeight=\"12\" markerUnits=\"userSpaceOnUse\" orient=\"auto\"><path d=\"M2 1V11M6 2V10M10 4V8\" fill=\"none\" stroke=\"#1b1b1b\" stroke-width=\"1.5\"/></marker>\n"
+    "<marker id=\"message\" viewBox=\"0 0 10 10\" refX=\"9\" refY=\"5\" markerWidth=\"10\" markerHeight=\"10\" markerUnits=\"userSpaceOnUse\" "
+    "orient=\"auto\"><path d=\"M0 0L10 5L0 10z\" fill=\"#1a4f9c\"/></marker>\n"
+    "<marker id=\"notice\" viewBox=\"0 0 10 10\" refX=\"8\" refY=\"5\" markerWidth=\"10\" markerHeight=\"10\" markerUnits=\"userSpaceOnUse\" "
+    "orient=\"auto\"><path d=\"M1 1L9 9M9 1L1 9\" fill=\"none\" stroke=\"#a31621\" stroke-width=\"2\"/></marker>\n"
+    "<marker id=\"revocation\" viewBox=\"0 0 10 10\" refX=\"9\" refY=\"5\" markerWidth=\"11\" markerHeight=\"11\" markerUnits=\"userSpaceOnUse\" "
+    "orient=\"auto\"><path d=\"M1 1L9 5L1 9\" fill=\"none\" stroke=\"#8a5000\" stroke-width=\"2\"/></marker>\n"
+    "<marker id=\"shrink\" viewBox=\"0 0 12 12\" refX=\"11\" refY=\"6\" markerWidth=\"12\" markerHeight=\"12\" markerUnits=\"userSpaceOnUse\" "
+    "orient=\"auto\"><path d=\"M1 1L11 6L1 11z\" fill=\"#fff\" stroke=\"#1f6f3a\" stroke-width=\"1.5\"/></marker>\n"
+    "<marker id=\"agreement\" viewBox=\"0 0 12 12\" refX=\"11\" refY=\"6\" markerWidth=\"12\" markerHeight=\"12\" markerUnits=\"userSpaceOnUse\" "
+    "orient=\"auto\"><circle cx=\"6\" cy=\"6\" r=\"4.5\" fill=\"#fff\" stroke=\"#5b3a9c\" stroke-width=\"1.5\"/></marker>\n"
+    "<marker id=\"lost\" viewBox=\"0 0 12 12\" refX=\"1\" refY=\"6\" markerWidth=\"12\" markerHeight=\"12\" markerUnits=\"userSpaceOnUse\" "
+    "orient=\"auto\"><path d=\"M2 1V11M6 2V10M10 4V8\" fill=\"none\" stroke=\"#1b1b1b\" stroke-width=\"1.5\"/></marker>\n"
     "</defs>\n";
 
 bool um_begin_drawing(void) {
     drawn = calloc(MOST_STEPS, sizeof *drawn);
-    return drawn && (um_footprints || um_begin_search());   /* which event sent an item is in its footprint */
+    return drawn && (um_footprints || um_begin_search()); /* which event sent an item is in its footprint */
 }
 
 /* An event comes. */
@@ -89,8 +95,8 @@ static void lay_out_rows(void) {
 }
 
 static void put_arrow(FILE *to, const struct look_of_item *look, int x, int y, int to_x, int to_y) {
-    fprintf(to, "<path d=\"M%d %dL%d %d\" fill=\"none\" stroke=\"%s\" stroke-width=\"1.5\" stroke-dasharray=\"%s\" marker-end=\"url(#%s)\"/>\n", x, y, to_x, to_y,
-            look->color, look->dash, look->marker);
+    fprintf(to, "<path d=\"M%d %dL%d %d\" fill=\"none\" stroke=\"%s\" stroke-width=\"1.5\" stroke-dasharray=\"%s\" marker-end=\"url(#%s)\"/>\n", x, y,
+            to_x, to_y, look->color, look->dash, look->marker);
 }
 
 static void put_event(FILE *to, int k, int *shown) {
@@ -121,7 +127,9 @@ static void put_end(FILE *to, int rank) {
         snprintf(text, sizeof text, own->life.has_stopped ? "stopped" : "ended with %d", own->life.status);
         put_text(to, column(rank) + 12, height(rows) + 4, own->life.status && !own->life.is_planned ? "#a31621" : "#1b1b1b", text);
     } else if (own->life.has_stopped) put_text(to, column(rank) + 12, height(rows) + 4, "#1b1b1b", "stopped");
-    else put_call(to, rank, rows, um_players[rank].state == AT_CALL ? "loops over " : "waits in ", own->call.name ? own->call.name : "its start", own->call.from, own->plan.calls, "#a31621");
+    else
+        put_call(to, rank, rows, um_players[rank].state == AT_CALL ? "loops over " : "waits in ", own->call.name ? own->call.name : "its start",
+                 own->call.from, own->plan.calls, "#a31621");
 }
 
 /* Draws the schedule that was played. False where the file can't be written. */
@@ -131,7 +139,9 @@ bool um_draw_schedule(const char *path) {
     if (!to) return false;
     memset(shown, -1, sizeof shown);
     lay_out_rows();
-    fprintf(to, "<svg xmlns=\"http://www.w3.org/2000/svg\" width=\"%d\" height=\"%d\" viewBox=\"0 0 %d %d\" font-family=\"ui-monospace, 'DejaVu Sans Mono', Menlo, Consolas, monospace\" font-size=\"13\">\n",
+    fprintf(to,
+            "<svg xmlns=\"http://www.w3.org/2000/svg\" width=\"%d\" height=\"%d\" viewBox=\"0 0 %d %d\" font-family=\"ui-monospace, 'DejaVu Sans "
+            "Mono', Menlo, Consolas, monospace\" font-size=\"13\">\n",
             width, height(rows + 1), width, height(rows + 1));
     fprintf(to, "%s<rect width=\"%d\" height=\"%d\" rx=\"6\" fill=\"#fff\"/>\n", marks, width, height(rows + 1));
     for (int k = 0; k < um_options.ranks; k++) {

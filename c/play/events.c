@@ -8,8 +8,9 @@
 
 enum { LINE = 160 };
 static const char *const words_of_calls[] = {
-    "sends to", "posts a receive from", "looks at receive", "cancels receive", "probes", "revokes", "asks for a revocation", "asks for failures",
-    "acknowledges failures", "duplicates", "enters the shrink", "polls the shrink", "enters an agreement", "polls the agreement", "stops"};
+    "sends to",          "posts a receive from",  "looks at receive",    "cancels receive",       "probes",
+    "revokes",           "asks for a revocation", "asks for failures",   "acknowledges failures", "duplicates",
+    "enters the shrink", "polls the shrink",      "enters an agreement", "polls the agreement",   "stops"};
 static const char *const words_of_items[] = {
     "nothing", "a message", "word of failure", "word of revocation", "an entry into the shrink", "an entry into agreement"};
 
@@ -55,7 +56,7 @@ static bool plan_losses_of_file(void) {
 bool um_open_schedule(void) {
     schedule = fopen(um_options.schedule, "r");
     if (!schedule) fprintf(stderr, "ulfm-mpirun: %s can't be read\n", um_options.schedule);
-    return schedule && (!plan_losses_of_file() || um_begin_search());   /* what was sent is counted by footprints */
+    return schedule && (!plan_losses_of_file() || um_begin_search()); /* what was sent is counted by footprints */
 }
 
 /* The next event of the file; false at its end. */
@@ -103,7 +104,7 @@ enum { MOST_EVENTS = 1 << 24 };
 static struct {
     int count;
     struct event events[];
-} *kept;
+} * kept;
 
 /* Adds an event to those that are kept: they stand in memory that isn't put back. */
 void um_record(const struct event *event) {

@@ -9,12 +9,12 @@
 struct entries {
     struct {
         uint32_t flag;
-        uint8_t known;   /* the failures that the rank knew, as bits */
-    } *at;
+        uint8_t known; /* the failures that the rank knew, as bits */
+    } * at;
     int count;
 };
 static struct entries entries[MAX_RANKS][CONTEXTS][2];
-static int heard[MAX_RANKS][MAX_RANKS][CONTEXTS][2];   /* how many of them came to a rank from another one */
+static int heard[MAX_RANKS][MAX_RANKS][CONTEXTS][2]; /* how many of them came to a rank from another one */
 static uint8_t known[MAX_RANKS];
 static uint64_t revoked[MAX_RANKS];
 

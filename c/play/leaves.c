@@ -11,7 +11,9 @@
 #include <unistd.h>
 
 #define FROM __builtin_return_address(0)
-#define REAL(name) static __typeof__(name) *real_##name;  if (!real_##name) real_##name = (__typeof__(name) *)dlsym(RTLD_NEXT, #name)
+#define REAL(name) \
+    static __typeof__(name) *real_##name; \
+    if (!real_##name) real_##name = (__typeof__(name) *)dlsym(RTLD_NEXT, #name)
 /* The permissions that stand behind the flags, where a file may be made. */
 #define MODE(flags, mode) \
     mode_t mode = 0; \

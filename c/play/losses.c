@@ -4,11 +4,11 @@
 #include "search/search.h"
 #include <stdlib.h>
 
-enum { OF_FILLERS = 1, TAG = 32767 };   /* the first duplicate of the world; no collective has this tag (collect.c) */
+enum { OF_FILLERS = 1, TAG = 32767 }; /* the first duplicate of the world; no collective has this tag (collect.c) */
 
 /* From each rank to each. */
 static struct loss {
-    int kept;   /* so many items come */
+    int kept; /* so many items come */
     bool is_planned, is_blocked;
 } losses[MAX_RANKS][MAX_RANKS];
 

@@ -19,17 +19,17 @@ struct mapping {
     struct call_of call;
 };
 static struct outside {
-    bool is_begun;       /* notes are taken */
+    bool is_begun; /* notes are taken */
     int mapping_count;
-    struct call_of opened[FILES], closed[FILES];   /* by the calls of ranks in the present schedule */
+    struct call_of opened[FILES], closed[FILES]; /* by the calls of ranks in the present schedule */
     struct mapping mappings[MAPPINGS];
 
     bool is_open[FILES];
-    off_t at[FILES];     /* -1: it isn't a file with places */
-    int files, lowest;   /* all are below `files`; the lowest number that is free */
+    off_t at[FILES];   /* -1: it isn't a file with places */
+    int files, lowest; /* all are below `files`; the lowest number that is free */
     struct sigaction actions[SIGNALS + 1];
     unsigned long pages;
-} *outside;
+} * outside;
 
 static int lowest_free(void) {
     int number = fcntl(0, F_DUPFD, 0);
@@ -64,7 +64,8 @@ void um_note_closed(int file, const void *from) {
 }
 
 void um_note_mapped(void *at, size_t bytes, const void *from) {
-    if (is_noted() && outside->mapping_count < MAPPINGS) outside->mappings[outside->mapping_count++] = (struct mapping){at, bytes, present_call(from)};
+    if (is_noted() && outside->mapping_count < MAPPINGS)
+        outside->mappings[outside->mapping_count++] = (struct mapping){at, bytes, present_call(from)};
 }
 
 /* Whether it may be unmapped: what was there before stays, since it is put back. */
@@ -100,7 +101,8 @@ static const struct call_of not_known = {0, -1};
 
 static void put_back_places(void) {
     for (int k = 0; k < outside->files; k++) {
-        if (k == um_options.report || !outside->is_open[k] || outside->at[k] < 0 || lseek(k, 0, SEEK_CUR) == outside->at[k] || fcntl(k, F_GETFD) < 0) continue;
+        if (k == um_options.report || !outside->is_open[k] || outside->at[k] < 0 || lseek(k, 0, SEEK_CUR) == outside->at[k] || fcntl(k, F_GETFD) < 0)
+            continue;
         um_tell_left(k == 0 ? "reads input" : "reads or writes a file that was open before", not_known);
         lseek(k, outside->at[k], SEEK_SET);
     }

@@ -7,18 +7,32 @@
 
 /* What happens at a rank: a call of the engine that others may see or whose answer depends on what came, or an item is taken. */
 enum kind_of_event {
-    SENDS, POSTS, TESTS, CANCELS, PROBES, REVOKES, ASKS_REVOKED, ASKS_FAILED, ACKNOWLEDGES, DUPLICATES, ENTERS_SHRINK, POLLS_SHRINK, ENTERS_AGREE,
-    POLLS_AGREE, STOPS, TAKES,
-    LOSES   /* the last items of a rank that stopped never come */
+    SENDS,
+    POSTS,
+    TESTS,
+    CANCELS,
+    PROBES,
+    REVOKES,
+    ASKS_REVOKED,
+    ASKS_FAILED,
+    ACKNOWLEDGES,
+    DUPLICATES,
+    ENTERS_SHRINK,
+    POLLS_SHRINK,
+    ENTERS_AGREE,
+    POLLS_AGREE,
+    STOPS,
+    TAKES,
+    LOSES /* the last items of a rank that stopped never come */
 };
 enum { NOBODY = 255 };
 
 struct event {
     uint8_t kind, rank;
-    uint8_t peer;    /* the position that it names or, of an item, the rank that sent it; NOBODY: none, or any */
-    uint8_t item;    /* of an item: its kind, as ulfm_next tells it */
+    uint8_t peer; /* the position that it names or, of an item, the rank that sent it; NOBODY: none, or any */
+    uint8_t item; /* of an item: its kind, as ulfm_next tells it */
     uint8_t comm;
-    int32_t tag;     /* of a message; of a look at a request its number; of an entry into an agreement that one's; -1: none, or any */
+    int32_t tag; /* of a message; of a look at a request its number; of an entry into an agreement that one's; -1: none, or any */
 };
 
 /* A rank stands before a call, waits, or has ended. */
@@ -28,18 +42,18 @@ enum { LOOKS = 256 };
 /* What the controller knows of a rank. */
 struct player {
     enum state state;
-    struct event call;        /* the call that it stands before */
-    uint64_t look;            /* what tells the call from other looks */
-    bool in_wait;             /* a look that finds nothing is no event */
-    bool is_granted;          /* it may make its next call */
-    bool is_first;            /* nothing was seen since the look of a wait began */
-    bool looks_anew;          /* something came when it wanted to look: all that came is looked at */
+    struct event call; /* the call that it stands before */
+    uint64_t look;     /* what tells the call from other looks */
+    bool in_wait;      /* a look that finds nothing is no event */
+    bool is_granted;   /* it may make its next call */
+    bool is_first;     /* nothing was seen since the look of a wait began */
+    bool looks_anew;   /* something came when it wanted to look: all that came is looked at */
     bool has_stopped;
-    int taken;                /* items that it took */
-    int taken_before;         /* .. when it last looked at what is open, */
-    int taken_at_wait;        /* .. and when it began to wait */
+    int taken;         /* items that it took */
+    int taken_before;  /* .. when it last looked at what is open, */
+    int taken_at_wait; /* .. and when it began to wait */
     uint64_t marks_at_wait, marks_at_look;
-    uint64_t looks[LOOKS];    /* what it looked at since something came; 0: nothing */
+    uint64_t looks[LOOKS]; /* what it looked at since something came; 0: nothing */
     int look_count;
 };
 extern struct player um_players[MAX_RANKS];
@@ -75,7 +89,7 @@ bool um_is_known_revoked(int rank, uint32_t comm);
 bool um_has_heard_all(int rank, uint32_t comm, bool agrees);
 
 /* controller.c */
-extern ulfm_next_item um_heads[MAX_RANKS][MAX_RANKS];   /* what is first, from each rank to each */
+extern ulfm_next_item um_heads[MAX_RANKS][MAX_RANKS]; /* what is first, from each rank to each */
 int um_list_choices(struct event *choices);
 void um_settle(void);
 void um_look_ahead(int from);
@@ -139,7 +153,7 @@ bool um_draw_schedule(const char *path);
 /* unfollowed.c */
 void um_meet_thread(const void *from);
 struct call_of {
-    const void *from;   /* an address in the program; null: not known */
+    const void *from; /* an address in the program; null: not known */
     int rank;
 };
 bool um_begin_notes(void);

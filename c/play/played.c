@@ -14,12 +14,12 @@ bool um_is_played;
 static sigjmp_buf to_end;
 static bool is_playing;
 static uint64_t chance;
-static volatile sig_atomic_t alarms;   /* how often the time was over */
+static volatile sig_atomic_t alarms; /* how often the time was over */
 
 /* Numbers by chance, from a seed. */
 void um_begin_chance(uint64_t seed) { chance = seed * 0x9E3779B97F4A7C15u + 1; }
 
-int um_choose_by_chance(int count) {   /* splitmix64 */
+int um_choose_by_chance(int count) { /* splitmix64 */
     uint64_t x = chance += 0x9E3779B97F4A7C15u;
     x = (x ^ x >> 30) * 0xBF58476D1CE4E5B9u;
     x = (x ^ x >> 27) * 0x94D049BB133111EBu;
@@ -43,7 +43,7 @@ void um_fix_addresses(char **words) {
 
 static void count_alarm(int number) {
     (void)number;
-    if (++alarms > 1) um_tell_late();   /* a rank doesn't come to its next call */
+    if (++alarms > 1) um_tell_late(); /* a rank doesn't come to its next call */
 }
 
 /* From the end of the time on, a signal each second. */
@@ -53,7 +53,7 @@ void um_set_alarm(void) {
     struct sigevent event = {.sigev_notify = SIGEV_SIGNAL, .sigev_signo = number};
     time_t whole = (time_t)um_options.timeout;
     struct itimerspec at = {.it_value = {whole, (long)(1e9 * (um_options.timeout - (double)whole))}, .it_interval = {1, 0}};
-    if (um_options.timeout <= 0 || um_options.branches >= 0) return;   /* those that go on from it have their time */
+    if (um_options.timeout <= 0 || um_options.branches >= 0) return; /* those that go on from it have their time */
     signal(number, count_alarm);
     if (timer_create(CLOCK_MONOTONIC, &event, &timer) == 0) timer_settime(timer, 0, &at, 0);
 }

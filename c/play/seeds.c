@@ -19,7 +19,8 @@ static void play_seed(uint64_t seed, bool is_apart) {
 
 static int compare_endings(const void *a, const void *b) {
     const struct ending *one = a, *other = b;
-    return one->count != other->count ? (one->count < other->count) - (one->count > other->count) : (one->seed > other->seed) - (one->seed < other->seed);
+    return one->count != other->count ? (one->count < other->count) - (one->count > other->count)
+                                      : (one->seed > other->seed) - (one->seed < other->seed);
 }
 
 static int tell_tally(void) {

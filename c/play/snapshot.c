@@ -16,7 +16,7 @@ enum { MOST_REGIONS = 1000, PAGE = 4096, SMALL = 1 << 20, MOST_RUNS = 512, MAPS 
 struct region {
     char *from, *saved;
     size_t bytes;
-    bool is_watched;   /* the kernel tells which of its pages were written */
+    bool is_watched; /* the kernel tells which of its pages were written */
 };
 static struct snapshot {
     void *end_of_heap;
@@ -24,7 +24,7 @@ static struct snapshot {
     bool is_whole;
     struct region regions[MOST_REGIONS];
     char maps[MAPS];
-} *snapshot;
+} * snapshot;
 
 /* linux/fs.h has these from Linux 6.7 on. */
 struct run_of_pages {
@@ -67,7 +67,7 @@ static void save(char *from, char *to) {
     snapshot->is_whole = snapshot->is_whole && region->saved && snapshot->count < MOST_REGIONS - 1;
     if (!snapshot->is_whole) return;
     snapshot->count++;
-    for (size_t at = 0; at < region->bytes; at += PAGE) {   /* a page of zeros takes no memory */
+    for (size_t at = 0; at < region->bytes; at += PAGE) { /* a page of zeros takes no memory */
         size_t bytes = region->bytes - at < PAGE ? region->bytes - at : PAGE;
         if (!is_zero(from + at, bytes)) memcpy(region->saved + at, from + at, bytes);
     }
@@ -90,7 +90,7 @@ static void save_mapping(char *from, char *to) {
 static bool read_maps(void) {
     int file = open("/proc/self/maps", O_RDONLY | O_CLOEXEC);
     size_t used = 0;
-    for (ssize_t count = 1; file >= 0 && count > 0 && used < MAPS - 1; used += count > 0 ? (size_t)count : 0)
+    for (ssize_t count = 1; file >= 0 && count > 0 && used<MAPS - 1; used += count> 0 ? (size_t)count : 0)
         count = read(file, snapshot->maps + used, MAPS - 1 - used);
     if (file >= 0) close(file);
     snapshot->maps[used] = 0;

@@ -105,7 +105,7 @@ bool um_count_ending(uint64_t seed, int *which) {
     enum outcome outcome = outcome_of(why, sizeof why);
     int k = 0;
     while (k < um_tally->count && (um_tally->endings[k].outcome != outcome || strcmp(um_tally->endings[k].why, why))) k++;
-    if (k == MOST_ENDS) k--;   /* the last one stands for all others */
+    if (k == MOST_ENDS) k--; /* the last one stands for all others */
     bool is_first = k == um_tally->count;
     if (is_first) {
         um_tally->endings[um_tally->count] = (struct ending){.outcome = outcome, .seed = seed};

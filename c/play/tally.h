@@ -12,7 +12,7 @@ struct ending {
     enum outcome outcome;
     char why[WHY];
     long count;
-    uint64_t seed;   /* of the first one */
+    uint64_t seed; /* of the first one */
 };
 
 struct tally {
@@ -27,7 +27,7 @@ struct tally {
 };
 
 /* tally.c */
-extern struct tally *um_tally;   /* null where one schedule is played */
+extern struct tally *um_tally; /* null where one schedule is played */
 bool um_begin_tally(void);
 bool um_play_next(bool is_apart);
 bool um_count_ending(uint64_t seed, int *which);

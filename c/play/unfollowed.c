@@ -11,7 +11,9 @@
 #include <time.h>
 #include <unistd.h>
 
-#define REAL(name) static __typeof__(name) *real_##name;  if (!real_##name) real_##name = (__typeof__(name) *)dlsym(RTLD_NEXT, #name)
+#define REAL(name) \
+    static __typeof__(name) *real_##name; \
+    if (!real_##name) real_##name = (__typeof__(name) *)dlsym(RTLD_NEXT, #name)
 #define TELL(what) um_tell_unfollowed(what, __builtin_return_address(0))
 
 enum { MOST_NOTES = 32 };
@@ -21,7 +23,7 @@ static struct notes {
     int count;
     const char *what[MOST_NOTES];
     char text[MOST_NOTES][240];
-} *notes;
+} * notes;
 
 bool um_begin_notes(void) { return (notes = um_shared_memory(sizeof *notes)) != 0; }
 
@@ -44,8 +46,8 @@ static char *new_note(const char *what, const void *from) {
 void um_tell_unfollowed(const char *what, const void *from) {
     char line[120], *text = um_me ? new_note(what, from) : 0;
     if (!text) return;
-    snprintf(text, sizeof *notes->text, "ulfm-mpirun: rank %d %s%s: that isn't followed, so another run of this schedule may differ\n", um_me->number, what,
-             um_line_before(from, line, sizeof line));
+    snprintf(text, sizeof *notes->text, "ulfm-mpirun: rank %d %s%s: that isn't followed, so another run of this schedule may differ\n", um_me->number,
+             what, um_line_before(from, line, sizeof line));
     if (!(um_options.seeds || um_options.limit)) fputs(text, stderr);
 }
 
@@ -103,7 +105,8 @@ void um_meet_thread(const void *from) {
 
 /* ---- Input ---- */
 
-#define TELL_INPUT(file) if ((file) == stdin) TELL("reads input")
+#define TELL_INPUT(file) \
+    if ((file) == stdin) TELL("reads input")
 
 ssize_t read(int file, void *bytes, size_t count) {
     REAL(read);

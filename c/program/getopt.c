@@ -10,7 +10,7 @@
 
 OWN int optind = 1, opterr = 1, optopt;
 OWN char *optarg;
-static char *rest;   /* of a word with several letters */
+static char *rest; /* of a word with several letters */
 
 static int refuse(char **words, const char *letters, const char *what, const char *name, int answer) {
     if (opterr && *letters != ':') fprintf(stderr, "%s: %s '%s'\n", words[0], what, name);
@@ -99,7 +99,7 @@ static void move_behind(char **words, int from, int to) {
 
 OWN int getopt_long(int count, char *const fixed[], const char *letters, const struct option *longs, int *which) {
     char **words = (char **)fixed;
-    static int from, to;   /* the words before the option that is taken: they are moved when all letters of its word are */
+    static int from, to; /* the words before the option that is taken: they are moved when all letters of its word are */
     if (optind == 0) optind = 1, rest = 0;
     int stays = *letters == '+' || getenv("POSIXLY_CORRECT") != 0;
     const char *known = letters + (*letters == '+' || *letters == '-');

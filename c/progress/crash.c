@@ -39,7 +39,8 @@ static void *address_of(const ucontext_t *context) {
 
 /* A library whose variables all ranks share: none of the system or of the layer. */
 static bool is_shared_library(const char *name) {
-    static const char *const own[] = {"libulfm_mpi.so", "libc.so", "libm.so", "libstdc++.so", "libgcc_s.so", "libpthread.so", "ld-linux", "ulfm-mpirun", "vdso"};
+    static const char *const own[] = {"libulfm_mpi.so", "libc.so",  "libm.so",     "libstdc++.so", "libgcc_s.so",
+                                      "libpthread.so",  "ld-linux", "ulfm-mpirun", "vdso"};
     for (size_t k = 0; k < sizeof own / sizeof *own; k++)
         if (strstr(name, own[k])) return false;
     return strstr(name, ".so") != 0;
@@ -50,7 +51,7 @@ static void find_spot(const struct rank *rank, void *at, struct spot_of_crash *s
     void *frames[FRAMES];
     Dl_info info;
     int count = backtrace(frames, FRAMES), first = 0;
-    while (first < count && frames[first] != at) first++;   /* before it stand the handler's */
+    while (first < count && frames[first] != at) first++; /* before it stand the handler's */
     for (int k = first < count ? first : 0; k < count; k++) {
         if (!dladdr(frames[k], &info) || !info.dli_fname) continue;
         if (rank->program.path && !strcmp(info.dli_fname, rank->program.path)) {
@@ -75,19 +76,23 @@ static void crashed(int number, siginfo_t *told, void *context) {
     int length = 0;
     if (!um_is_launcher()) end_child(number);
     bool is_first = !um_is_crashed;
-    if (!is_first && !pthread_equal(crashed_thread, pthread_self())) for (;;) pause();
+    if (!is_first && !pthread_equal(crashed_thread, pthread_self()))
+        for (;;) pause();
     crashed_thread = pthread_self();
     um_is_crashed = 1;
     if (is_first && rank && !um_options.seeds && !um_options.limit) find_spot(rank, address_of(context), &spot);
     const char *words = words_of_signal(number, um_me, told->si_addr);
     if (!rank) length = snprintf(line, sizeof line, "ulfm-mpirun: crashed by signal %d (%s)\n", number, words);
-    else if (!um_me) length = snprintf(line, sizeof line, "ulfm-mpirun: a further thread of rank %d crashed by signal %d (%s)%s\n", rank->number, number, words, spot.line);
+    else if (!um_me)
+        length = snprintf(line, sizeof line, "ulfm-mpirun: a further thread of rank %d crashed by signal %d (%s)%s\n", rank->number, number, words,
+                          spot.line);
     else
-        length = snprintf(line, sizeof line, "ulfm-mpirun: rank %d crashed by signal %d (%s)%s, in or after %s (call %d)\n", rank->number, number, words, spot.line,
-                          rank->call.name ? rank->call.name : "its start", rank->plan.calls);
+        length = snprintf(line, sizeof line, "ulfm-mpirun: rank %d crashed by signal %d (%s)%s, in or after %s (call %d)\n", rank->number, number,
+                          words, spot.line, rank->call.name ? rank->call.name : "its start", rank->plan.calls);
     if (spot.library && um_options.ranks > 1)
-        length += snprintf(line + length, sizeof line - (size_t)length,
-                           "ulfm-mpirun: it was in %.200s, whose variables all ranks share: linked statically, each rank has its own\n", spot.library);
+        length +=
+            snprintf(line + length, sizeof line - (size_t)length,
+                     "ulfm-mpirun: it was in %.200s, whose variables all ranks share: linked statically, each rank has its own\n", spot.library);
     if (write(2, line, (size_t)length) < 0) length = 0;
     um_tell_table("crash %d %d\n", rank ? rank->number : -1, number);
     if (is_first) um_write_rests(false);
@@ -100,7 +105,7 @@ static void crashed(int number, siginfo_t *told, void *context) {
 static void ended(int number) {
     if (!um_is_launcher()) end_child(number);
     if (um_stop_soon()) return;
-    um_is_crashed = 1;   /* the copies go, which a rank may be about to load */
+    um_is_crashed = 1; /* the copies go, which a rank may be about to load */
     um_end_run(128 + number);
 }
 
@@ -114,10 +119,13 @@ void um_handle_signals(void) {
     static const int crashes[] = {SIGSEGV, SIGBUS, SIGFPE, SIGILL, SIGABRT};
     static const int ends[] = {SIGINT, SIGTERM, SIGHUP, SIGQUIT, SIGPIPE, SIGALRM, SIGUSR1, SIGUSR2, SIGVTALRM, SIGPROF, SIGXCPU, SIGXFSZ};
     void *frame;
-    backtrace(&frame, 1);   /* the first time it loads what it needs: not in a handler */
-    for (size_t k = 0; k < sizeof crashes / sizeof *crashes; k++) handle(crashes[k], (struct sigaction){.sa_sigaction = crashed, .sa_flags = SA_SIGINFO});
+    backtrace(&frame, 1); /* the first time it loads what it needs: not in a handler */
+    for (size_t k = 0; k < sizeof crashes / sizeof *crashes; k++)
+        handle(crashes[k], (struct sigaction){.sa_sigaction = crashed, .sa_flags = SA_SIGINFO});
     for (size_t k = 0; k < sizeof ends / sizeof *ends; k++) handle(ends[k], (struct sigaction){.sa_handler = ended});
 }
 
 /* Whether a signal's handler is the launcher's, and not the program's. */
-bool um_is_own_handler(const struct sigaction *action) { return action->sa_flags & SA_SIGINFO ? action->sa_sigaction == crashed : action->sa_handler == ended; }
+bool um_is_own_handler(const struct sigaction *action) {
+    return action->sa_flags & SA_SIGINFO ? action->sa_sigaction == crashed : action->sa_handler == ended;
+}

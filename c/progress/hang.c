@@ -25,7 +25,8 @@ static uint32_t missing_from(const struct rank *waiting, const struct sight *sig
     if (!sight->size || (strcmp(sight->call.name, "MPIX_Comm_shrink") && !agrees)) return 0;
     for (int k = 0; k < sight->size; k++) {
         struct rank *rank = &um_ranks[sight->members[k]];
-        bool is_there = agrees ? atomic_load(&rank->shared.agreed[context]) >= atomic_load(&waiting->shared.agreed[context]) : is_in_same(rank, sight);
+        bool is_there =
+            agrees ? atomic_load(&rank->shared.agreed[context]) >= atomic_load(&waiting->shared.agreed[context]) : is_in_same(rank, sight);
         if (!rank->life.has_stopped && !is_there) bits |= 1u << rank->number;
     }
     return bits;
@@ -91,8 +92,11 @@ static void tell_place(struct rank *rank, bool is_late) {
     if (is_late) failures_of(rank, failures, sizeof failures);
     um_tell_table("at %d %s%s\n", rank->number, call->name, failures);
     tell_peer(rank, &sight, peer, sizeof peer);
-    fprintf(stderr, "%s %s%s%s%s (call %d)%s\n", rank->played.loops ? "loops over" : rank->shared.idle ? "waits in" : "runs, after", call->name, peer,
-            name_of(&sight, name, sizeof name), line, rank->plan.calls, failures);
+    fprintf(stderr, "%s %s%s%s%s (call %d)%s\n",
+            rank->played.loops  ? "loops over"
+            : rank->shared.idle ? "waits in"
+                                : "runs, after",
+            call->name, peer, name_of(&sight, name, sizeof name), line, rank->plan.calls, failures);
 }
 
 void um_tell_places(bool is_late) {

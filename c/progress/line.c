@@ -49,4 +49,6 @@ char *um_line_before(const void *at, char *text, size_t room) {
 }
 
 /* That of a call; of many schedules it isn't wanted. */
-char *um_line_of(const struct call *call, char *text, size_t room) { return um_line_before(um_options.seeds || um_options.limit ? 0 : call->from, text, room); }
+char *um_line_of(const struct call *call, char *text, size_t room) {
+    return um_line_before(um_options.seeds || um_options.limit ? 0 : call->from, text, room);
+}

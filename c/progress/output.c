@@ -8,7 +8,9 @@
 #include <string.h>
 #include <unistd.h>
 
-#define REAL(name, ...) static __typeof__(name) *real_##name;  if (!real_##name) real_##name = (__typeof__(name) *)dlsym(RTLD_NEXT, #name)
+#define REAL(name, ...) \
+    static __typeof__(name) *real_##name; \
+    if (!real_##name) real_##name = (__typeof__(name) *)dlsym(RTLD_NEXT, #name)
 
 static pthread_mutex_t lock = PTHREAD_MUTEX_INITIALIZER, closing = PTHREAD_MUTEX_INITIALIZER;
 
@@ -139,17 +141,34 @@ int setvbuf(FILE *file, char *buffer, int mode, size_t size) {
 
 void setbuf(FILE *file, char *buffer) { setvbuf(file, buffer, buffer ? _IOFBF : _IONBF, BUFSIZ); }
 
-#define FORWARD(file) va_list words; va_start(words, format); int count = vfprintf(file, format, words); va_end(words); return count
+#define FORWARD(file) \
+    va_list words; \
+    va_start(words, format); \
+    int count = vfprintf(file, format, words); \
+    va_end(words); \
+    return count
 
 #undef putc
 #undef putchar
 int printf(const char *format, ...) { FORWARD(stdout); }
 int fprintf(FILE *file, const char *format, ...) { FORWARD(file); }
 int vprintf(const char *format, va_list words) { return vfprintf(stdout, format, words); }
-int __printf_chk(int flag, const char *format, ...) { (void)flag; FORWARD(stdout); }
-int __fprintf_chk(FILE *file, int flag, const char *format, ...) { (void)flag; FORWARD(file); }
-int __vprintf_chk(int flag, const char *format, va_list words) { (void)flag; return vfprintf(stdout, format, words); }
-int __vfprintf_chk(FILE *file, int flag, const char *format, va_list words) { (void)flag; return vfprintf(file, format, words); }
+int __printf_chk(int flag, const char *format, ...) {
+    (void)flag;
+    FORWARD(stdout);
+}
+int __fprintf_chk(FILE *file, int flag, const char *format, ...) {
+    (void)flag;
+    FORWARD(file);
+}
+int __vprintf_chk(int flag, const char *format, va_list words) {
+    (void)flag;
+    return vfprintf(stdout, format, words);
+}
+int __vfprintf_chk(FILE *file, int flag, const char *format, va_list words) {
+    (void)flag;
+    return vfprintf(file, format, words);
+}
 int putc(int byte, FILE *file) { return fputc(byte, file); }
 int putchar(int byte) { return fputc(byte, stdout); }
 int putc_unlocked(int byte, FILE *file) { return fputc(byte, file); }

@@ -3,9 +3,9 @@
    looks again some times, then yields, then sleeps until a count rises. Where each rank found nothing since the counts' last rise, nobody can move any
    more. */
 #define _GNU_SOURCE
+#include "progress/progress.h"
 #include "mpi/calls.h"
 #include "play/play.h"
-#include "progress/progress.h"
 #include "recovery/recovery.h"
 #include <linux/futex.h>
 #include <sched.h>
@@ -21,7 +21,7 @@ struct count {
 static struct count moves[MAX_RANKS], marks;
 static struct {
     _Alignas(LINE) _Atomic int sleepers;
-    _Atomic uint32_t wakes;   /* how often they were woken */
+    _Atomic uint32_t wakes; /* how often they were woken */
 } beds;
 static _Atomic int processors;
 
@@ -34,7 +34,7 @@ static void wake(void) {
 /* The rank's engine changed what other ranks may see. */
 void um_moved(void) {
     _Atomic uint64_t *own = &moves[um_me->number].count;
-    atomic_store(own, atomic_load_explicit(own, memory_order_relaxed) + 1);   /* before the look at who sleeps */
+    atomic_store(own, atomic_load_explicit(own, memory_order_relaxed) + 1); /* before the look at who sleeps */
     wake();
 }
 
@@ -97,7 +97,7 @@ static bool can_nobody_move(uint64_t seen) {
 
 static void sleep_until_moved(uint64_t seen) {
     atomic_fetch_add(&beds.sleepers, 1);
-    uint32_t wakes = atomic_load(&beds.wakes);   /* who moves from now on wakes this rank */
+    uint32_t wakes = atomic_load(&beds.wakes); /* who moves from now on wakes this rank */
     atomic_store(&um_me->shared.idle, seen + 1);
     if (can_nobody_move(seen)) um_tell_stuck();
     if (all_moves() == seen) syscall(SYS_futex, &beds.wakes, FUTEX_WAIT_PRIVATE, wakes, 0, 0, 0);
@@ -142,7 +142,7 @@ void um_wait_until(bool (*is_done)(void *, bool is_settled), void *of, bool is_d
     bool has_slept = false;
     uint64_t seen = 0, asked_at = UINT64_MAX;
     for (;;) {
-        if (looks >= most + YIELDS) seen = all_moves();   /* before the look: what comes after it is a further move */
+        if (looks >= most + YIELDS) seen = all_moves(); /* before the look: what comes after it is a further move */
         bool has_moved = is_dear ? move_much() : um_move_once();
         uint64_t marked_at = um_count_of_marks();
         bool is_settled = !has_moved && (looks == most || marked_at != asked_at);

@@ -2,8 +2,8 @@
 #ifndef UM_RANK_H
 #define UM_RANK_H
 
-#include "mpi.h"
 #include "launcher/options.h"
+#include "mpi.h"
 #include "ulfm.h"
 #include <pthread.h>
 #include <setjmp.h>
@@ -26,38 +26,38 @@ enum {
 
 /* The contexts of one group that were made by duplication: the first one, its duplicate (for collectives), that one's, and so on. */
 struct chain {
-    uint32_t hidden; /* the first duplicate, NO_CONTEXT_LEFT where there is none */
-    int made;        /* how many contexts it has: made ahead, since one that is revoked can't be duplicated */
-    int planes;      /* how many of them a program has had */
-    int users;       /* the communicators here that point to it */
-    unsigned copies, copied;   /* the duplicates that don't block: how many began, and how many are over */
+    uint32_t hidden;         /* the first duplicate, NO_CONTEXT_LEFT where there is none */
+    int made;                /* how many contexts it has: made ahead, since one that is revoked can't be duplicated */
+    int planes;              /* how many of them a program has had */
+    int users;               /* the communicators here that point to it */
+    unsigned copies, copied; /* the duplicates that don't block: how many began, and how many are over */
     struct {
         uint32_t context;
-        bool is_free;    /* the program freed its communicator */
-        unsigned begun;  /* the collectives that began on it before */
+        bool is_free;   /* the program freed its communicator */
+        unsigned begun; /* the collectives that began on it before */
     } plane[PLANES];
 };
 
 /* A communicator of the program. */
 struct comm {
-    uint32_t context;      /* of its messages */
-    uint32_t hidden;       /* of its collectives, NO_CONTEXT_LEFT where there is none */
+    uint32_t context; /* of its messages */
+    uint32_t hidden;  /* of its collectives, NO_CONTEXT_LEFT where there is none */
     struct chain *chain;
-    int plane;             /* its number in the chain, in the tags of its collectives */
-    unsigned begun;        /* how many collectives began */
-    unsigned repeats;      /* the number of the persistent one that is started now, or 0 */
+    int plane;        /* its number in the chain, in the tags of its collectives */
+    unsigned begun;   /* how many collectives began */
+    unsigned repeats; /* the number of the persistent one that is started now, or 0 */
     int size, position;
-    uint8_t members[MAX_RANKS];  /* world ranks */
-    uint8_t engine_position[MAX_RANKS];   /* where each member stands in the context's group */
+    uint8_t members[MAX_RANKS];         /* world ranks */
+    uint8_t engine_position[MAX_RANKS]; /* where each member stands in the context's group */
     MPI_Errhandler handler;
     bool is_self;
-    bool is_part;                /* not all of the context's group are members */
-    _Atomic int *revoked;        /* of a part: what its members share, for the engine would revoke the whole context */
-    uint32_t acknowledged;       /* how many failures are */
+    bool is_part;          /* not all of the context's group are members */
+    _Atomic int *revoked;  /* of a part: what its members share, for the engine would revoke the whole context */
+    uint32_t acknowledged; /* how many failures are */
     char name[MPI_MAX_OBJECT_NAME];
-    struct cart *cart;           /* its topology, or null */
-    struct graph *graph;         /* so too */
-    struct attribute *attributes;   /* the last one that was set first */
+    struct cart *cart;            /* its topology, or null */
+    struct graph *graph;          /* so too */
+    struct attribute *attributes; /* the last one that was set first */
 };
 
 /* A value of MPI_Group: world ranks by positions. */
@@ -68,9 +68,9 @@ struct group {
 
 /* What the members of a new communicator agree on, besides its plane. */
 struct terms {
-    unsigned begun;              /* the collectives that began on the plane before */
-    _Atomic int *marks;          /* of parts: the marks of revocation, by the first member's world rank */
-    int colors[MAX_RANKS], keys[MAX_RANKS];   /* of MPI_Comm_split, by positions; before, the own ones stand first */
+    unsigned begun;                         /* the collectives that began on the plane before */
+    _Atomic int *marks;                     /* of parts: the marks of revocation, by the first member's world rank */
+    int colors[MAX_RANKS], keys[MAX_RANKS]; /* of MPI_Comm_split, by positions; before, the own ones stand first */
 };
 
 /* Where the bytes of a parcel stand: with its sender, who copies them; there, and its receiver copies them; in the parcel; at the receiver. */
@@ -80,16 +80,16 @@ enum filling { LIVE, CLAIMED, FILLED, TAKEN };
    that nobody received are freed at the end. */
 struct parcel {
     struct parcel *next, *previous;
-    _Atomic int users;   /* the message, its sender, the copying of its body */
+    _Atomic int users; /* the message, its sender, the copying of its body */
     _Atomic int matched;
     _Atomic int filling;
     bool is_waited_for;
-    bool is_found;        /* by a matched probe, so that no other one tells of it; for the receiver alone */
-    int from, to;         /* world ranks */
+    bool is_found; /* by a matched probe, so that no other one tells of it; for the receiver alone */
+    int from, to;  /* world ranks */
     uint32_t context;
     int tag;
-    size_t length;        /* of the message */
-    const void *source;   /* where the sender has its bytes */
+    size_t length;      /* of the message */
+    const void *source; /* where the sender has its bytes */
     unsigned char bytes[];
 };
 
@@ -110,61 +110,61 @@ struct request {
     int peer, tag;
     void *buffer;
     size_t room;
-    uint64_t id;            /* the engine's number of the receive */
-    struct parcel *parcel;  /* of a synchronous send */
-    struct start *start;     /* of a persistent request: what it starts */
-    struct repeated *repeated;   /* of a persistent collective: its arguments */
-    struct request *active;  /* of a persistent request: what it started, until its end is told */
-    struct landing *landing; /* of a receive whose data aren't in one piece */
-    bool over, freed;       /* its status is known; the program freed it */
+    uint64_t id;               /* the engine's number of the receive */
+    struct parcel *parcel;     /* of a synchronous send */
+    struct start *start;       /* of a persistent request: what it starts */
+    struct repeated *repeated; /* of a persistent collective: its arguments */
+    struct request *active;    /* of a persistent request: what it started, until its end is told */
+    struct landing *landing;   /* of a receive whose data aren't in one piece */
+    bool over, freed;          /* its status is known; the program freed it */
     int code;
     MPI_Status status;
-    struct request *next, *previous;   /* of the open receives, or of those that can be used again */
+    struct request *next, *previous; /* of the open receives, or of those that can be used again */
     int handle;
-    void (*look)(struct request *);     /* of a shrink or an agreement: looks at it once */
-    void *more;                         /* what that knows of it */
-    struct reduction *reduction;        /* of a collective: what is folded at its end, or null */
-    struct request *parts[MAX_RANKS];   /* of a collective: its receives, by positions; of an exchange: a receive and a send */
+    void (*look)(struct request *);   /* of a shrink or an agreement: looks at it once */
+    void *more;                       /* what that knows of it */
+    struct reduction *reduction;      /* of a collective: what is folded at its end, or null */
+    struct request *parts[MAX_RANKS]; /* of a collective: its receives, by positions; of an exchange: a receive and a send */
 };
 
 /* What the rank's present call is, for reports. */
 struct call {
     const char *name;
-    const void *from;        /* an address in the program */
+    const void *from; /* an address in the program */
     struct comm *comm;
-    int peer, tag;           /* MPI_UNDEFINED: none */
-    uint32_t waits_for;      /* bits of world ranks, or 0 */
+    int peer, tag;      /* MPI_UNDEFINED: none */
+    uint32_t waits_for; /* bits of world ranks, or 0 */
 };
 
 struct thread {
     pthread_t id;
-    char *stack;             /* its lowest byte */
+    char *stack; /* its lowest byte */
     jmp_buf bottom;
 };
 
 /* What its program made of MPI, by handles. */
 struct objects {
-    struct comm **comms, **old_comms;         /* those that the program freed too */
+    struct comm **comms, **old_comms; /* those that the program freed too */
     struct group **groups;
     struct request **requests;
     struct message **messages;
     struct errhandler *handlers;
     struct type **types;
-    char (*type_names)[MPI_MAX_OBJECT_NAME];  /* that the program gave basic types, or null */
-    struct attribute **basic_attributes;      /* of basic types, or null */
+    char (*type_names)[MPI_MAX_OBJECT_NAME]; /* that the program gave basic types, or null */
+    struct attribute **basic_attributes;     /* of basic types, or null */
     struct op *ops;
     struct keyval *keyvals;
     struct info **infos;
     struct window **windows;
-    struct added *added;                      /* classes and codes of errors */
-    void *attached;                           /* by MPI_Buffer_attach */
+    struct added *added; /* classes and codes of errors */
+    void *attached;      /* by MPI_Buffer_attach */
     MPI_Count attached_size;
     int keyval_count, info_count, window_count, added_count, last_code;
     int comm_count, old_comm_count, group_count, request_count, message_count, handler_count, type_count, op_count, first_free;
-    struct request *open;                     /* receives that wait */
-    struct request *spare;                    /* can be used again */
-    int recoveries;                           /* requests of shrinks and agreements */
-    bool is_starting;                         /* MPI_Start makes a call of its own */
+    struct request *open;  /* receives that wait */
+    struct request *spare; /* can be used again */
+    int recoveries;        /* requests of shrinks and agreements */
+    bool is_starting;      /* MPI_Start makes a call of its own */
 };
 
 /* The parcels that it sent, in that order. */
@@ -177,43 +177,43 @@ struct parcels {
 struct recovery {
     uint32_t shrunk[CONTEXTS];
     _Atomic int self_revoked;
-    _Atomic uint32_t known;   /* the world ranks whose failures it knows, as bits, at its last call */
-    int known_count;          /* how many */
-    _Atomic bool is_told;     /* a call answered a failure */
+    _Atomic uint32_t known; /* the world ranks whose failures it knows, as bits, at its last call */
+    int known_count;        /* how many */
+    _Atomic bool is_told;   /* a call answered a failure */
 };
 
 /* How far it came. */
 struct life {
     _Atomic bool has_begun, has_finalized, has_stopped;
-    bool is_planned;          /* it stopped by plan */
-    int provided;             /* the level of threads that it was given */
-    int status;               /* of main */
+    bool is_planned; /* it stopped by plan */
+    int provided;    /* the level of threads that it was given */
+    int status;      /* of main */
 };
 
 /* How it waits. */
 struct patience {
-    int vain;                 /* looks of calls that don't wait, since anything moved */
-    int impatience;           /* by how much it looks less before it yields, where looks were in vain */
+    int vain;       /* looks of calls that don't wait, since anything moved */
+    int impatience; /* by how much it looks less before it yields, where looks were in vain */
 };
 
 /* Where it is in the plan of stops and yields. */
 struct plan {
-    _Atomic int calls;        /* that count */
-    int insides;              /* places inside the last one */
+    _Atomic int calls; /* that count */
+    int insides;       /* places inside the last one */
     uint64_t random;
 };
 
 /* Of a run that is played. */
 struct played {
-    bool loops;               /* over looks that find nothing */
-    uint64_t times_asked;     /* calls of MPI_Wtime */
-    uint32_t looks;           /* at the engine in its present call */
+    bool loops;           /* over looks that find nothing */
+    uint64_t times_asked; /* calls of MPI_Wtime */
+    uint32_t looks;       /* at the engine in its present call */
 };
 
 /* Its standard output. */
 struct output {
     FILE *file;
-    bool has_closed;          /* the program closed it */
+    bool has_closed; /* the program closed it */
     char *line;
     size_t length, room;
 };
@@ -222,27 +222,27 @@ struct output {
 struct program {
     void *handle;
     char *path, **words;
-    struct farewell *farewells;   /* what it does at its end, the last first */
+    struct farewell *farewells; /* what it does at its end, the last first */
 };
 
 /* What other ranks read. */
 struct shared {
-    _Alignas(128) _Atomic uint64_t idle;  /* all moves before its last look, and 1; 0: it runs */
-    _Atomic int is_gone;      /* it has finalized, or stopped */
-    _Atomic int is_ended;     /* its thread needs nothing more */
-    _Atomic int waited_for;   /* synchronous sends to it without a match */
+    _Alignas(128) _Atomic uint64_t idle; /* all moves before its last look, and 1; 0: it runs */
+    _Atomic int is_gone;                 /* it has finalized, or stopped */
+    _Atomic int is_ended;                /* its thread needs nothing more */
+    _Atomic int waited_for;              /* synchronous sends to it without a match */
     _Atomic uint32_t agreed[CONTEXTS];   /* how many agreements it entered */
 };
 
 struct rank {
-    _Alignas(128) int number;  /* no rank writes to another one's cache lines but where it has to */
-    ulfm_slot *slot, home;     /* slot: home */
+    _Alignas(128) int number; /* no rank writes to another one's cache lines but where it has to */
+    ulfm_slot *slot, home;    /* slot: home */
     struct thread thread;
     struct objects mpi;
     struct parcels sent;
     struct recovery recovery;
     struct life life;
-    struct call call;          /* by progress/call.c alone */
+    struct call call; /* by progress/call.c alone */
     pthread_mutex_t call_lock;
     struct patience patience;
     struct plan plan;

@@ -15,7 +15,7 @@
 #include <unistd.h>
 
 static pid_t launcher;
-_Atomic int um_stopped_ranks;   /* how many there are */
+_Atomic int um_stopped_ranks; /* how many there are */
 
 void um_be_launcher(void) {
     if (!launcher) atexit(um_remove_copies);
@@ -183,7 +183,7 @@ static bool ends_by(int number) {
     if (number == 0 || number == SIGCHLD || number == SIGCONT || number == SIGURG || number == SIGWINCH) return false;
     if (sigaction(number, 0, &action)) return false;
     if (um_is_own_handler(&action)) return true;
-    if (action.sa_flags & SA_SIGINFO) return number == SIGSEGV || number == SIGBUS || number == SIGFPE || number == SIGILL;   /* a sanitizer's */
+    if (action.sa_flags & SA_SIGINFO) return number == SIGSEGV || number == SIGBUS || number == SIGFPE || number == SIGILL; /* a sanitizer's */
     return action.sa_handler == SIG_DFL;
 }
 
@@ -201,7 +201,7 @@ int kill(pid_t to, int number) {
 
 /* Ends the whole run, from any thread. */
 void um_end_run(int status) {
-    if (um_is_played && um_is_launcher()) um_end_schedule(status);   /* where a controller plays, it goes on */
+    if (um_is_played && um_is_launcher()) um_end_schedule(status); /* where a controller plays, it goes on */
     um_remove_copies();
     um_leave_process(status);
 }

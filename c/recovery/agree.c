@@ -44,7 +44,7 @@ static int code_of(uint32_t code) {
 static int enter(struct agreement *agreement, uint32_t word) {
     uint32_t context = agreement->comm->context, code = ulfm_enter_agree(um_me->slot, context, word);
     if (code != ULFM_OK) return code_of(code);
-    atomic_fetch_add(&um_me->shared.agreed[context], 1);   /* before its word goes out */
+    atomic_fetch_add(&um_me->shared.agreed[context], 1); /* before its word goes out */
     um_progress();
     return MPI_SUCCESS;
 }

@@ -1,4 +1,5 @@
-/* Recovery from failures (ULFM): revocations, shrinks, agreements, and what is known of failures. */
+/* Recovery from failures (ULFM): revocations, shrinks, agreements, and what a program asks of failures. Those that don't block are requests, which wait as
+   all others do. */
 #ifndef UM_RECOVERY_H
 #define UM_RECOVERY_H
 

@@ -2,13 +2,15 @@
    one shrink or agreement that differ. */
 #include "search/search.h"
 
-enum { NAMED_ALONE, ONE_ANY, MANY_ANY };   /* receives of a context: each names its sender; any sender, all with one tag; so, with several tags, or probes */
+enum {
+    NAMED_ALONE,
+    ONE_ANY,
+    MANY_ANY
+}; /* receives of a context: each names its sender; any sender, all with one tag; so, with several tags, or probes */
 enum { OF_ANYBODY = -3, OF_NOBODY = -2, BEFORE = -2 };
 
 /* What was learnt of receives from any source, in memory that stays. */
-static struct wildcards {
-    int use[MAX_RANKS][CONTEXTS], tag[MAX_RANKS][CONTEXTS];
-} *wildcards;
+static struct wildcards { int use[MAX_RANKS][CONTEXTS], tag[MAX_RANKS][CONTEXTS]; } * wildcards;
 
 bool um_begin_commute(void) { return (wildcards = um_shared_memory(sizeof *wildcards)) != 0; }
 
@@ -104,7 +106,7 @@ static bool are_entry_and_poll(const struct footprint *a, const struct footprint
 /* Whether a, of the number `at`, and a later event of another process don't commute. */
 bool um_is_dependent(const struct footprint *a, int at, const struct footprint *b) {
     bool have_found = a->flags & b->flags & FOUND;
-    if (a->kind == LOSES || b->kind == LOSES) return false;   /* these are no races: see keep_nodes */
+    if (a->kind == LOSES || b->kind == LOSES) return false; /* these are no races: see keep_nodes */
     if (a->rank != b->rank) return is_poll(a) && is_poll(b) && a->topic == b->topic && have_found && a->proposal != b->proposal;
     if (is_silent_before(a, b)) return true;
     if (a->comm == b->comm && is_revoker(a) && is_revoker(b) && (is_revocation(a) || is_revocation(b))) return (a->flags | b->flags) & REVOKED_FIRST;

@@ -14,7 +14,7 @@ int um_step;
 struct receive {
     uint64_t id;
     int comm, source, tag;
-    int16_t by;          /* the event that ended it */
+    int16_t by; /* the event that ended it */
     bool is_open;
 };
 /* A message that no receive has. */
@@ -108,8 +108,17 @@ static void revoke(int rank, int comm) {
 void um_begin_footprint(const struct event *event) {
     struct footprint *own = present();
     bool takes = event->kind == TAKES;
-    *own = (struct footprint){.process = (uint8_t)process_of(event), .rank = event->rank, .kind = event->kind, .item = event->item, .other = NOBODY,
-                              .comm = (int8_t)event->comm, .source = ANYBODY, .tag = event->tag, .pushed = NO_STEP, .by = NO_STEP, .found = NO_STEP};
+    *own = (struct footprint){.process = (uint8_t)process_of(event),
+                              .rank = event->rank,
+                              .kind = event->kind,
+                              .item = event->item,
+                              .other = NOBODY,
+                              .comm = (int8_t)event->comm,
+                              .source = ANYBODY,
+                              .tag = event->tag,
+                              .pushed = NO_STEP,
+                              .by = NO_STEP,
+                              .found = NO_STEP};
     if (!takes && event->kind != LOSES) return;
     own->pushed = takes ? um_pull(event->peer, event->rank) : um_lose(event->peer, event->rank);
     own->source = (int8_t)event->peer;

@@ -26,19 +26,19 @@ struct node {
 
 /* In memory that stays. */
 extern struct search {
-    int depth;      /* how many nodes the present schedule has */
-    int prefix;     /* so many choices are given */
-    int count;      /* events that were played */
+    int depth;  /* how many nodes the present schedule has */
+    int prefix; /* so many choices are given */
+    int count;  /* events that were played */
     enum cut cut;
     int choices[MOST_STEPS];
     processes enabled[MOST_STEPS];
-    struct sleepers sleepers;   /* at the event that comes next */
+    struct sleepers sleepers; /* at the event that comes next */
     struct node nodes[MOST_STEPS];
     struct footprint footprints[MOST_STEPS];
-    uint64_t before[MOST_STEPS][WORDS];   /* which events happen before each */
+    uint64_t before[MOST_STEPS][WORDS]; /* which events happen before each */
     short of_rank[MAX_RANKS][MOST_STEPS], polls[MOST_STEPS];
     int rank_count[MAX_RANKS], poll_count, last_of[PROCESSES];
-} *um_search;
+} * um_search;
 
 static inline processes asleep(const struct sleepers *sleepers) {
     processes set = 0;

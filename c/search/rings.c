@@ -6,7 +6,7 @@
 struct ring {
     int16_t *at;
     int first, count;
-    int taken_at_stop, count_at_stop;   /* where its sender stopped */
+    int taken_at_stop, count_at_stop; /* where its sender stopped */
 };
 static struct ring rings[MAX_RANKS][MAX_RANKS];
 

@@ -6,17 +6,25 @@
 
 /* Who may go on next: a rank, by its number, the ring from one rank to another one, by 8 + 8 times the one + the other, or the loss of what is in it. */
 typedef unsigned __int128 processes;
-enum { LOSSES = MAX_RANKS + MAX_RANKS * MAX_RANKS, PROCESSES = LOSSES + MAX_RANKS * (MAX_RANKS - 1), MOST_STEPS = 12000, ANYBODY = -1, NO_STEP = -1, SILENT = 4, TOO_MANY = 255 };
+enum {
+    LOSSES = MAX_RANKS + MAX_RANKS * MAX_RANKS,
+    PROCESSES = LOSSES + MAX_RANKS * (MAX_RANKS - 1),
+    MOST_STEPS = 12000,
+    ANYBODY = -1,
+    NO_STEP = -1,
+    SILENT = 4,
+    TOO_MANY = 255
+};
 static inline processes bit_of(int process) { return (processes)1 << process; }
 static inline bool is_in(processes set, int process) { return set >> process & 1; }
 
 /* What an event saw or did. */
 enum {
-    SAW_NO_REVOCATION = 1,   /* the communicator wasn't known to be revoked */
-    REVOKED_FIRST = 2,       /* the revocation wasn't known */
-    ASKED = 4,               /* a look outside of a wait */
+    SAW_NO_REVOCATION = 1, /* the communicator wasn't known to be revoked */
+    REVOKED_FIRST = 2,     /* the revocation wasn't known */
+    ASKED = 4,             /* a look outside of a wait */
     IN_VAIN = 8,
-    OF_ANY = 16,             /* a receive or a probe from any source */
+    OF_ANY = 16, /* a receive or a probe from any source */
     FOUND = 32
 };
 
@@ -29,17 +37,17 @@ struct silence {
 /* What an event reads and changes. */
 struct footprint {
     uint8_t process, rank, kind, item, flags;
-    uint8_t fails;           /* bits of ranks: whose failure it reads, or of word of a failure whose it is */
-    uint8_t excluded, listed, by_entries;   /* of a poll that finds: who is left out, who entered, who failed by what entries say; bits */
-    uint8_t other;           /* the other rank */
-    int8_t comm, source;     /* source: the named one, or the sender; ANYBODY */
+    uint8_t fails;                        /* bits of ranks: whose failure it reads, or of word of a failure whose it is */
+    uint8_t excluded, listed, by_entries; /* of a poll that finds: who is left out, who entered, who failed by what entries say; bits */
+    uint8_t other;                        /* the other rank */
+    int8_t comm, source;                  /* source: the named one, or the sender; ANYBODY */
     uint8_t silent_count;
-    bool waits;              /* a look in a wait */
-    int16_t pushed, by, found;   /* the events that pushed its item, that ended its request, by which the message came that its probe found */
+    bool waits;                /* a look in a wait */
+    int16_t pushed, by, found; /* the events that pushed its item, that ended its request, by which the message came that its probe found */
     int32_t tag;
-    struct silence silent[SILENT];   /* looks in vain of the wait that it ends */
-    uint32_t topic, answer;  /* topic: of shrinks and agreements */
-    uint64_t proposal;       /* of a poll: what tells its own proposal from others */
+    struct silence silent[SILENT]; /* looks in vain of the wait that it ends */
+    uint32_t topic, answer;        /* topic: of shrinks and agreements */
+    uint64_t proposal;             /* of a poll: what tells its own proposal from others */
 };
 
 /* A decision as a rank would propose it. */
@@ -76,8 +84,8 @@ int um_count_of_pushed(int from, int to);
 int um_count_at_stop(int from, int to, int *taken);
 
 /* footprint.c: each `end_` after the call of its kind; `um_footprints` is null where none are kept. */
-extern struct footprint *um_footprints;   /* of the present schedule's events */
-extern int um_step;                       /* the number of the present event */
+extern struct footprint *um_footprints; /* of the present schedule's events */
+extern int um_step;                     /* the number of the present event */
 static inline int ring_of(int from, int to) { return MAX_RANKS + MAX_RANKS * from + to; }
 static inline int loss_of(int from, int to) { return LOSSES + (MAX_RANKS - 1) * from + to - (to > from); }
 static inline int process_of(const struct event *event) {

@@ -79,7 +79,8 @@ static int make_part(int dims, struct numbers sizes, const struct part *part, in
     return make_array(&(struct array){dims, sizes, order == MPI_ORDER_FORTRAN, um_type_at(type)}, take_part, part, made);
 }
 
-int MPI_Type_create_subarray(int dims, const int sizes[], const int subsizes[], const int starts[], int order, MPI_Datatype type, MPI_Datatype *made) {
+int MPI_Type_create_subarray(int dims, const int sizes[], const int subsizes[], const int starts[], int order, MPI_Datatype type,
+                             MPI_Datatype *made) {
     ENTER_LOOK(0, MPI_UNDEFINED, MPI_UNDEFINED);
     int code = make_part(dims, (struct numbers){sizes, 0}, &(struct part){{subsizes, 0}, {starts, 0}}, order, type, made);
     struct arguments arguments = {MPI_COMBINER_SUBARRAY, {{1, &dims}, {dims, sizes}, {dims, subsizes}, {dims, starts}, {1, &order}}, 0, 0, 1, &type};
@@ -168,13 +169,17 @@ int MPI_Type_create_darray(int size, int rank, int dims, const int sizes[], cons
                            MPI_Datatype type, MPI_Datatype *made) {
     ENTER_LOOK(0, MPI_UNDEFINED, MPI_UNDEFINED);
     int code = divide(size, rank, dims, (struct division){{sizes, 0}, distribs, dargs, psizes, 0}, order, type, made);
-    struct arguments arguments = {MPI_COMBINER_DARRAY, {{1, &size}, {1, &rank}, {1, &dims}, {dims, sizes}, {dims, distribs}, {dims, dargs}, {dims, psizes},
-                                                        {1, &order}}, 0, 0, 1, &type};
+    struct arguments arguments = {MPI_COMBINER_DARRAY,
+                                  {{1, &size}, {1, &rank}, {1, &dims}, {dims, sizes}, {dims, distribs}, {dims, dargs}, {dims, psizes}, {1, &order}},
+                                  0,
+                                  0,
+                                  1,
+                                  &type};
     return um_answer(0, um_describe(code, made, &arguments));
 }
 
-int MPI_Type_create_darray_c(int size, int rank, int dims, const MPI_Count sizes[], const int distribs[], const int dargs[], const int psizes[], int order,
-                             MPI_Datatype type, MPI_Datatype *made) {
+int MPI_Type_create_darray_c(int size, int rank, int dims, const MPI_Count sizes[], const int distribs[], const int dargs[], const int psizes[],
+                             int order, MPI_Datatype type, MPI_Datatype *made) {
     ENTER_LOOK(0, MPI_UNDEFINED, MPI_UNDEFINED);
     return um_answer(0, divide(size, rank, dims, (struct division){{0, sizes}, distribs, dargs, psizes, 0}, order, type, made));
 }

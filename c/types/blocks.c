@@ -4,7 +4,7 @@
 #include <stdlib.h>
 #include <string.h>
 
-enum { FEW = 32 };   /* so many blocks of another type are written out: they are moved faster than by way of it */
+enum { FEW = 32 }; /* so many blocks of another type are written out: they are moved faster than by way of it */
 
 static ptrdiff_t plus(ptrdiff_t a, ptrdiff_t b, bool *is_over) {
     ptrdiff_t sum;
@@ -26,7 +26,8 @@ static void count_up(size_t *sum, size_t count, size_t each, bool *is_over) {
 /* Whether a block goes on where the last one ends, or stands as far behind it as that repeats itself: then the last one has it. */
 static bool goes_on(struct block *last, const struct block *block) {
     ptrdiff_t step;
-    bool is_alike = !last->of && !block->of && last->element == block->element && last->alignment == block->alignment && last->external == block->external;
+    bool is_alike =
+        !last->of && !block->of && last->element == block->element && last->alignment == block->alignment && last->external == block->external;
     if (!is_alike || block->count > 1) return false;
     if (last->count == 1 && last->at + (ptrdiff_t)last->length == block->at) {
         last->length += block->length;

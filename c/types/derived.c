@@ -40,7 +40,7 @@ int MPI_Type_dup(MPI_Datatype type, MPI_Datatype *made) {
     um_type_at(*made)->is_committed = um_type_at(type)->is_committed;
     code = um_copy_type_attributes(type, *made);
     if (code == MPI_SUCCESS) return MPI_SUCCESS;
-    um_drop_type(*made);   /* a copy function failed: there is no duplicate (7.7.4) */
+    um_drop_type(*made); /* a copy function failed: there is no duplicate (7.7.4) */
     *made = MPI_DATATYPE_NULL;
     return um_answer(0, code);
 }
@@ -149,7 +149,7 @@ int MPI_Type_create_struct(int count, const int lengths[], const MPI_Aint displs
         else if (lengths[k] < 0) code = MPI_ERR_ARG;
     }
     struct type *type = 0;
-    MPI_Datatype handle = MPI_DATATYPE_NULL;   /* `made` may be one of `types` */
+    MPI_Datatype handle = MPI_DATATYPE_NULL; /* `made` may be one of `types` */
     if (code == MPI_SUCCESS) code = um_join(pieces, (size_t)count, &type);
     if (code == MPI_SUCCESS) code = um_align_type(type);
     if (code == MPI_SUCCESS) code = um_add_type(type, &handle);
@@ -163,7 +163,8 @@ int MPI_Type_create_struct(int count, const int lengths[], const MPI_Aint displs
 
 int MPI_Type_create_resized(MPI_Datatype type, MPI_Aint lower, MPI_Aint extent, MPI_Datatype *made) {
     ENTER_LOOK(0, MPI_UNDEFINED, MPI_UNDEFINED);
-    struct arguments arguments = {.combiner = MPI_COMBINER_RESIZED, .addresses = 2, .address = (MPI_Aint[]){lower, extent}, .types = 1, .type = &type};
+    struct arguments arguments = {
+        .combiner = MPI_COMBINER_RESIZED, .addresses = 2, .address = (MPI_Aint[]){lower, extent}, .types = 1, .type = &type};
     struct type *sized;
     int code = check(0, type, made);
     if (code == MPI_SUCCESS) code = um_resize(um_type_at(type), lower, extent, &sized);

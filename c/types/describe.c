@@ -13,6 +13,7 @@ struct recipe {
 };
 
 /* Of the basic types, by their numbers. */
+/* clang-format off */
 static const char *const names[BASIC_TYPES] = {
     "MPI_DATATYPE_NULL", "MPI_CHAR", "MPI_SIGNED_CHAR", "MPI_UNSIGNED_CHAR", "MPI_BYTE", "MPI_PACKED", "MPI_SHORT", "MPI_UNSIGNED_SHORT",
     "MPI_INT", "MPI_UNSIGNED", "MPI_LONG", "MPI_UNSIGNED_LONG", "MPI_LONG_LONG_INT", "MPI_UNSIGNED_LONG_LONG", "MPI_FLOAT", "MPI_DOUBLE",
@@ -20,6 +21,7 @@ static const char *const names[BASIC_TYPES] = {
     "MPI_UINT32_T", "MPI_UINT64_T", "MPI_AINT", "MPI_OFFSET", "MPI_COUNT", "MPI_FLOAT_INT", "MPI_DOUBLE_INT", "MPI_LONG_INT", "MPI_2INT",
     "MPI_SHORT_INT", "MPI_LONG_DOUBLE_INT", "MPI_C_COMPLEX", "MPI_C_DOUBLE_COMPLEX", "MPI_C_LONG_DOUBLE_COMPLEX",
     "MPI_LB", "MPI_UB"};
+/* clang-format on */
 
 /* Where the name stands that a program gave a type; of a basic one, null where it gave none and there is no memory for it. */
 static char *name_of(MPI_Datatype handle, bool is_written) {
@@ -134,7 +136,8 @@ static int hand_out(struct type *type, MPI_Datatype *handle) {
     return um_add_type(type, handle);
 }
 
-static int tell_contents(MPI_Datatype type, MPI_Count ints, MPI_Count addresses, MPI_Count types, int number[], MPI_Aint address[], MPI_Datatype of[]) {
+static int tell_contents(MPI_Datatype type, MPI_Count ints, MPI_Count addresses, MPI_Count types, int number[], MPI_Aint address[],
+                         MPI_Datatype of[]) {
     const struct recipe *recipe = um_type_at(type) ? um_type_at(type)->recipe : 0;
     int code = MPI_SUCCESS;
     if (!recipe) return um_fail(0, MPI_ERR_TYPE);
@@ -151,8 +154,8 @@ int MPI_Type_get_contents(MPI_Datatype type, int ints, int addresses, int types,
     return tell_contents(type, ints, addresses, types, number, address, of);
 }
 
-int MPI_Type_get_contents_c(MPI_Datatype type, MPI_Count ints, MPI_Count addresses, MPI_Count counts, MPI_Count types, int number[], MPI_Aint address[],
-                            MPI_Count large[], MPI_Datatype of[]) {
+int MPI_Type_get_contents_c(MPI_Datatype type, MPI_Count ints, MPI_Count addresses, MPI_Count counts, MPI_Count types, int number[],
+                            MPI_Aint address[], MPI_Count large[], MPI_Datatype of[]) {
     (void)counts, (void)large;
     ENTER_LOOK(0, MPI_UNDEFINED, MPI_UNDEFINED);
     return tell_contents(type, ints, addresses, types, number, address, of);

@@ -90,13 +90,15 @@ static int pack(const char *form, struct packing of, MPI_Count *position, enum w
     return um_end_large(&large, code);
 }
 
-int MPI_Pack_external_c(const char form[], const void *buffer, MPI_Count count, MPI_Datatype type, void *packed, MPI_Count room, MPI_Count *position) {
+int MPI_Pack_external_c(const char form[], const void *buffer, MPI_Count count, MPI_Datatype type, void *packed, MPI_Count room,
+                        MPI_Count *position) {
     ENTER_LOOK(0, MPI_UNDEFINED, MPI_UNDEFINED);
     WRITES(0, position);
     return um_answer(0, pack(form, (struct packing){(void *)(uintptr_t)buffer, count, type, packed, room}, position, OUT));
 }
 
-int MPI_Unpack_external_c(const char form[], const void *packed, MPI_Count room, MPI_Count *position, void *buffer, MPI_Count count, MPI_Datatype type) {
+int MPI_Unpack_external_c(const char form[], const void *packed, MPI_Count room, MPI_Count *position, void *buffer, MPI_Count count,
+                          MPI_Datatype type) {
     ENTER_LOOK(0, MPI_UNDEFINED, MPI_UNDEFINED);
     WRITES(0, position);
     return um_answer(0, pack(form, (struct packing){buffer, count, type, (char *)(uintptr_t)packed, room}, position, IN));

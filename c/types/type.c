@@ -9,10 +9,12 @@
 
 enum { FIRST_OWN = 64, FIRST_PAIR = 30, FIRST_COMPLEX = 36, LOWER_MARK = 39, UPPER_MARK = 40, BASIC = BASIC_TYPES };
 
+/* clang-format off */
 #define PAIR(first) {sizeof(first), sizeof(struct { first value; int place; })}
 static const size_t sizes[FIRST_PAIR] = {0, 1, 1, 1, 1, 1, sizeof(short), sizeof(short), sizeof(int), sizeof(int), sizeof(long), sizeof(long),
                                          sizeof(long long), sizeof(long long), sizeof(float), sizeof(double), sizeof(long double), sizeof(wchar_t),
                                          sizeof(_Bool), 1, 2, 4, 8, 1, 2, 4, 8, sizeof(MPI_Aint), sizeof(MPI_Offset), sizeof(MPI_Count)};
+/* clang-format on */
 /* Of pairs (6.9.4): the bytes of the value, and of the pair in memory. */
 static const size_t pairs[FIRST_COMPLEX - FIRST_PAIR][2] = {PAIR(float), PAIR(double), PAIR(long), PAIR(int), PAIR(short), PAIR(long double)};
 static const size_t parts_of_complex[LOWER_MARK - FIRST_COMPLEX] = {sizeof(float), sizeof(double), sizeof(long double)};
@@ -42,18 +44,31 @@ static void make_basics(void) {
         enum external external = external_of((uintptr_t)k);
         block[0] = block_at(0, first, part, external);
         block[1] = block_at(first < sizeof(int) ? sizeof(int) : first, sizeof(int), sizeof(int), SAME);
-        basics[k] = (struct type){.users = 1, .is_committed = true, .is_basic = true, .size = is_pair ? first + sizeof(int) : first,
-                                  .upper = (ptrdiff_t)whole, .blocks = is_pair ? 2 : 1, .block = block,
+        basics[k] = (struct type){.users = 1,
+                                  .is_committed = true,
+                                  .is_basic = true,
+                                  .size = is_pair ? first + sizeof(int) : first,
+                                  .upper = (ptrdiff_t)whole,
+                                  .blocks = is_pair ? 2 : 1,
+                                  .block = block,
                                   .base = (MPI_Datatype)(uintptr_t)k};
         basics[k].is_plain = basics[k].size == whole;
         basics[k].elements = basics[k].blocks;
         basics[k].most = is_pair ? block[1].at + (ptrdiff_t)block[1].length : (ptrdiff_t)first;
         basics[k].alignment = (uint32_t)(is_pair && part < sizeof(int) ? sizeof(int) : part);
-        basics[k].external = (external == HALF || external == UNSIGNED_HALF ? first / 2 : external == QUAD ? first / part * 16 : first) + (is_pair ? sizeof(int) : 0);
+        basics[k].external = (external == HALF || external == UNSIGNED_HALF ? first / 2
+                              : external == QUAD                            ? first / part * 16
+                                                                            : first) +
+                             (is_pair ? sizeof(int) : 0);
     }
     for (int k = LOWER_MARK; k <= UPPER_MARK; k++)
-        basics[k] = (struct type){.users = 1, .is_committed = true, .is_basic = true, .is_plain = true, .alignment = 1,
-                                  .has_lower = k == LOWER_MARK, .has_upper = k == UPPER_MARK};
+        basics[k] = (struct type){.users = 1,
+                                  .is_committed = true,
+                                  .is_basic = true,
+                                  .is_plain = true,
+                                  .alignment = 1,
+                                  .has_lower = k == LOWER_MARK,
+                                  .has_upper = k == UPPER_MARK};
 }
 
 struct type *um_type_at(MPI_Datatype handle) {

@@ -40,7 +40,8 @@ static bool find_bearer(MPI_Datatype handle, struct bearer *bearer) {
     struct type *type = um_type_at(handle);
     if (type->is_basic && !um_me->mpi.basic_attributes) um_me->mpi.basic_attributes = calloc(BASIC_TYPES, sizeof(struct attribute *));
     if (type->is_basic && !um_me->mpi.basic_attributes) return false;
-    *bearer = (struct bearer){.kind = OF_TYPES, .type = handle, .first = type->is_basic ? &um_me->mpi.basic_attributes[(uintptr_t)handle] : &type->attributes};
+    *bearer = (struct bearer){
+        .kind = OF_TYPES, .type = handle, .first = type->is_basic ? &um_me->mpi.basic_attributes[(uintptr_t)handle] : &type->attributes};
     return true;
 }
 

@@ -1,4 +1,5 @@
-/* What a datatype is (MPI 4.0, 5.1): blocks of bytes, each of basic elements, at displacements from a buffer's address; and bounds. */
+/* Datatypes (MPI 4.0, 5.1): a type is blocks of bytes, each of basic elements, at displacements from a buffer's address; and bounds. Here they are made,
+   told of, and their data packed and moved. */
 #ifndef UM_TYPES_H
 #define UM_TYPES_H
 
@@ -10,13 +11,13 @@ enum external { SAME, HALF, UNSIGNED_HALF, QUAD };
 
 /* Bytes at one place or several, each `stride` bytes further than the one before; or another type so. */
 struct block {
-    ptrdiff_t at;        /* bytes from the buffer's address */
+    ptrdiff_t at; /* bytes from the buffer's address */
     size_t count;
     ptrdiff_t stride;
-    struct type *of;     /* null: bytes */
-    size_t length;       /* the bytes of one */
-    uint32_t element;    /* the bytes of one basic element */
-    uint32_t alignment;  /* what C aligns such an element to: of a complex number, less than its bytes */
+    struct type *of;    /* null: bytes */
+    size_t length;      /* the bytes of one */
+    uint32_t element;   /* the bytes of one basic element */
+    uint32_t alignment; /* what C aligns such an element to: of a complex number, less than its bytes */
     enum external external;
 };
 
@@ -30,22 +31,22 @@ struct piece {
 struct recipe;
 
 struct type {
-    int users;              /* its handle, and receives that are open */
+    int users; /* its handle, and receives that are open */
     bool is_basic, is_committed;
-    bool is_plain;          /* its data are its extent: nothing has to be packed */
-    bool has_lower, has_upper;  /* bounds that MPI_Type_create_resized set: types made of it have them too (5.1.7) */
-    size_t size;            /* bytes of data */
-    size_t elements;        /* basic ones */
-    size_t external;        /* bytes of data in the form "external32" */
-    ptrdiff_t lower, upper; /* bounds; the extent is between them */
-    ptrdiff_t least, most;  /* where the data begin and end */
-    uint32_t alignment;     /* the largest one of its elements */
+    bool is_plain;             /* its data are its extent: nothing has to be packed */
+    bool has_lower, has_upper; /* bounds that MPI_Type_create_resized set: types made of it have them too (5.1.7) */
+    size_t size;               /* bytes of data */
+    size_t elements;           /* basic ones */
+    size_t external;           /* bytes of data in the form "external32" */
+    ptrdiff_t lower, upper;    /* bounds; the extent is between them */
+    ptrdiff_t least, most;     /* where the data begin and end */
+    uint32_t alignment;        /* the largest one of its elements */
     size_t blocks;
-    struct block *block;    /* in the order in which data are sent */
-    struct recipe *recipe;  /* how the program made it; null of a basic one */
-    struct attribute *attributes;  /* but of a basic one */
-    MPI_Datatype handle;    /* which it was made with */
-    MPI_Datatype base;      /* the basic type of all its data, or null */
+    struct block *block;          /* in the order in which data are sent */
+    struct recipe *recipe;        /* how the program made it; null of a basic one */
+    struct attribute *attributes; /* but of a basic one */
+    MPI_Datatype handle;          /* which it was made with */
+    MPI_Datatype base;            /* the basic type of all its data, or null */
     char name[MPI_MAX_OBJECT_NAME];
 };
 enum { BASIC_TYPES = 41 };

@@ -118,7 +118,8 @@ static int do_epoch(struct window *window, struct pile in[], struct pile answers
 int MPI_Win_fence(int assertion, MPI_Win win) {
     struct pile in[MAX_RANKS] = {{0}}, answers[MAX_RANKS] = {{0}}, results[MAX_RANKS] = {{0}};
     WINDOW(win, true);
-    if (assertion & ~(MPI_MODE_NOCHECK | MPI_MODE_NOSTORE | MPI_MODE_NOPUT | MPI_MODE_NOPRECEDE | MPI_MODE_NOSUCCEED)) return um_fail_window(of, win, MPI_ERR_ASSERT);
+    if (assertion & ~(MPI_MODE_NOCHECK | MPI_MODE_NOSTORE | MPI_MODE_NOPUT | MPI_MODE_NOPRECEDE | MPI_MODE_NOSUCCEED))
+        return um_fail_window(of, win, MPI_ERR_ASSERT);
     int code = do_epoch(of, in, answers, results);
     for (int k = 0; k < MAX_RANKS; k++) {
         free(in[k].bytes);

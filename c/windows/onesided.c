@@ -22,10 +22,10 @@ struct target {
 /* Writes runs of bytes down. */
 struct writing {
     struct pile *pile;
-    size_t first;      /* where the runs begin in it */
+    size_t first; /* where the runs begin in it */
     size_t runs, limit;
-    const struct type *element;   /* where each is a run of its own, whatever blocks it has */
-    size_t blocks;                /* of elements that were seen */
+    const struct type *element; /* where each is a run of its own, whatever blocks it has */
+    size_t blocks;              /* of elements that were seen */
     int code;
 };
 
@@ -104,7 +104,8 @@ static int check(const struct window *window, const struct data *given, const st
 }
 
 /* Writes all down, or nothing. */
-static int write_down(struct window *window, struct deed deed, const struct data *given, const struct data *got, const struct target *target, size_t bytes) {
+static int write_down(struct window *window, struct deed deed, const struct data *given, const struct data *got, const struct target *target,
+                      size_t bytes) {
     struct pile *pile = &window->asked[target->rank];
     size_t before = pile->length;
     const struct type *base = um_type_at((MPI_Datatype)(uintptr_t)deed.base);
@@ -163,8 +164,8 @@ int MPI_Accumulate(const void *buf, int count, MPI_Datatype type, int target, MP
     return code != MPI_SUCCESS ? um_fail_window(of, win, code) : ask(win, of, deed, &(struct data){buf, count, type}, 0, &there);
 }
 
-int MPI_Get_accumulate(const void *buf, int count, MPI_Datatype type, void *result, int resultcount, MPI_Datatype resulttype, int target, MPI_Aint disp,
-                       int targetcount, MPI_Datatype targettype, MPI_Op op, MPI_Win win) {
+int MPI_Get_accumulate(const void *buf, int count, MPI_Datatype type, void *result, int resultcount, MPI_Datatype resulttype, int target,
+                       MPI_Aint disp, int targetcount, MPI_Datatype targettype, MPI_Op op, MPI_Win win) {
     WINDOW(win, true);
     struct target there = {target, disp, {0, targetcount, targettype}};
     struct deed deed = {.what = GET_AND_FOLD};

@@ -1,4 +1,4 @@
-/* Windows (MPI 4.0, 12), and what is asked of them until the next fence. */
+/* Windows (MPI 4.0, 12), and what is asked of them until the next fence. A fence tells it the members, who do it in their own windows. */
 #ifndef UM_WINDOWS_H
 #define UM_WINDOWS_H
 
@@ -14,9 +14,9 @@ struct pile {
 enum asked { PUT, GET, FOLD, GET_AND_FOLD, SWAP };
 struct deed {
     enum asked what;
-    uint32_t base;    /* of a fold: the basic type of its elements */
+    uint32_t base; /* of a fold: the basic type of its elements */
     uint32_t op;
-    bool by_element;  /* each run is an element whose data aren't in one piece */
+    bool by_element; /* each run is an element whose data aren't in one piece */
     size_t runs, bytes;
 };
 
@@ -36,13 +36,13 @@ struct result {
 
 struct window {
     struct comm *comm;
-    struct request *hold;      /* so that the communicator stays */
-    unsigned number;           /* of its messages, as of a collective that is started */
+    struct request *hold; /* so that the communicator stays */
+    unsigned number;      /* of its messages, as of a collective that is started */
     void *base;
     MPI_Aint sizes[MAX_RANKS]; /* of each member's window, in bytes */
     int units[MAX_RANKS];
     int flavor, model;
-    bool is_open;              /* a fence began an epoch */
+    bool is_open; /* a fence began an epoch */
     MPI_Errhandler handler;
     char name[MPI_MAX_OBJECT_NAME];
     struct attribute *attributes;
@@ -51,7 +51,7 @@ struct window {
     int result_count;
 };
 
-enum { ALIGNED = 16 };         /* deeds, runs and data begin so */
+enum { ALIGNED = 16 }; /* deeds, runs and data begin so */
 
 /* window.c */
 struct window *um_window_at(MPI_Win handle);
