@@ -20,11 +20,11 @@ const EMPTY_LINE: &[u8] = b"\r\x1b[K";
 /// Tells a terminal on one line, again and again, how many states were looked at, and how many a second, if that is wanted. Of the states at
 /// places threads tell at once.
 #[derive(Drop)]
-pub struct Progress<'a, T: Clock, E: Write + Drop> {
+pub struct Progress<'a, T: Clock, E: Write> {
     rt: &'a T,
     alloc: Global,
     /// Where it is told, by one thread at a time.
-    errors: Mutex<E>,
+    errors: Mutex<&'a mut E>,
     is_wanted: bool,
     /// When it began, by a clock that could be read.
     start: Option<Instant>,
@@ -37,9 +37,9 @@ pub struct Progress<'a, T: Clock, E: Write + Drop> {
     places: AtomicUsize,
 }
 
-impl<'a, T: Clock, E: Write + Drop> Progress<'a, T, E> {
+impl<'a, T: Clock, E: Write> Progress<'a, T, E> {
     /// What tells `errors`, if the words ask for it.
-    pub fn new(rt: &'a T, alloc: Global, errors: E, wanted: Wanted) -> Progress<'a, T, E> {
+    pub fn new(rt: &'a T, alloc: Global, errors: &'a mut E, wanted: Wanted) -> Progress<'a, T, E> {
         Progress {
             rt,
             alloc,
@@ -100,7 +100,7 @@ impl<'a, T: Clock, E: Write + Drop> Progress<'a, T, E> {
     }
 }
 
-impl<T: Clock, E: Write + Drop> Watch for Progress<'_, T, E> {
+impl<T: Clock, E: Write> Watch for Progress<'_, T, E> {
     fn see(&mut self, looked_at: usize, found: usize) {
         self.looked_at = looked_at;
         if !self.is_wanted || looked_at % STRIDE != 0 {
@@ -112,7 +112,7 @@ impl<T: Clock, E: Write + Drop> Watch for Progress<'_, T, E> {
     }
 }
 
-impl<T: Clock, E: Write + Drop> Onlooker for Progress<'_, T, E> {
+impl<T: Clock, E: Write> Onlooker for Progress<'_, T, E> {
     fn see(&self, place: Place, states: usize) {
         let before = self.at_places.fetch_add(states, Ordering::SeqCst);
         let looked_at = before.wrapping_add(states);
