@@ -1,4 +1,5 @@
 pub mod Text
+pub mod Judgement
 pub mod Listed
 pub mod Words
 pub mod Objects

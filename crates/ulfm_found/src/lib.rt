@@ -1,18 +1,19 @@
 //! What an exploration found, as a value that is printed, and what a job wants of it: for each step all that it may be answered, in words
 //! or in JSON; the first step that isn't as the job expects; and what a schedule is to show.
 //!
-//!     let text = list_in(alloc, form, names, &job, &reach, limit)?;
+//!     let text = list_in(alloc, form, names, &job, judgement, &reached)?;
 //!     let unmet = unmet_in(&job, &reached.found);
 //!     let goals = Goals::of(alloc, &job, clauses)?;
 //!
 //! What is found are rows: the rank, the number of its step, and the words of an answer, or none where the step never ends.
 //!
-//! Read specs/Text.antt first (what rows tell), then Listed.antt (a list as a value), Words.antt and Objects.antt (how it is printed, that of
+//! Read specs/Text.antt first (what rows tell), then Judgement.antt (what a list comes to), Listed.antt (a list as a value), Words.antt and Objects.antt (how it is printed, that of
 //! places too), Unmet.antt and Goals.antt.
 #![tactic(auto)]
 
 mod goals;
 mod job_step;
+mod judgement;
 mod list;
 mod listed_step;
 mod objects;
@@ -28,11 +29,12 @@ mod words;
 
 pub use goals::Goals;
 pub use job_step::{JobStep, steps_of};
+pub use judgement::Judgement;
 pub use listed_step::ListedStep;
 pub use open_step::OpenStep;
 pub use outcome::Outcome;
 pub use outcomes::Outcomes;
-pub use printing::{list_in, push_list};
+pub use printing::{list_in, more_in, push_list};
 pub use rows::{add_answers, in_order, is_stuck, some_never_end, words_at};
 pub use step_list::StepList;
 pub use unmet::{Unmet, is_expected, unmet_in};

@@ -1,9 +1,10 @@
 //! A list as it is printed.
 ghost use Rattle.std.specs.Prelude.{◌≡◌, ◌++◌, IfOk, OnOk, string_bytes};
-ghost use Rattle.ulfm_found.specs.Listed.{list_found, list_view};
+ghost use Rattle.ulfm_found.specs.Listed.{list_view};
 ghost use Rattle.ulfm_found.specs.Objects.{list_in, more_in, printed};
-ghost use Rattle.ulfm_found.specs.Text.{AreAscii, IsWritable};
+ghost use Rattle.ulfm_found.specs.Text.{AreAscii};
 
+use crate::judgement::Judgement;
 use crate::list::list_of;
 use crate::objects::push_objects;
 use crate::step_list::StepList;
@@ -12,7 +13,7 @@ use std::alloc::{AllocError, Global};
 use ulfm_base::OutOfMemory;
 use ulfm_job::Job;
 use ulfm_json::Form;
-use ulfm_reach::{Reach, Reached};
+use ulfm_reach::Reached;
 use ulfm_reader::Name;
 
 /// Puts a list of steps that have these names behind a text, in this form: a line for each step with its answers, in the order in which they
@@ -35,7 +36,7 @@ pub fn push_list(
     }
 }
 
-/// The list of an exploration of a job whose steps have these names, in this form. Of more states than the limit one line.
+/// The list of an exploration of a job whose steps have these names, in this form. It comes to this.
 ///
 /// # Errors
 ///
@@ -45,37 +46,24 @@ pub fn list_in(
     form: Form,
     names: &[Name],
     job: &Job,
-    reach: &Reach,
-    limit: usize,
-) -> Result<String, OutOfMemory>
-    requires ascii { IsWritable reach.now }
-    ensures { IfOk result (λ text. string_bytes text ≡ list_in form names.now job.now reach.now limit) }
-{
-    match reach {
-        Reach::All(reached) => whole_in(alloc, form, names, job, reached),
-        Reach::More => more_in(alloc, form, limit),
-    }
-}
-
-/// The list of all that is reached.
-fn whole_in(
-    alloc: Global,
-    form: Form,
-    names: &[Name],
-    job: &Job,
+    judgement: Judgement,
     reached: &Reached,
 ) -> Result<String, OutOfMemory>
     requires ascii { AreAscii reached.now.found }
-    ensures { IfOk result (λ text. string_bytes text ≡ printed form names.now (list_found job.now reached.now)) }
+    ensures { IfOk result (λ text. string_bytes text ≡ list_in form names.now job.now judgement reached.now) }
 {
-    let list = list_of(alloc, job, reached)?;
+    let list = list_of(alloc, job, judgement, reached)?;
     let mut text = String::new(alloc);
     push_list(&mut text, form, names, &list)?;
     Ok(text)
 }
 
 /// That there are more states than the limit.
-fn more_in(alloc: Global, form: Form, limit: usize) -> Result<String, OutOfMemory>
+///
+/// # Errors
+///
+/// `OutOfMemory` where a growth was refused.
+pub fn more_in(alloc: Global, form: Form, limit: usize) -> Result<String, OutOfMemory>
     ensures { IfOk result (λ text. string_bytes text ≡ more_in form limit) }
 {
     match form {

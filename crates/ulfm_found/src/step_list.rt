@@ -1,5 +1,6 @@
 //! The list of all outcomes of a job.
 
+use crate::judgement::Judgement;
 use crate::listed_step::ListedStep;
 
 /// The list of all outcomes of a job, or of what it has wherever ranks stop.
@@ -13,4 +14,6 @@ pub struct StepList<'a> {
     pub places: Option<usize>,
     /// Whether some step never ends.
     pub never_ends: bool,
+    /// What it comes to.
+    pub judgement: Judgement,
 }

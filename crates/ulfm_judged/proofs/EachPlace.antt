@@ -20,7 +20,9 @@ use Rattle.ulfm_stops.specs.Places.{places_of}
 use Rattle.ulfm_json.specs.declared.form.Form.{Form}
 use Rattle.ulfm_replies.specs.Stopped.{Asked, IsAskedAt, asked_at}
 use Rattle.ulfm_replies.specs.declared.command.ListOptions.{ListOptions}
-use Rattle.ulfm_replies.specs.declared.reply.Reply.{Reply}
+use Rattle.ulfm_found.specs.declared.judgement.Judgement.{Judgement}
+use Rattle.ulfm_found.specs.declared.judgement.Judgement.TheVariants.{NotKnown}
+use Rattle.ulfm_judged.specs.declared.finding.Finding.{Finding}
 use Rattle.ulfm_judged.specs.EachPlace.{IsEachPlaceReply, IsJudgedEach, listed_all, past_limit_at, places_in}
 use Rattle.ulfm_lists.specs.Told.{row_in}
 use Rattle.ulfm_judged.specs.Outcomes.{goals_asked}
@@ -30,9 +32,9 @@ use Rattle.ulfm_judged.specs.declared.looking.FirstRow.{FirstRow}
 use Rattle.ulfm_judged.specs.declared.show_each.LookAt.{LookAt}
 use Rattle.ulfm_lists.specs.declared.told.Told.{Told}
 use Rattle.ulfm_lists.specs.declared.told.Told.TheVariants as told
-use Rattle.ulfm_judged.specs.inside.Judging.{AreListedOf, IsFirstLook, IsInside, IsListedOf, IsLookAtText, IsUnwanted, IsUnwantedAt, look_at_status, status_past, text_past}
+use Rattle.ulfm_judged.specs.inside.Judging.{AreListedOf, IsFirstLook, IsInside, IsListedOf, IsLookAtText, IsUnwanted, IsUnwantedAt, judgement_past, look_at_status, status_past, text_past}
 use Rattle.ulfm_finder.specs.Told.{IsLook}
-use Rattle.ulfm_judged.specs.inside.Looking.{IsFirstRow, IsLookText, look_status, row_status}
+use Rattle.ulfm_judged.specs.inside.Looking.{IsFirstRow, IsLookText, look_status, row_judgement, row_status}
 
 -- what is asked for at a place has the job of the place
 pub asked_at-job : (place : Place) (asked : Asked) → (asked_at place asked).job ≡ job_at place asked.job
@@ -61,20 +63,20 @@ list_there asked made limit one of is =
     subst (λ (j : JobView). HasList j limit one.found) (sym job) of.1
 
 -- what is told of what is asked for there
-pub unwanted_there : (form : Form) (options : ListOptions) (one : Listed) (asked made : Asked) (told : Option Reply) → IsListedOf asked options.limit one → made ≡ asked_at one.place asked
+pub unwanted_there : (form : Form) (options : ListOptions) (one : Listed) (asked made : Asked) (told : Option Finding) → IsListedOf asked options.limit one → made ≡ asked_at one.place asked
     → IsUnwanted form options (Some one.place) made one.found told → IsUnwantedAt form options one.place made told
 unwanted_there form options one asked made None of is wanted = wanted
-unwanted_there form options one asked made (Some reply) of is told = (one.found, list_there asked made options.limit one of is, told)
+unwanted_there form options one asked made (Some finding) of is told = (one.found, list_there asked made options.limit one of is, told)
 
 -- what is told of a row
 pub row_told_as : (form : Form) (options : ListOptions) (at : Option Place) (asked : Asked) (found : List (List ℕ)) (first : FirstRow) → MeetsExpected asked.job → IsFirstRow asked.job asked.rows options.is_brief options.limit (Some first)
-    → IsToldOf form options at asked found (row_status first.told) (row_in form at asked.names asked.job first.number first.told)
+    → IsToldOf form options at asked found (row_judgement first.told) (row_status first.told) (row_in form at asked.names asked.job first.number first.told)
 row_told_as form options at asked found first meets is = by first.told is.3.2
   where
-    by : (what : Told) → IsLook asked.job is.3.0 options.is_brief options.limit (Some what) → IsToldOf form options at asked found (row_status what) (row_in form at asked.names asked.job first.number what)
+    by : (what : Told) → IsLook asked.job is.3.0 options.is_brief options.limit (Some what) → IsToldOf form options at asked found (row_judgement what) (row_status what) (row_in form at asked.names asked.job first.number what)
     by (told.Schedule schedule) shows = together first.number is.0 is.3.0 schedule meets is.1 is.2 is.3.1 shows
     by (told.Many limit) shows =
-        subst (λ (n : ℕ). IsToldOf form options at asked found 7 (row_in form at asked.names asked.job first.number (told.Many n))) (sym shows.0) (unsearched first.number is.0 is.3.0 meets is.1 is.2 is.3.1 (sym shows.0 ∙ shows.0, shows.1))
+        subst (λ (n : ℕ). IsToldOf form options at asked found NotKnown 7 (row_in form at asked.names asked.job first.number (told.Many n))) (sym shows.0) (unsearched first.number is.0 is.3.0 meets is.1 is.2 is.3.1 (sym shows.0 ∙ shows.0, shows.1))
 
 -- what came of a search at each of the job's places came at one of them
 pub look_inside : (j : JobView) (clauses : List Clause) (is_brief : Bool) (limit : ℕ) (places : List Place) (look : Option LookAt) → All (IsPlaceOf j) places → IsFirstLook j clauses is_brief limit places look → IsInside j look
@@ -113,12 +115,12 @@ lists-writable j limit (place ∷ places) (one ∷ listed) past lists =
     All-cons (λ (one : Listed). AreAscii one.found) one listed (one-writable j limit place one lists.0) (lists-writable j limit places listed past lists.1)
 
 -- the lists of all places with what is told below them
-pub each_as : (form : Form) (options : ListOptions) (stops : ℕ) (bytes : List ℕ) (asked : Asked) (places : List Place) (listed : List Listed) (past : Option Place) (status : ℕ) (text words : List ℕ) → IsAskedAt Nowhere bytes asked
-    → AreLists asked.job options.limit places listed past → places ≡ places_of stops asked.job → IsJudgedEach form options asked (places_in listed) (status_past options listed past) status words
-    → text ≡ text_past form asked.names asked.job options listed past ++ words → IsEachPlaceReply form options stops bytes status text
-each_as form options stops bytes asked places listed None status text words read are is judged same =
+pub each_as : (form : Form) (options : ListOptions) (stops : ℕ) (bytes : List ℕ) (asked : Asked) (places : List Place) (listed : List Listed) (past : Option Place) (judgement : Judgement) (status : ℕ) (text words : List ℕ) → IsAskedAt Nowhere bytes asked
+    → AreLists asked.job options.limit places listed past → places ≡ places_of stops asked.job → IsJudgedEach form options asked (places_in listed) (judgement_past asked listed past) (status_past options listed past) judgement status words
+    → text ≡ text_past form asked options listed past judgement ++ words → IsEachPlaceReply form options stops bytes status text
+each_as form options stops bytes asked places listed None judgement status text words read are is judged same =
     subst (λ (t : List ℕ). IsEachPlaceReply form options stops bytes status t) (sym same)
-    (listed_all asked listed status words read (subst (λ (ps : List Place). AreLists asked.job options.limit ps listed None) is are) judged)
-each_as form options stops bytes asked places listed (Some place) status text words read are is judged same =
+    (listed_all asked listed judgement status words read (subst (λ (ps : List Place). AreLists asked.job options.limit ps listed None) is are) judged)
+each_as form options stops bytes asked places listed (Some place) judgement status text words read are is judged same =
     subst (λ (t : List ℕ). IsEachPlaceReply form options stops bytes status t) (sym same)
-    (past_limit_at asked listed place status words read (subst (λ (ps : List Place). AreLists asked.job options.limit ps listed (Some place)) is are) judged)
+    (past_limit_at asked listed place judgement status words read (subst (λ (ps : List Place). AreLists asked.job options.limit ps listed (Some place)) is are) judged)

@@ -3,6 +3,8 @@ use Rattle.std.proofs.Common.{ℕ, Bool, true, false, List, Option, Some, None}
 use Rattle.ulfm_stops.specs.declared.place.Place.{Place}
 use Rattle.ulfm_stops.specs.declared.place.Place.TheVariants.{Nowhere}
 use Rattle.ulfm_found.specs.Text.{some_never_ends}
+use Rattle.ulfm_found.specs.declared.judgement.Judgement.{Judgement}
+use Rattle.ulfm_reach.specs.declared.reached.Reached.{Reached}
 use Rattle.ulfm_lists.specs.Union.{some_never_ends as each_never_ends}
 use Rattle.ulfm_json.specs.declared.form.Form.{Form}
 use Rattle.ulfm_replies.proofs.Statuses as statuses
@@ -23,17 +25,17 @@ list_alone true true = statuses.left_open
 list_alone true false = statuses.done
 list_alone false is_open = statuses.done
 
-told_known : (form : Form) (options : ListOptions) (at : Option Place) (asked : Asked) (found : List (List ℕ)) (status : ℕ) (text : List ℕ) → IsToldOf form options at asked found status text → IsKnown status
-told_known form options at asked found status text (unmet one goals what first is shows) = statuses.not_wanted
-told_known form options at asked found status text (together number row goals schedule meets here none are shows) = statuses.not_wanted
-told_known form options at asked found status text (unsearched number row goals meets here none are shows) = statuses.past
+told_known : (form : Form) (options : ListOptions) (at : Option Place) (asked : Asked) (found : List (List ℕ)) (judgement : Judgement) (status : ℕ) (text : List ℕ) → IsToldOf form options at asked found judgement status text → IsKnown status
+told_known form options at asked found judgement status text (unmet one goals what first is shows) = statuses.not_wanted
+told_known form options at asked found judgement status text (together number row goals schedule meets here none are shows) = statuses.not_wanted
+told_known form options at asked found judgement status text (unsearched number row goals meets here none are shows) = statuses.past
 
-judged_known : (form : Form) (options : ListOptions) (asked : Asked) (found : List (List ℕ)) (list : List ℕ) (status : ℕ) (text : List ℕ) → IsJudged form options asked found list status text → IsKnown status
-judged_known form options asked found list status text (good wanted) = list_alone options.is_strict (some_never_ends found)
-judged_known form options asked found list status text (unwanted k words is) = told_known form options None asked found status words is
+judged_known : (form : Form) (options : ListOptions) (asked : Asked) (reached : Reached) (status : ℕ) (text : List ℕ) → IsJudged form options asked reached status text → IsKnown status
+judged_known form options asked reached status text (good wanted) = list_alone options.is_strict (some_never_ends reached.found)
+judged_known form options asked reached status text (unwanted judgement k words is) = told_known form options None asked reached.found judgement status words is
 
 list_known : (form : Form) (options : ListOptions) (bytes : List ℕ) (status : ℕ) (text : List ℕ) → IsOutcomesReply form options bytes status text → IsKnown status
-list_known form options bytes status text (listed asked reached k words is all judged) = judged_known form options asked _ _ status text judged
+list_known form options bytes status text (listed asked reached k words is all judged) = judged_known form options asked _ status text judged
 list_known form options bytes status text (past_limit asked is many) = statuses.past
 list_known form options bytes status text (not_listed k words is) = no_play form options.place bytes status text is
 list_known form options bytes status text unlisted = statuses.run_fails
@@ -46,14 +48,15 @@ show_known form options show bytes status text (unnamed job part is named) = sta
 show_known form options show bytes status text (not_shown k words is) = no_play form options.place bytes status text is
 show_known form options show bytes status text unshown = statuses.run_fails
 
-each_judged_known : (form : Form) (options : ListOptions) (asked : Asked) (places : List Place) (alone status : ℕ) (text : List ℕ) → IsKnown alone → IsJudgedEach form options asked places alone status text → IsKnown status
-each_judged_known form options asked places alone status text known (each.wanted all) = known
-each_judged_known form options asked places alone status text known (each.found number place words here before is) = statuses.not_wanted
-each_judged_known form options asked places alone status text known (each.unfound number place words here before none is) = statuses.past
+each_judged_known : (form : Form) (options : ListOptions) (asked : Asked) (places : List Place) (good : Judgement) (alone : ℕ) (judgement : Judgement) (status : ℕ) (text : List ℕ) → IsKnown alone
+    → IsJudgedEach form options asked places good alone judgement status text → IsKnown status
+each_judged_known form options asked places good alone judgement status text known (each.wanted all) = known
+each_judged_known form options asked places good alone judgement status text known (each.found number place what words here before is) = statuses.not_wanted
+each_judged_known form options asked places good alone judgement status text known (each.unfound number place words here before none is) = statuses.past
 
 each_known : (form : Form) (options : ListOptions) (stops : ℕ) (bytes : List ℕ) (status : ℕ) (text : List ℕ) → IsEachPlaceReply form options stops bytes status text → IsKnown status
-each_known form options stops bytes status text (each.listed_all asked lists k words is are judged) = each_judged_known form options asked _ _ status _ (list_alone options.is_strict (each_never_ends lists)) judged
-each_known form options stops bytes status text (each.past_limit_at asked lists place k words is are judged) = each_judged_known form options asked _ _ status _ statuses.past judged
+each_known form options stops bytes status text (each.listed_all asked lists judgement k words is are judged) = each_judged_known form options asked _ _ _ judgement status _ (list_alone options.is_strict (each_never_ends lists)) judged
+each_known form options stops bytes status text (each.past_limit_at asked lists place judgement k words is are judged) = each_judged_known form options asked _ _ _ judgement status _ statuses.past judged
 each_known form options stops bytes status text (each.no_room_for_stops asked is many) = statuses.no_job
 each_known form options stops bytes status text (each.not_listed_at_all k words is) = no_play form Nowhere bytes status text is
 each_known form options stops bytes status text each.no_memory_for_lists = statuses.run_fails

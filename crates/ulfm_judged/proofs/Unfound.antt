@@ -11,7 +11,9 @@ use Rattle.ulfm_lists.specs.declared.listed.Listed.{Listed}
 use Rattle.ulfm_json.specs.declared.form.Form.{Form}
 use Rattle.ulfm_replies.specs.Stopped.{Asked, asked_at}
 use Rattle.ulfm_replies.specs.declared.command.ListOptions.{ListOptions}
-use Rattle.ulfm_replies.specs.declared.reply.Reply.{Reply}
+use Rattle.ulfm_found.specs.declared.judgement.Judgement.{Judgement}
+use Rattle.ulfm_found.specs.declared.judgement.Judgement.TheVariants.{NotKnown}
+use Rattle.ulfm_judged.specs.declared.finding.Finding.{Finding}
 use Rattle.ulfm_judged.specs.EachPlace.{IsJudgedEach, IsToldAt, IsUnfound, found, places_in, unfound}
 use Rattle.ulfm_judged.specs.Wanted.{IsToldOf, IsWanted, together, unmet, unsearched}
 use Rattle.ulfm_judged.specs.inside.Judging.{IsFirstUnwanted, IsUnfoundUpTo, IsUnwantedAt, is_found}
@@ -22,41 +24,43 @@ module _ (form : Form) (options : ListOptions) (asked : Asked) where
   wanted_at place = IsWanted (asked_at place asked)
 
   -- that is told of a place
-  abbrev is_told : Place → ℕ → List ℕ → Type 0
-  is_told place status text = IsToldAt form options place (asked_at place asked) status text
+  abbrev is_told : Place → Judgement → ℕ → List ℕ → Type 0
+  is_told place judgement status text = IsToldAt form options place (asked_at place asked) judgement status text
 
   -- what is told of a schedule that is found comes with 9
-  told-found : (place : Place) (status : ℕ) (text : List ℕ) → is_told place status text → (status == 9) ≡ true → status ≡ 9
-  told-found place status text told = by status text told.2
+  told-found : (place : Place) (judgement : Judgement) (status : ℕ) (text : List ℕ) → is_told place judgement status text → (status == 9) ≡ true → status ≡ 9
+  told-found place judgement status text told = by judgement status text told.2
     where
-      by : (k : ℕ) (words : List ℕ) → IsToldOf form options (Some place) (asked_at place asked) told.0 k words → (k == 9) ≡ true → k ≡ 9
-      by k words (unmet one goals what first is shows) nine = refl
-      by k words (together number row goals schedule meets here none are shows) nine = refl
-      by k words (unsearched number row goals meets here none are shows) nine = absurd (false≢true nine)
+      by : (what : Judgement) (k : ℕ) (words : List ℕ) → IsToldOf form options (Some place) (asked_at place asked) told.0 what k words → (k == 9) ≡ true → k ≡ 9
+      by what k words (unmet one goals shown first is shows) nine = refl
+      by what k words (together number row goals schedule meets here none are shows) nine = refl
+      by what k words (unsearched number row goals meets here none are shows) nine = absurd (false≢true nine)
 
-  -- and all else with 7
-  told-unfound : (place : Place) (status : ℕ) (text : List ℕ) → is_told place status text → (status == 9) ≡ false → status ≡ 7
-  told-unfound place status text told = by status text told.2
+  -- and all else with 7, and isn't known
+  told-unfound : (place : Place) (judgement : Judgement) (status : ℕ) (text : List ℕ) → is_told place judgement status text → (status == 9) ≡ false → (judgement ≡ NotKnown) × (status ≡ 7) × is_told place NotKnown 7 text
+  told-unfound place judgement status text told = by judgement status text told.2
     where
-      by : (k : ℕ) (words : List ℕ) → IsToldOf form options (Some place) (asked_at place asked) told.0 k words → (k == 9) ≡ false → k ≡ 7
-      by k words (unmet one goals what first is shows) other = absurd (false≢true (sym other))
-      by k words (together number row goals schedule meets here none are shows) other = absurd (false≢true (sym other))
-      by k words (unsearched number row goals meets here none are shows) other = refl
+      by : (what : Judgement) (k : ℕ) (words : List ℕ) → IsToldOf form options (Some place) (asked_at place asked) told.0 what k words → (k == 9) ≡ false → (what ≡ NotKnown) × (k ≡ 7) × is_told place NotKnown 7 words
+      by what k words (unmet one goals shown first is shows) other = absurd (false≢true (sym other))
+      by what k words (together number row goals schedule meets here none are shows) other = absurd (false≢true (sym other))
+      by what k words (unsearched number row goals meets here none are shows) other = (refl, refl, told.0, told.1, unsearched number row goals meets here none are shows)
 
   module _ (listed : List Listed) where
     -- at none of so many places a schedule was found
-    unfound-all : (count : ℕ) (first : Option Reply) → IsUnfoundUpTo form options asked listed count first → All (λ (one : Listed). IsUnfound form options asked one.place) (take count listed)
+    unfound-all : (count : ℕ) (first : Option Finding) → IsUnfoundUpTo form options asked listed count first → All (λ (one : Listed). IsUnfound form options asked one.place) (take count listed)
     unfound-all count None all = All-weaker (λ (one : Listed). wanted_at one.place) (λ (one : Listed). IsUnfound form options asked one.place) (λ one wanted. inl wanted) (take count listed) all
-    unfound-all count (Some reply) first = first.4
+    unfound-all count (Some finding) first = first.4
 
     -- what is told of all places
-    pub unfound-end : (count : ℕ) (first : Option Reply) → length listed ≤ count → IsUnfoundUpTo form options asked listed count first → IsFirstUnwanted form options asked (places_in listed) first
+    pub unfound-end : (count : ℕ) (first : Option Finding) → length listed ≤ count → IsUnfoundUpTo form options asked listed count first → IsFirstUnwanted form options asked (places_in listed) first
     unfound-end count None past all =
         All-map wanted_at (λ (one : Listed). one.place) listed (subst (All (λ (one : Listed). wanted_at one.place)) (take_all count listed past) all)
-    unfound-end count (Some reply) past first = λ status.
-        subst (λ (k : ℕ). IsJudgedEach form options asked (places_in listed) status k (string_bytes reply.text)) (sym first.5)
-        (unfound first.0 first.1 (string_bytes reply.text) first.2 first.3
-        (All-map (IsUnfound form options asked) (λ (one : Listed). one.place) listed (subst (All (λ (one : Listed). IsUnfound form options asked one.place)) (take_all count listed past) first.4)) first.6)
+    unfound-end count (Some finding) past first = λ alone status.
+        let words = string_bytes finding.reply.text in
+        subst (λ (what : Judgement). IsJudgedEach form options asked (places_in listed) alone status what finding.reply.status words) (sym first.5)
+        (subst (λ (k : ℕ). IsJudgedEach form options asked (places_in listed) alone status NotKnown k words) (sym first.6)
+        (unfound first.0 first.1 words first.2 first.3
+        (All-map (IsUnfound form options asked) (λ (one : Listed). one.place) listed (subst (All (λ (one : Listed). IsUnfound form options asked one.place)) (take_all count listed past) first.4)) first.7))
 
     module _ (i : ℕ) (one : Listed) (inside : i < length listed) (is : one ≡ get_or listed i one) where
       -- the place of the next list
@@ -72,26 +76,26 @@ module _ (form : Form) (options : ListOptions) (asked : Asked) where
       places-more P all here = All-more (λ (o : Listed). P o.place) listed i one inside all (subst (λ (o : Listed). P o.place) is here)
 
       -- a schedule is found there
-      pub found-next : (first told : Option Reply) → IsUnfoundUpTo form options asked listed i first → IsUnwantedAt form options one.place (asked_at one.place asked) told → is_found told ≡ true → IsFirstUnwanted form options asked (places_in listed) told
+      pub found-next : (first told : Option Finding) → IsUnfoundUpTo form options asked listed i first → IsUnwantedAt form options one.place (asked_at one.place asked) told → is_found told ≡ true → IsFirstUnwanted form options asked (places_in listed) told
       found-next first None so_far here some = absurd (false≢true some)
-      found-next first (Some reply) so_far here nine = λ status.
-          let words = string_bytes reply.text in
-          let same = told-found one.place reply.status words here nine in
-          subst (λ (k : ℕ). IsJudgedEach form options asked (places_in listed) status k words) (sym same)
-          (found i one.place words place-next (places-before (IsUnfound form options asked) (unfound-all i first so_far)) (subst (λ (k : ℕ). is_told one.place k words) same here))
+      found-next first (Some finding) so_far here nine = λ alone status.
+          let what = finding.judgement in
+          let words = string_bytes finding.reply.text in
+          let same = told-found one.place what finding.reply.status words here nine in
+          subst (λ (k : ℕ). IsJudgedEach form options asked (places_in listed) alone status what k words) (sym same)
+          (found i one.place what words place-next (places-before (IsUnfound form options asked) (unfound-all i first so_far)) (subst (λ (k : ℕ). is_told one.place what k words) same here))
 
       -- none is found there
-      pub unfound-next : (first told : Option Reply) → IsUnfoundUpTo form options asked listed i first → IsUnwantedAt form options one.place (asked_at one.place asked) told → is_found told ≡ false
+      pub unfound-next : (first told : Option Finding) → IsUnfoundUpTo form options asked listed i first → IsUnwantedAt form options one.place (asked_at one.place asked) told → is_found told ≡ false
           → IsUnfoundUpTo form options asked listed (i + 1) (option_or first told)
       unfound-next None None all here none = places-more wanted_at all here
-      unfound-next None (Some reply) all here other =
-          let words = string_bytes reply.text in
-          let same = told-unfound one.place reply.status words here other in
-          let seven = subst (λ (k : ℕ). is_told one.place k words) same here in
-          (i, one.place, place-next, places-before wanted_at all, places-more (IsUnfound form options asked) (unfound-all i None all) (inr (words, seven)), same, seven)
-      unfound-next (Some reply) None first here none =
-          (first.0, first.1, first.2, first.3, places-more (IsUnfound form options asked) first.4 (inl here), first.5, first.6)
-      unfound-next (Some reply) (Some later) first here other =
-          let words = string_bytes later.text in
-          let seven = subst (λ (k : ℕ). is_told one.place k words) (told-unfound one.place later.status words here other) here in
-          (first.0, first.1, first.2, first.3, places-more (IsUnfound form options asked) first.4 (inr (words, seven)), first.5, first.6)
+      unfound-next None (Some finding) all here other =
+          let words = string_bytes finding.reply.text in
+          let told = told-unfound one.place finding.judgement finding.reply.status words here other in
+          (i, one.place, place-next, places-before wanted_at all, places-more (IsUnfound form options asked) (unfound-all i None all) (inr (words, told.2)), told.0, told.1, told.2)
+      unfound-next (Some finding) None first here none =
+          (first.0, first.1, first.2, first.3, places-more (IsUnfound form options asked) first.4 (inl here), first.5, first.6, first.7)
+      unfound-next (Some finding) (Some later) first here other =
+          let words = string_bytes later.reply.text in
+          let told = told-unfound one.place later.judgement later.reply.status words here other in
+          (first.0, first.1, first.2, first.3, places-more (IsUnfound form options asked) first.4 (inr (words, told.2)), first.5, first.6, first.7)

@@ -10,31 +10,34 @@ use Rattle.ulfm_lists.specs.List.{lists_in}
 use Rattle.ulfm_lists.specs.Told.{more_at}
 use Rattle.ulfm_lists.specs.Union.{some_never_ends}
 use Rattle.ulfm_lists.specs.declared.listed.Listed.{Listed}
+use Rattle.ulfm_found.specs.Judgement.{good_judgement}
+use Rattle.ulfm_found.specs.declared.judgement.Judgement.{Judgement}
+use Rattle.ulfm_found.specs.declared.judgement.Judgement.TheVariants.{NotKnown}
 use Rattle.ulfm_json.specs.declared.form.Form.{Form}
 use Rattle.ulfm_replies.specs.Failure.{out_of_memory_in}
 use Rattle.ulfm_replies.specs.Replies.{refused_in}
 use Rattle.ulfm_replies.specs.Stopped.{Asked, IsAskedAt, IsRefusal, asked_at}
 use Rattle.ulfm_replies.specs.declared.command.ListOptions.{ListOptions}
 use Rattle.ulfm_judged.specs.Outcomes.{list_status}
-use Rattle.ulfm_judged.specs.Wanted.{HasList, IsToldOf, IsWanted}
+use Rattle.ulfm_judged.specs.Wanted.{HasList, IsToldOf, IsWanted, asks}
 
 -- what is told of a place where some schedule has one, by a list of all outcomes there
-abbrev pub IsToldAt : Form → ListOptions → Place → Asked → ℕ → List ℕ → Type 0
-IsToldAt form options place asked status text = (found : List (List ℕ)) × HasList asked.job options.limit found × IsToldOf form options (Some place) asked found status text
+abbrev pub IsToldAt : Form → ListOptions → Place → Asked → Judgement → ℕ → List ℕ → Type 0
+IsToldAt form options place asked judgement status text = (found : List (List ℕ)) × HasList asked.job options.limit found × IsToldOf form options (Some place) asked found judgement status text
 
 -- at a place no schedule is found that has one: none does, or for some row that isn't known
 abbrev pub IsUnfound : Form → ListOptions → Asked → Place → Type 0
-IsUnfound form options asked place = IsWanted (asked_at place asked) ⊎ ((text : List ℕ) × IsToldAt form options place (asked_at place asked) 7 text)
+IsUnfound form options asked place = IsWanted (asked_at place asked) ⊎ ((text : List ℕ) × IsToldAt form options place (asked_at place asked) NotKnown 7 text)
 
--- The status and what is told below the lists of these places: nothing, with the status of the lists, where the job is wanted at each of
--- them. With 9, of the first place where a schedule is found that isn't wanted. Where none is found, with 7, of the first place with a row
+-- What the lists of these places come to, the status, and what is told below them: nothing, with the status of the lists, where the job is
+-- wanted at each of them. With 9, of the first place where a schedule is found that isn't wanted. Where none is found, with 7, of the first place with a row
 -- that can't be looked for.
-pub data IsJudgedEach (form : Form) (options : ListOptions) (asked : Asked) (places : List Place) (status : ℕ) : ℕ → List ℕ → Type 0 where
-  wanted : All (λ place. IsWanted (asked_at place asked)) places → IsJudgedEach form options asked places status status []
-  found : (number : ℕ) (place : Place) (text : List ℕ) → slice_get places number ≡ Some place → All (IsUnfound form options asked) (take number places)
-      → IsToldAt form options place (asked_at place asked) 9 text → IsJudgedEach form options asked places status 9 text
+pub data IsJudgedEach (form : Form) (options : ListOptions) (asked : Asked) (places : List Place) (alone : Judgement) (status : ℕ) : Judgement → ℕ → List ℕ → Type 0 where
+  wanted : All (λ place. IsWanted (asked_at place asked)) places → IsJudgedEach form options asked places alone status alone status []
+  found : (number : ℕ) (place : Place) (judgement : Judgement) (text : List ℕ) → slice_get places number ≡ Some place → All (IsUnfound form options asked) (take number places)
+      → IsToldAt form options place (asked_at place asked) judgement 9 text → IsJudgedEach form options asked places alone status judgement 9 text
   unfound : (number : ℕ) (place : Place) (text : List ℕ) → slice_get places number ≡ Some place → All (λ place. IsWanted (asked_at place asked)) (take number places)
-      → All (IsUnfound form options asked) places → IsToldAt form options place (asked_at place asked) 7 text → IsJudgedEach form options asked places status 7 text
+      → All (IsUnfound form options asked) places → IsToldAt form options place (asked_at place asked) NotKnown 7 text → IsJudgedEach form options asked places alone status NotKnown 7 text
 
 -- the places of lists
 abbrev pub places_in : List Listed → List Place
@@ -45,11 +48,11 @@ places_in listed = map (λ (one : Listed). one.place) listed
 -- first place where there are, or below it, with 9, what is told of a place before; with 1 the line of the job's refusal, also of one
 -- that has no room for so many stops; with 3 the line that memory ran out.
 pub data IsEachPlaceReply (form : Form) (options : ListOptions) (stops : ℕ) (bytes : List ℕ) : ℕ → List ℕ → Type 0 where
-  listed_all : (asked : Asked) (listed : List Listed) (status : ℕ) (text : List ℕ) → IsAskedAt Nowhere bytes asked → AreLists asked.job options.limit (places_of stops asked.job) listed None
-      → IsJudgedEach form options asked (places_in listed) (list_status options.is_strict (some_never_ends listed)) status text
-      → IsEachPlaceReply form options stops bytes status (lists_in form asked.names asked.job listed ++ text)
-  past_limit_at : (asked : Asked) (listed : List Listed) (place : Place) (status : ℕ) (text : List ℕ) → IsAskedAt Nowhere bytes asked → AreLists asked.job options.limit (places_of stops asked.job) listed (Some place)
-      → IsJudgedEach form options asked (places_in listed) 7 status text
+  listed_all : (asked : Asked) (listed : List Listed) (judgement : Judgement) (status : ℕ) (text : List ℕ) → IsAskedAt Nowhere bytes asked → AreLists asked.job options.limit (places_of stops asked.job) listed None
+      → IsJudgedEach form options asked (places_in listed) (good_judgement (some_never_ends listed) (asks asked)) (list_status options.is_strict (some_never_ends listed)) judgement status text
+      → IsEachPlaceReply form options stops bytes status (lists_in form asked.names asked.job judgement listed ++ text)
+  past_limit_at : (asked : Asked) (listed : List Listed) (place : Place) (judgement : Judgement) (status : ℕ) (text : List ℕ) → IsAskedAt Nowhere bytes asked → AreLists asked.job options.limit (places_of stops asked.job) listed (Some place)
+      → IsJudgedEach form options asked (places_in listed) NotKnown 7 judgement status text
       → IsEachPlaceReply form options stops bytes status (more_at form options.limit place ++ text)
   no_room_for_stops : (asked : Asked) → IsAskedAt Nowhere bytes asked → 256 < step_count asked.job.scripts + stops → IsEachPlaceReply form options stops bytes 1 (refused_in form TooLarge)
   not_listed_at_all : (status : ℕ) (text : List ℕ) → IsRefusal form Nowhere bytes status text → IsEachPlaceReply form options stops bytes status text

@@ -12,14 +12,16 @@ use Rattle.ulfm_found.specs.Text.{some_never_ends}
 use Rattle.ulfm_found.specs.declared.goals.Goals.{Goals}
 use Rattle.ulfm_json.specs.declared.form.Form.{Form}
 use Rattle.ulfm_json.specs.declared.form.Form.TheVariants.{Words, Json}
-use Rattle.ulfm_found.specs.Objects.{list_in}
+use Rattle.ulfm_found.specs.Judgement.{good_judgement}
+use Rattle.ulfm_found.specs.Objects.{list_in, more_in}
+use Rattle.ulfm_found.specs.declared.judgement.Judgement.{Judgement}
 use Rattle.ulfm_lists.specs.Told.{told_in}
 use Rattle.ulfm_lists.specs.declared.told.Told.TheVariants as told
 use Rattle.ulfm_moves.specs.declared.schedule.Schedule.{Schedule}
 use Rattle.ulfm_replies.specs.Failure.{out_of_memory_in}
 use Rattle.ulfm_replies.specs.Stopped.{Asked, IsAskedAt, IsRefusal, reading_as}
 use Rattle.ulfm_replies.specs.declared.command.ListOptions.{ListOptions}
-use Rattle.ulfm_judged.specs.Wanted.{IsToldOf, IsWanted}
+use Rattle.ulfm_judged.specs.Wanted.{IsToldOf, IsWanted, asks}
 
 -- what the words say that no schedule shows the answers, in this form
 abbrev pub nowhere_in : Form → List ℕ
@@ -30,20 +32,22 @@ nowhere_in Json = codes "{\"schedule\":null}\n"
 abbrev pub list_status : Bool → Bool → ℕ
 list_status is_strict is_open = if is_strict then (if is_open then 6 else 0) else 0
 
--- The status of a whole list, and the list with what is told below it. With 0, or with 6 by `--strict`, nothing is, and no schedule has an
+-- The status of a whole list, and the list with what it comes to and what is told below it. With 0, or with 6 by `--strict`, nothing is, and no schedule has an
 -- answer that its step doesn't expect, nor all answers of a row of `never`.
-pub data IsJudged (form : Form) (options : ListOptions) (asked : Asked) (found : List (List ℕ)) (list : List ℕ) : ℕ → List ℕ → Type 0 where
-  good : IsWanted asked → IsJudged form options asked found list (list_status options.is_strict (some_never_ends found)) list
-  unwanted : (status : ℕ) (text : List ℕ) → IsToldOf form options None asked found status text → IsJudged form options asked found list status (list ++ text)
+pub data IsJudged (form : Form) (options : ListOptions) (asked : Asked) (reached : Reached) : ℕ → List ℕ → Type 0 where
+  good : IsWanted asked → IsJudged form options asked reached (list_status options.is_strict (some_never_ends reached.found))
+      (list_in form asked.names asked.job (good_judgement (some_never_ends reached.found) (asks asked)) reached)
+  unwanted : (judgement : Judgement) (status : ℕ) (text : List ℕ) → IsToldOf form options None asked reached.found judgement status text
+      → IsJudged form options asked reached status (list_in form asked.names asked.job judgement reached ++ text)
 
 -- The status and the text, in this form, that `outcomes` gives for these bytes: the list of all that the steps of their job may be
 -- answered, over every schedule, and of those that may be left open for ever, with what is told below it; with 7 also the line alone that
 -- more states than the limit are reached; with 1 that the job is refused, or hasn't the place of `--stop`; with 3 the line that memory ran out.
 pub data IsOutcomesReply (form : Form) (options : ListOptions) (bytes : List ℕ) : ℕ → List ℕ → Type 0 where
   listed : (asked : Asked) (reached : Reached) (status : ℕ) (text : List ℕ) → IsAskedAt options.place bytes asked → IsList asked.job options.limit (All reached)
-      → IsJudged form options asked reached.found (list_in form asked.names asked.job (All reached) options.limit) status text → IsOutcomesReply form options bytes status text
+      → IsJudged form options asked reached status text → IsOutcomesReply form options bytes status text
   past_limit : (asked : Asked) → IsAskedAt options.place bytes asked → IsList asked.job options.limit More
-      → IsOutcomesReply form options bytes 7 (list_in form asked.names asked.job More options.limit)
+      → IsOutcomesReply form options bytes 7 (more_in form options.limit)
   not_listed : (status : ℕ) (text : List ℕ) → IsRefusal form options.place bytes status text → IsOutcomesReply form options bytes status text
   unlisted : IsOutcomesReply form options bytes 3 (out_of_memory_in form)
 

@@ -1,5 +1,5 @@
 -- What a job doesn't want, and what is told of it: below a list, or at a place.
-use Rattle.std.specs.Prelude.{◌≡◌, ℕ, true, List, Option, Some, None, All as Each, slice_get, take}
+use Rattle.std.specs.Prelude.{◌≡◌, ℕ, ◌==◌, ◌&&◌, not, Bool, true, List, Option, Some, None, All as Each, length, slice_get, take}
 use Rattle.ulfm_job.specs.declared.clause.Clause.{Clause}
 use Rattle.ulfm_job.specs.Job.{JobView}
 use Rattle.ulfm_reach.specs.declared.reach.Reach.TheVariants.{All}
@@ -9,8 +9,11 @@ use Rattle.ulfm_finder.specs.Outcomes.{IsList}
 use Rattle.ulfm_finder.specs.Told.{IsTold}
 use Rattle.ulfm_finder.specs.Unmet.{MeetsExpected}
 use Rattle.ulfm_found.specs.Goals.{AreOfClauses}
+use Rattle.ulfm_found.specs.Judgement.{unmet_judgement}
 use Rattle.ulfm_found.specs.Unmet.{IsUnmet, first_unmet}
 use Rattle.ulfm_found.specs.declared.goals.Goals.{Goals}
+use Rattle.ulfm_found.specs.declared.judgement.Judgement.{Judgement}
+use Rattle.ulfm_found.specs.declared.judgement.Judgement.TheVariants.{ComeTogether, NotKnown}
 use Rattle.ulfm_found.specs.declared.unmet.Unmet.{Unmet}
 use Rattle.ulfm_json.specs.declared.form.Form.{Form}
 use Rattle.ulfm_lists.specs.Numbers.{filed_number}
@@ -43,19 +46,23 @@ pub record IsWanted (asked : Asked) : Type 0 where
   pub meets : MeetsExpected asked.job
   pub none : NoneComes asked.job asked.rows
 
+-- a job asks for something: answers of its steps, or by rows of `never`
+abbrev pub asks : Asked → Bool
+asks asked = not (length asked.job.expected == 0 && length asked.rows == 0)
+
 -- the step as the file numbers it, by its number in the job at a place
 abbrev pub filed : Option Place → Unmet → Unmet
 filed None unmet = unmet
 filed (Some place) unmet = record unmet { step = filed_number place unmet.rank unmet.step }
 
--- The status, and what is told where some schedule has one, by a list of all outcomes. With 9 the first step that has an answer which it
+-- What the list comes to, the status, and what is told where some schedule has one, by a list of all outcomes. With 9 the first step that has an answer which it
 -- doesn't expect, and a schedule that shows it, or that more states than the limit would be looked at for it. Where there is no such step,
 -- with 9 the first row of `never` that comes together, with a schedule, or with 7 the first that can't be looked for within the limit. At
 -- a place steps are numbered as in the file, and in the schedule as in the job with its stops.
-pub data IsToldOf (form : Form) (options : ListOptions) (at : Option Place) (asked : Asked) (found : List (List ℕ)) : ℕ → List ℕ → Type 0 where
+pub data IsToldOf (form : Form) (options : ListOptions) (at : Option Place) (asked : Asked) (found : List (List ℕ)) : Judgement → ℕ → List ℕ → Type 0 where
   unmet : (one : Unmet) (goals : Goals) (what : Told) → first_unmet asked.job found ≡ Some one → IsUnmet asked.job one goals → IsTold asked.job goals options.is_brief options.limit what
-      → IsToldOf form options at asked found 9 (unmet_in form at asked.names asked.job (filed at one) what)
+      → IsToldOf form options at asked found (unmet_judgement one) 9 (unmet_in form at asked.names asked.job (filed at one) what)
   together : (number : ℕ) (row : List Clause) (goals : Goals) (schedule : Schedule) → MeetsExpected asked.job → slice_get asked.rows number ≡ Some row → NoneComes asked.job (take number asked.rows) → AreOfRow asked.job row goals
-      → IsTold asked.job goals options.is_brief options.limit (told.Schedule schedule) → IsToldOf form options at asked found 9 (row_in form at asked.names asked.job number (told.Schedule schedule))
+      → IsTold asked.job goals options.is_brief options.limit (told.Schedule schedule) → IsToldOf form options at asked found ComeTogether 9 (row_in form at asked.names asked.job number (told.Schedule schedule))
   unsearched : (number : ℕ) (row : List Clause) (goals : Goals) → MeetsExpected asked.job → slice_get asked.rows number ≡ Some row → NoneComes asked.job (take number asked.rows) → AreOfRow asked.job row goals
-      → IsTold asked.job goals options.is_brief options.limit (told.Many options.limit) → IsToldOf form options at asked found 7 (row_in form at asked.names asked.job number (told.Many options.limit))
+      → IsTold asked.job goals options.is_brief options.limit (told.Many options.limit) → IsToldOf form options at asked found NotKnown 7 (row_in form at asked.names asked.job number (told.Many options.limit))

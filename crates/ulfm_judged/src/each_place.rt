@@ -1,11 +1,13 @@
 //! The reply of `outcomes --stops`: what each step may be answered wherever ranks stop, and below it what the job doesn't want at the first
 //! place where it comes.
-ghost use Rattle.std.specs.Prelude.{◌≡◌, ◌<◌, ◌≤◌, ◌++◌, ℕ, List, IfOk, string_bytes};
+ghost use Rattle.std.specs.Prelude.{◌≡◌, ◌<◌, ◌≤◌, IfOk, string_bytes};
+ghost use Rattle.ulfm_lists.specs.Told.{more_at};
 ghost use Rattle.ulfm_lists.specs.Union.{AreAllAscii};
 ghost use Rattle.ulfm_replies.specs.Stopped.{asked_view};
-ghost use Rattle.ulfm_judged.specs.EachPlace.{IsEachPlaceReply, IsJudgedEach, places_in};
-ghost use Rattle.ulfm_judged.specs.inside.Judging.{AreListedOf, AreSharing, lists_status, lists_text, text_past};
+ghost use Rattle.ulfm_judged.specs.EachPlace.{IsEachPlaceReply};
+ghost use Rattle.ulfm_judged.specs.inside.Judging.{AreListedOf, AreSharing, IsEachText, lists_judgement, lists_status, lists_text};
 
+use crate::finding::asks;
 use crate::listed::{below, list_status};
 use crate::lists::Lists;
 use crate::onlooker::Onlooker;
@@ -17,8 +19,9 @@ use std::alloc::AllocError;
 use std::thread;
 use std::thread::Threads;
 use ulfm_finder::Finder;
+use ulfm_found::Judgement;
 use ulfm_job::{JobFault, MOST_STEPS};
-use ulfm_lists::{Listed, lists_in, push_more_at, some_never_ends};
+use ulfm_lists::{lists_in, push_more_at, some_never_ends};
 use ulfm_reader::Reading;
 use ulfm_replies::{ListOptions, MOST_THREADS, PAST_LIMIT, Place, Reply, asked_at, refusal};
 use ulfm_stops::places;
@@ -84,39 +87,80 @@ fn judged<F: Finder, L: Onlooker>(
 ) -> Result<Reply, AllocError>
     requires listed { AreListedOf (asked_view asked.now) search.now.options.limit lists.now.listed.items }
     requires ascii { AreAllAscii lists.now.listed.items }
-    ensures { IfOk result (λ r. (text : List ℕ) × IsJudgedEach search.now.form search.now.options (asked_view asked.now) (places_in lists.now.listed.items) (lists_status search.now.options lists.now) r.status text × (string_bytes r.text ≡ lists_text search.now.form asked.now.names.items asked.now.job search.now.options lists.now ++ text)) }
+    ensures { IfOk result (λ r. IsEachText search.now.form search.now.options (asked_view asked.now) lists.now r.status (string_bytes r.text)) }
 {
-    let listed = lists.listed.as_slice();
-    let text = text_of(search, asked, listed, lists.past_limit)?;
-    match first_unwanted(search, asked, listed, onlooker)? {
-        Some(told) => below(text, told),
-        None => Ok(Reply {
-            status: status_of(search.options, lists),
-            text,
-            remarks: lists_remarks(search, asked, lists, onlooker),
-        }),
+    match first_unwanted(search, asked, lists.listed.as_slice(), onlooker)? {
+        Some(told) => {
+            let text = text_of(search, asked, lists, told.judgement)?;
+            below(text, told.reply)
+        }
+        None => alone(search, asked, lists, onlooker),
     }
 }
 
-/// The text of the lists, or that they come past the limit.
+/// The lists of a job that is wanted at each of their places.
+fn alone<F: Finder, L: Onlooker>(
+    search: &Search<'_, F>,
+    asked: &Reading,
+    lists: &Lists,
+    onlooker: &L,
+) -> Result<Reply, AllocError>
+    requires ascii { AreAllAscii lists.now.listed.items }
+    ensures { IfOk result (λ r. (r.status ≡ lists_status search.now.options lists.now) × (string_bytes r.text ≡ lists_text search.now.form (asked_view asked.now) search.now.options lists.now (lists_judgement (asked_view asked.now) lists.now))) }
+{
+    let judgement = judgement_of(asked, lists);
+    Ok(Reply {
+        status: status_of(search.options, lists),
+        text: text_of(search, asked, lists, judgement)?,
+        remarks: lists_remarks(search, asked, lists, onlooker),
+    })
+}
+
+/// What lists come to below which nothing is told: past the limit that isn't known.
+fn judgement_of(asked: &Reading, lists: &Lists) -> Judgement
+    ensures { result ≡ lists_judgement (asked_view asked.now) lists.now }
+{
+    match lists.past_limit {
+        Some(_) => Judgement::NotKnown,
+        None => Judgement::good(some_never_ends(lists.listed.as_slice()), asks(asked)),
+    }
+}
+
+/// The text of the lists, which come to this, or that they come past the limit.
 fn text_of<F: Finder>(
     search: &Search<'_, F>,
     asked: &Reading,
-    listed: &[Listed],
-    past: Option<Place>,
+    lists: &Lists,
+    judgement: Judgement,
 ) -> Result<String, AllocError>
-    requires ascii { AreAllAscii listed.now }
-    ensures { IfOk result (λ text. string_bytes text ≡ text_past search.now.form asked.now.names.items asked.now.job search.now.options listed.now past) }
+    requires ascii { AreAllAscii lists.now.listed.items }
+    ensures { IfOk result (λ text. string_bytes text ≡ lists_text search.now.form (asked_view asked.now) search.now.options lists.now judgement) }
 {
-    match past {
-        Some(place) => {
-            let limit = search.options.limit as usize;
-            let mut text = String::new(search.alloc);
-            push_more_at(&mut text, search.form, limit, place)?;
-            Ok(text)
+    match lists.past_limit {
+        Some(place) => more_text(search, place),
+        None => {
+            let names = asked.names.as_slice();
+            let listed = lists.listed.as_slice();
+            Ok(lists_in(
+                search.alloc,
+                search.form,
+                names,
+                &asked.job,
+                judgement,
+                listed,
+            )?)
         }
-        None => Ok(lists_in(search.alloc, search.form, &asked.names, &asked.job, listed)?),
     }
+}
+
+/// That there are more states than the limit at a place.
+fn more_text<F>(search: &Search<'_, F>, place: Place) -> Result<String, AllocError>
+    ensures { IfOk result (λ text. string_bytes text ≡ more_at search.now.form search.now.options.limit place) }
+{
+    let limit = search.options.limit as usize;
+    let mut text = String::new(search.alloc);
+    push_more_at(&mut text, search.form, limit, place)?;
+    Ok(text)
 }
 
 /// The status of lists below which nothing is told.

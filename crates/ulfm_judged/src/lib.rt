@@ -12,6 +12,7 @@
 
 mod drawing;
 mod each_place;
+mod finding;
 mod hang;
 mod hanging;
 mod listed;

@@ -4,11 +4,16 @@ ghost use Rattle.std.specs.Prelude.{◌≡◌, ◌++◌, ℕ, List, Some, IfOk, 
 ghost use Rattle.ulfm_replies.specs.Stopped.{IsAskedAt, asked_view};
 ghost use Rattle.ulfm_reach.specs.declared.reach.Reach.TheVariants.{All};
 ghost use Rattle.ulfm_finder.specs.Outcomes.{IsList};
+ghost use Rattle.ulfm_found.specs.Judgement.{good_judgement};
+ghost use Rattle.ulfm_found.specs.Objects.{list_in, more_in};
+ghost use Rattle.ulfm_found.specs.Text.{AreAscii, some_never_ends};
 ghost use Rattle.ulfm_judged.specs.ListReply.{IsListReply, IsReplyBy, open_goal};
 ghost use Rattle.ulfm_judged.specs.Outcomes.{IsJudged, IsOutcomesReply, list_status};
+ghost use Rattle.ulfm_judged.specs.Wanted.{asks};
 
 use crate::drawing::{drawn_step, open_goal};
 use crate::each_place::each_place_reply;
+use crate::finding::asks;
 use crate::onlooker::Onlooker;
 use crate::search::Search;
 use crate::show_each::show_each_reply;
@@ -18,7 +23,7 @@ use crate::verdicts::list_remarks;
 use std::alloc::AllocError;
 use std::thread::Threads;
 use ulfm_finder::Finder;
-use ulfm_found::{OpenStep, list_in, some_never_end};
+use ulfm_found::{Judgement, OpenStep, list_in, more_in, some_never_end};
 use ulfm_reach::{Reach, Reached, Watch};
 use ulfm_reader::Reading;
 use ulfm_replies::{DONE, PAST_LIMIT, Reply, UNFINISHED, asked_at};
@@ -121,17 +126,21 @@ fn reached_reply<F: Finder, W: Watch>(
     requires { IsList asked.now.job search.now.options.limit reach.now }
     ensures { (bytes : List ℕ) → IsAskedAt search.now.options.place bytes (asked_view asked.now) → IfOk result (λ r. IsOutcomesReply search.now.form search.now.options bytes r.status (string_bytes r.text)) }
 {
-    let limit = search.options.limit as usize;
-    let names = asked.names.as_slice();
-    let text = list_in(search.alloc, search.form, names, &asked.job, reach, limit)?;
     match reach {
-        Reach::All(reached) => judged(search, asked, reached, text, watch),
-        Reach::More => Ok(Reply {
-            status: PAST_LIMIT,
-            text,
-            remarks: None,
-        }),
+        Reach::All(reached) => judged(search, asked, reached, watch),
+        Reach::More => more_reply(search),
     }
+}
+
+/// The reply that there are more states than the limit.
+fn more_reply<F>(search: &Search<'_, F>) -> Result<Reply, AllocError>
+    ensures { IfOk result (λ r. (r.status ≡ 7) × (string_bytes r.text ≡ more_in search.now.form search.now.options.limit)) }
+{
+    Ok(Reply {
+        status: PAST_LIMIT,
+        text: more_in(search.alloc, search.form, search.options.limit as usize)?,
+        remarks: None,
+    })
 }
 
 /// A whole list, and below it what its job doesn't want.
@@ -139,20 +148,58 @@ fn judged<F: Finder, W: Watch>(
     search: &Search<'_, F>,
     asked: &Reading,
     reached: &Reached,
-    list: String,
     watch: &mut W,
 ) -> Result<Reply, AllocError>
     requires { IsList asked.now.job search.now.options.limit (All reached.now) }
-    ensures { IfOk result (λ r. IsJudged search.now.form search.now.options (asked_view asked.now) reached.now.found (string_bytes list) r.status (string_bytes r.text)) }
+    ensures { IfOk result (λ r. IsJudged search.now.form search.now.options (asked_view asked.now) reached.now r.status (string_bytes r.text)) }
 {
     match unwanted(search, None, asked, &reached.found, watch)? {
-        Some(told) => below(list, told),
-        None => Ok(Reply {
-            status: list_status(search.options.is_strict, some_never_end(&reached.found)),
-            text: list,
-            remarks: list_remarks(search, asked, &reached.found, watch),
-        }),
+        Some(told) => {
+            let list = list_of(search, asked, reached, told.judgement)?;
+            below(list, told.reply)
+        }
+        None => good(search, asked, reached, watch),
     }
+}
+
+/// A whole list of a job that is wanted.
+fn good<F: Finder, W: Watch>(
+    search: &Search<'_, F>,
+    asked: &Reading,
+    reached: &Reached,
+    watch: &mut W,
+) -> Result<Reply, AllocError>
+    requires { AreAscii reached.now.found }
+    ensures { IfOk result (λ r. (r.status ≡ list_status search.now.options.is_strict (some_never_ends reached.now.found)) × (string_bytes r.text ≡ list_in search.now.form asked.now.names.items asked.now.job (good_judgement (some_never_ends reached.now.found) (asks (asked_view asked.now))) reached.now)) }
+{
+    let is_open = some_never_end(&reached.found);
+    let judgement = Judgement::good(is_open, asks(asked));
+    Ok(Reply {
+        status: list_status(search.options.is_strict, is_open),
+        text: list_of(search, asked, reached, judgement)?,
+        remarks: list_remarks(search, asked, &reached.found, watch),
+    })
+}
+
+/// The text of a whole list, which comes to this.
+fn list_of<F>(
+    search: &Search<'_, F>,
+    asked: &Reading,
+    reached: &Reached,
+    judgement: Judgement,
+) -> Result<String, AllocError>
+    requires { AreAscii reached.now.found }
+    ensures { IfOk result (λ text. string_bytes text ≡ list_in search.now.form asked.now.names.items asked.now.job judgement reached.now) }
+{
+    let names = asked.names.as_slice();
+    Ok(list_in(
+        search.alloc,
+        search.form,
+        names,
+        &asked.job,
+        judgement,
+        reached,
+    )?)
 }
 
 /// The status of a list that has nothing else to tell.

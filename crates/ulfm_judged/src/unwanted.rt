@@ -12,15 +12,16 @@ ghost use Rattle.ulfm_judged.specs.EachPlace.{places_in};
 ghost use Rattle.ulfm_judged.specs.Wanted.{HasList, IsToldOf, filed};
 ghost use Rattle.ulfm_lists.specs.Told.{row_in, unmet_in};
 ghost use Rattle.ulfm_judged.specs.inside.Judging.{AreListedOf, IsFirstUnwanted, IsListedOf, IsStopped, IsUnwanted, IsUnwantedAt, is_found};
-ghost use Rattle.ulfm_judged.specs.inside.Looking.{row_status};
+ghost use Rattle.ulfm_judged.specs.inside.Looking.{row_judgement, row_status};
 
-use crate::looking::{FirstRow, first_row, row_status};
+use crate::finding::Finding;
+use crate::looking::{FirstRow, first_row, row_judgement, row_status};
 use crate::onlooker::{Onlooker, Seen};
 use crate::search::Search;
 use crate::verdicts::{row_remarks, unmet_remarks, where_of};
 use std::alloc::{AllocError, Global};
 use ulfm_finder::{Finder, first_unmet};
-use ulfm_found::{Goals, Unmet};
+use ulfm_found::{Goals, Judgement, Unmet};
 use ulfm_job::Job;
 use ulfm_lists::{Listed, Told, filed_number, push_row, push_unmet};
 use ulfm_reach::{Rows, Watch};
@@ -35,7 +36,7 @@ pub fn first_unwanted<F: Finder, L: Onlooker>(
     asked: &Reading,
     listed: &[Listed],
     onlooker: &L,
-) -> Result<Option<Reply>, AllocError>
+) -> Result<Option<Finding>, AllocError>
     requires { AreListedOf (asked_view asked.now) search.now.options.limit listed.now }
     ensures { IfOk result (IsFirstUnwanted search.now.form search.now.options (asked_view asked.now) (places_in listed.now)) }
 {
@@ -51,17 +52,17 @@ pub fn first_unwanted<F: Finder, L: Onlooker>(
 }
 
 /// Whether a schedule was found that isn't wanted, by what is told.
-fn is_found(told: &Option<Reply>) -> bool
+fn is_found(told: &Option<Finding>) -> bool
     ensures { result ≡ is_found told.now }
 {
     match told {
-        Some(reply) => reply.status == NOT_EXPECTED,
+        Some(finding) => finding.reply.status == NOT_EXPECTED,
         None => false,
     }
 }
 
 /// What is told first of a place and of a later one.
-fn earlier(first: Option<Reply>, then: Option<Reply>) -> Option<Reply>
+fn earlier(first: Option<Finding>, then: Option<Finding>) -> Option<Finding>
     ensures { result ≡ option_or first then }
 {
     first.or(then)
@@ -73,7 +74,7 @@ fn unwanted_at<F: Finder, L: Onlooker>(
     asked: &Reading,
     one: &Listed,
     onlooker: &L,
-) -> Result<Option<Reply>, AllocError>
+) -> Result<Option<Finding>, AllocError>
     requires { IsListedOf (asked_view asked.now) search.now.options.limit one.now }
     ensures { IfOk result (IsUnwantedAt search.now.form search.now.options one.now.place (asked_at one.now.place (asked_view asked.now))) }
 {
@@ -121,18 +122,18 @@ pub(crate) fn unwanted<F: Finder, W: Watch>(
     asked: &Reading,
     found: &Rows,
     watch: &mut W,
-) -> Result<Option<Reply>, AllocError>
+) -> Result<Option<Finding>, AllocError>
     requires { HasList asked.now.job search.now.options.limit found.now }
     ensures { IfOk result (IsUnwanted search.now.form search.now.options at (asked_view asked.now) found.now) }
 {
     if let Some(unmet) = first_unmet(&asked.job, found) {
-        let reply = unmet_told(search, at, asked, unmet, watch)?;
-        return Ok(Some(reply));
+        let told = unmet_told(search, at, asked, unmet, watch)?;
+        return Ok(Some(told));
     }
     let rows = asked.never.as_slice();
     if let Some(first) = first_row(search, &asked.job, found, rows, watch)? {
-        let reply = row_told(search, at, asked, &first)?;
-        return Ok(Some(reply));
+        let told = row_told(search, at, asked, &first)?;
+        return Ok(Some(told));
     }
     Ok(None)
 }
@@ -144,17 +145,20 @@ fn unmet_told<F: Finder, W: Watch>(
     asked: &Reading,
     unmet: Unmet,
     watch: &mut W,
-) -> Result<Reply, AllocError>
+) -> Result<Finding, AllocError>
     requires { Judges asked.now.job (Some unmet) }
-    ensures { IfOk result (λ r. (found : List (List ℕ)) → first_unmet asked.now.job found ≡ Some unmet → IsToldOf search.now.form search.now.options at (asked_view asked.now) found r.status (string_bytes r.text)) }
+    ensures { IfOk result (λ r. (found : List (List ℕ)) → first_unmet asked.now.job found ≡ Some unmet → IsToldOf search.now.form search.now.options at (asked_view asked.now) found r.judgement r.reply.status (string_bytes r.reply.text)) }
 {
     let goals = unmet.goals(search.alloc, &asked.job)?;
     let told = told_of(search, &asked.job, &goals, watch)?;
     let text = unmet_text(search, at, asked, unmet, &told)?;
-    Ok(Reply {
-        status: NOT_EXPECTED,
-        text,
-        remarks: unmet_remarks(search.alloc, asked, where_of(search, at), unmet, &told),
+    Ok(Finding {
+        judgement: Judgement::unmet(unmet),
+        reply: Reply {
+            status: NOT_EXPECTED,
+            text,
+            remarks: unmet_remarks(search.alloc, asked, where_of(search, at), unmet, &told),
+        },
     })
 }
 
@@ -209,20 +213,17 @@ fn row_told<F>(
     at: Option<Place>,
     asked: &Reading,
     first: &FirstRow,
-) -> Result<Reply, AllocError>
-    ensures { IfOk result (λ r. (r.status ≡ row_status first.now.told) × (string_bytes r.text ≡ row_in search.now.form at asked.now.names.items asked.now.job first.now.number first.now.told)) }
+) -> Result<Finding, AllocError>
+    ensures { IfOk result (λ r. (r.judgement ≡ row_judgement first.now.told) × (r.reply.status ≡ row_status first.now.told) × (string_bytes r.reply.text ≡ row_in search.now.form at asked.now.names.items asked.now.job first.now.number first.now.told)) }
 {
     let mut text = String::new(search.alloc);
     push_row(&mut text, search.form, at, asked, first.number, &first.told)?;
-    Ok(Reply {
-        status: row_status(&first.told),
-        text,
-        remarks: row_remarks(
-            search.alloc,
-            asked,
-            where_of(search, at),
-            first.number,
-            &first.told,
-        ),
+    Ok(Finding {
+        judgement: row_judgement(&first.told),
+        reply: Reply {
+            status: row_status(&first.told),
+            text,
+            remarks: row_remarks(search.alloc, asked, where_of(search, at), first),
+        },
     })
 }

@@ -1,8 +1,10 @@
 //! What lists come to, in a line: for people, and none of it is promised.
 
+use crate::finding::asks;
 use crate::hang::Hang;
 use crate::hanging::hanging;
 use crate::lists::Lists;
+use crate::looking::{FirstRow, row_judgement};
 use crate::mistakes::{push_mistakes, push_mistakes_at};
 use crate::onlooker::{Onlooker, Seen};
 use crate::remarks::{remarks_on, skipped_in};
@@ -10,7 +12,7 @@ use crate::search::Search;
 use crate::unwanted::{filed, stopped};
 use std::alloc::{AllocError, Global};
 use ulfm_finder::Finder;
-use ulfm_found::Unmet;
+use ulfm_found::{Judgement, Unmet};
 use ulfm_lists::{Listed, Told};
 use ulfm_reach::{Rows, Watch};
 use ulfm_reader::Reading;
@@ -96,20 +98,19 @@ pub(crate) fn unmet_remarks(
     Some(remarks)
 }
 
-/// What is told of a row of `never` of this number, and of what a search for it came to.
+/// What is told of a row of `never`, and of what a search for it came to.
 pub(crate) fn row_remarks(
     alloc: Global,
     asked: &Reading,
     at: Where,
-    number: usize,
-    told: &Told,
+    first: &FirstRow,
 ) -> Option<Vec<Remark>> {
-    let mut remarks = remarks_on(alloc, asked, Some(number), told).ok()?;
-    let verdict = match told {
-        Told::Schedule(_) => Verdict::Together(number, at),
-        Told::Many(_) => Verdict::NotKnown(number, at),
-    };
-    remarks.push(Remark::Verdict(verdict)).ok()?;
+    let number = first.number;
+    let mut remarks = remarks_on(alloc, asked, Some(number), &first.told).ok()?;
+    let what = row_judgement(&first.told).words();
+    remarks
+        .push(Remark::Verdict(Verdict::Row(what, number, at)))
+        .ok()?;
     Some(remarks)
 }
 
@@ -149,18 +150,19 @@ fn verdict_on(
     extent: Extent,
 ) -> Result<Remark, AllocError> {
     Ok(Remark::Verdict(match hang {
-        Some(hang) => Verdict::Hangs(StepTold::of(alloc, asked, hang.left.rank, hang.filed)?, at),
+        Some(hang) => hangs(StepTold::of(alloc, asked, hang.left.rank, hang.filed)?, at),
         None => good(asked, extent),
     }))
 }
 
-/// What is so where nothing is wrong: answers are as expected, where some are expected.
+/// That a step never ends.
+fn hangs(step: StepTold, at: Where) -> Verdict {
+    Verdict::Step(Judgement::Hangs.words(), step, at)
+}
+
+/// What is so where nothing is wrong.
 fn good(asked: &Reading, extent: Extent) -> Verdict {
-    if asked.job.expected().is_empty() && asked.never.is_empty() {
-        Verdict::Ends(extent)
-    } else {
-        Verdict::AsExpected(extent)
-    }
+    Verdict::Good(Judgement::good(false, asks(asked)).words(), extent)
 }
 
 /// That a step isn't answered as it expects, of what is asked for with the stops of this place.
@@ -176,9 +178,5 @@ fn verdict_unmet(
     } else {
         told
     };
-    Ok(Remark::Verdict(if unmet.is_open {
-        Verdict::Hangs(told, at)
-    } else {
-        Verdict::Unmet(told, at)
-    }))
+    Ok(Remark::Verdict(Verdict::Step(Judgement::unmet(unmet).words(), told, at)))
 }

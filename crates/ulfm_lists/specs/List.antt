@@ -2,6 +2,7 @@
 use Rattle.std.specs.Prelude.{ℕ, ◌==◌, List, [], Some, length, map, not, sum_by}
 use Rattle.ulfm_found.specs.Listed.{ListView, ListedView, OutcomeView, OutcomesView, StepView, all_steps}
 use Rattle.ulfm_found.specs.Objects.{printed}
+use Rattle.ulfm_found.specs.declared.judgement.Judgement.{Judgement}
 use Rattle.ulfm_job.specs.Job.{JobView}
 use Rattle.ulfm_json.specs.declared.form.Form.{Form}
 use Rattle.ulfm_lists.specs.Union.{answers_of, places_with, some_never_ends}
@@ -28,15 +29,16 @@ listed_at j listed s = record { at = s; told = told_of j listed s.rank s.number 
 abbrev pub states_of : List Listed → ℕ
 states_of listed = sum_by (λ (one : Listed). one.states) listed
 
--- the list of all steps of a job
-abbrev pub list_at : JobView → List Listed → ListView
-list_at j listed = record {
+-- the list of all steps of a job, which comes to this
+abbrev pub list_at : JobView → Judgement → List Listed → ListView
+list_at j judgement listed = record {
   steps = map (listed_at j listed) (all_steps 0 j.scripts);
   states = states_of listed;
   places = Some (length listed);
   never_ends = some_never_ends listed;
+  judgement = judgement;
 }
 
 -- the lists in this form
-abbrev pub lists_in : Form → List Name → JobView → List Listed → List ℕ
-lists_in form names j listed = printed form names (list_at j listed)
+abbrev pub lists_in : Form → List Name → JobView → Judgement → List Listed → List ℕ
+lists_in form names j judgement listed = printed form names (list_at j judgement listed)

@@ -8,13 +8,15 @@ use crate::listed::Listed;
 use crate::union::{answers_of, places_with, some_never_ends};
 use std::alloc::{AllocError, Global};
 use ulfm_base::OutOfMemory;
-use ulfm_found::{JobStep, ListedStep, Outcome, Outcomes, StepList, push_list, steps_of};
+use ulfm_found::{
+    JobStep, Judgement, ListedStep, Outcome, Outcomes, StepList, push_list, steps_of,
+};
 use ulfm_job::Job;
 use ulfm_json::Form;
 use ulfm_reader::Name;
 
 /// The lists of places as one list, in this form: what each step of the file may be answered, and at which of them. The job's
-/// steps have these names.
+/// steps have these names, and the list comes to this.
 ///
 /// # Errors
 ///
@@ -24,21 +26,27 @@ pub fn lists_in(
     form: Form,
     names: &[Name],
     job: &Job,
+    judgement: Judgement,
     listed: &[Listed],
 ) -> Result<String, OutOfMemory>
     requires ascii { AreAllAscii listed.now }
-    ensures { IfOk result (λ text. string_bytes text ≡ lists_in form names.now job.now listed.now) }
+    ensures { IfOk result (λ text. string_bytes text ≡ lists_in form names.now job.now judgement listed.now) }
 {
-    let list = list_of(alloc, job, listed)?;
+    let list = list_of(alloc, job, judgement, listed)?;
     let mut text = String::new(alloc);
     push_list(&mut text, form, names, &list)?;
     Ok(text)
 }
 
-/// The list of all steps of a job, as the lists of places have them.
-fn list_of<'a>(alloc: Global, job: &'a Job, listed: &[Listed]) -> Result<StepList<'a>, OutOfMemory>
+/// The list of all steps of a job, as the lists of places have them. It comes to this.
+fn list_of<'a>(
+    alloc: Global,
+    job: &'a Job,
+    judgement: Judgement,
+    listed: &[Listed],
+) -> Result<StepList<'a>, OutOfMemory>
     requires ascii { AreAllAscii listed.now }
-    ensures { IfOk result (λ list. list_view list ≡ list_at job.now listed.now) }
+    ensures { IfOk result (λ list. list_view list ≡ list_at job.now judgement listed.now) }
 {
     let steps = steps_of(alloc, job)?;
     Ok(StepList {
@@ -46,6 +54,7 @@ fn list_of<'a>(alloc: Global, job: &'a Job, listed: &[Listed]) -> Result<StepLis
         states: states_of(listed)?,
         places: Some(listed.len()),
         never_ends: some_never_ends(listed),
+        judgement,
     })
 }
 

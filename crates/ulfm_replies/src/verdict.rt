@@ -13,21 +13,15 @@ pub enum Extent {
     Places(usize),
 }
 
-/// What a list comes to.
+/// What a list comes to, by the words for that.
 #[derive(Drop)]
 pub enum Verdict {
-    /// A step never ends in some schedule.
-    Hangs(StepTold, Where),
-    /// A step has an answer that it doesn't expect.
-    Unmet(StepTold, Where),
-    /// All answers of a row of `never` came: its number.
-    Together(usize, Where),
-    /// Whether those of a row of `never` come isn't known, past the limit: its number.
-    NotKnown(usize, Where),
-    /// Each step ends, and each answer is as the job asks.
-    AsExpected(Extent),
-    /// Each step ends.
-    Ends(Extent),
+    /// A step hangs, or isn't as it expects.
+    Step(&'static str, StepTold, Where),
+    /// The answers of a row of `never` come, or may: its number.
+    Row(&'static str, usize, Where),
+    /// Nothing is wrong.
+    Good(&'static str, Extent),
 }
 
 /// Where that is so: at a place of a list of places, or in the job as it is asked for.
@@ -42,19 +36,16 @@ pub struct Where {
 impl Verdict {
     /// Whether nothing is wrong.
     pub fn is_good(&self) -> bool {
-        matches!(self, Verdict::AsExpected(_) | Verdict::Ends(_))
+        matches!(self, Verdict::Good(..))
     }
 }
 
 impl fmt::Display for Verdict {
     fn fmt<W: fmt::Write>(&self, f: &mut fmt::Formatter<W>) -> fmt::Result {
         match self {
-            Verdict::Hangs(step, at) => write_step(f, "hangs", step, *at),
-            Verdict::Unmet(step, at) => write_step(f, "not as expected", step, *at),
-            Verdict::Together(row, at) => write_row(f, "come together", *row, *at),
-            Verdict::NotKnown(row, at) => write_row(f, "not known", *row, *at),
-            Verdict::AsExpected(extent) => write_good(f, "as expected", *extent),
-            Verdict::Ends(extent) => write_good(f, "every step ends", *extent),
+            Verdict::Step(what, step, at) => write_step(f, what, step, *at),
+            Verdict::Row(what, row, at) => write_row(f, what, *row, *at),
+            Verdict::Good(what, extent) => write_good(f, what, *extent),
         }
     }
 }

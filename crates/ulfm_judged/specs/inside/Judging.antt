@@ -1,5 +1,5 @@
 -- What single functions find of a job at places.
-use Rattle.std.specs.Prelude.{◌≡◌, ◌≤◌, ℕ, ⊤, ◌==◌, Bool, false, List, Option, Some, None, All, max, option_map, slice_get, string_bytes, take}
+use Rattle.std.specs.Prelude.{◌≡◌, ◌≤◌, ℕ, ⊤, ◌==◌, ◌++◌, Bool, false, List, Option, Some, None, All, max, option_map, slice_get, string_bytes, take}
 use Rattle.ulfm_job.specs.declared.clause.Clause.{Clause}
 use Rattle.ulfm_job.specs.Job.{JobView}
 use Rattle.ulfm_stops.specs.Place.{IsPlaceOf, job_at}
@@ -9,16 +9,18 @@ use Rattle.ulfm_lists.specs.Union.{some_never_ends}
 use Rattle.ulfm_lists.specs.declared.listed.Listed.{Listed}
 use Rattle.ulfm_judged.specs.declared.lists.Lists.{Lists}
 use Rattle.ulfm_json.specs.declared.form.Form.{Form}
-use Rattle.ulfm_reader.specs.declared.name.Name.{Name}
 use Rattle.ulfm_replies.specs.Stopped.{Asked, asked_at, asked_view}
 use Rattle.ulfm_reader.specs.declared.reading.Reading.{Reading}
 use Rattle.ulfm_replies.specs.declared.command.ListOptions.{ListOptions}
-use Rattle.ulfm_replies.specs.declared.reply.Reply.{Reply}
+use Rattle.ulfm_judged.specs.declared.finding.Finding.{Finding}
+use Rattle.ulfm_found.specs.Judgement.{good_judgement}
+use Rattle.ulfm_found.specs.declared.judgement.Judgement.{Judgement}
+use Rattle.ulfm_found.specs.declared.judgement.Judgement.TheVariants.{NotKnown}
 use Rattle.ulfm_judged.specs.EachPlace.{IsJudgedEach, IsToldAt, IsUnfound, places_in}
 use Rattle.ulfm_lists.specs.Told.{more_at}
 use Rattle.ulfm_judged.specs.Outcomes.{list_status, nowhere_in}
 use Rattle.ulfm_judged.specs.ShowEach.{AreGoalsAt, IsNowhereAt}
-use Rattle.ulfm_judged.specs.Wanted.{HasList, IsToldOf, IsWanted}
+use Rattle.ulfm_judged.specs.Wanted.{HasList, IsToldOf, IsWanted, asks}
 use Rattle.ulfm_judged.specs.declared.show_each.LookAt.{LookAt}
 use Rattle.ulfm_lists.specs.declared.told.Told.{Told}
 use Rattle.ulfm_finder.specs.Told.{IsLook}
@@ -45,31 +47,31 @@ IsStopped place asked None = asked_at place asked ≡ asked
 IsStopped place asked (Some made) = asked_view made ≡ asked_at place asked
 
 -- this is wanted, or that is told of it, by these rows of a list
-abbrev pub IsUnwanted : Form → ListOptions → Option Place → Asked → List (List ℕ) → Option Reply → Type 0
+abbrev pub IsUnwanted : Form → ListOptions → Option Place → Asked → List (List ℕ) → Option Finding → Type 0
 IsUnwanted form options at asked found None = IsWanted asked
-IsUnwanted form options at asked found (Some reply) = IsToldOf form options at asked found reply.status (string_bytes reply.text)
+IsUnwanted form options at asked found (Some told) = IsToldOf form options at asked found told.judgement told.reply.status (string_bytes told.reply.text)
 
 -- the same at a place, by a list there
-abbrev pub IsUnwantedAt : Form → ListOptions → Place → Asked → Option Reply → Type 0
+abbrev pub IsUnwantedAt : Form → ListOptions → Place → Asked → Option Finding → Type 0
 IsUnwantedAt form options place asked None = IsWanted asked
-IsUnwantedAt form options place asked (Some reply) = IsToldAt form options place asked reply.status (string_bytes reply.text)
+IsUnwantedAt form options place asked (Some told) = IsToldAt form options place asked told.judgement told.reply.status (string_bytes told.reply.text)
 
--- it is wanted at each of these places, or that is told of them, whatever the status of the lists is
-abbrev pub IsFirstUnwanted : Form → ListOptions → Asked → List Place → Option Reply → Type 0
+-- it is wanted at each of these places, or that is told of them, whatever the lists come to alone
+abbrev pub IsFirstUnwanted : Form → ListOptions → Asked → List Place → Option Finding → Type 0
 IsFirstUnwanted form options asked places None = All (λ place. IsWanted (asked_at place asked)) places
-IsFirstUnwanted form options asked places (Some reply) = (status : ℕ) → IsJudgedEach form options asked places status reply.status (string_bytes reply.text)
+IsFirstUnwanted form options asked places (Some told) = (alone : Judgement) (status : ℕ) → IsJudgedEach form options asked places alone status told.judgement told.reply.status (string_bytes told.reply.text)
 
 -- a schedule that isn't wanted was found, by what is told
-abbrev pub is_found : Option Reply → Bool
+abbrev pub is_found : Option Finding → Bool
 is_found None = false
-is_found (Some reply) = reply.status == 9
+is_found (Some told) = told.reply.status == 9
 
 -- of so many of the lists none has a schedule that was found: at each of their places it is wanted, or that is told of the first with a row
 -- that can't be looked for
-abbrev pub IsUnfoundUpTo : Form → ListOptions → Asked → List Listed → ℕ → Option Reply → Type 0
+abbrev pub IsUnfoundUpTo : Form → ListOptions → Asked → List Listed → ℕ → Option Finding → Type 0
 IsUnfoundUpTo form options asked listed count None = All (λ (one : Listed). IsWanted (asked_at one.place asked)) (take count listed)
-IsUnfoundUpTo form options asked listed count (Some reply) = (number : ℕ) × (place : Place) × (slice_get (places_in listed) number ≡ Some place) × All (λ p. IsWanted (asked_at p asked)) (take number (places_in listed))
-    × All (λ (one : Listed). IsUnfound form options asked one.place) (take count listed) × (reply.status ≡ 7) × IsToldAt form options place (asked_at place asked) 7 (string_bytes reply.text)
+IsUnfoundUpTo form options asked listed count (Some told) = (number : ℕ) × (place : Place) × (slice_get (places_in listed) number ≡ Some place) × All (λ p. IsWanted (asked_at p asked)) (take number (places_in listed))
+    × All (λ (one : Listed). IsUnfound form options asked one.place) (take count listed) × (told.judgement ≡ NotKnown) × (told.reply.status ≡ 7) × IsToldAt form options place (asked_at place asked) NotKnown 7 (string_bytes told.reply.text)
 
 -- the status of lists below which nothing is told
 abbrev pub status_past : ListOptions → List Listed → Option Place → ℕ
@@ -80,14 +82,28 @@ status_past options listed (Some place) = 7
 abbrev pub lists_status : ListOptions → Lists → ℕ
 lists_status options lists = status_past options lists.listed.items lists.past_limit
 
--- the text of lists, or that they come past the limit
-abbrev pub text_past : Form → List Name → JobView → ListOptions → List Listed → Option Place → List ℕ
-text_past form names job options listed None = lists_in form names job listed
-text_past form names job options listed (Some place) = more_at form options.limit place
+-- what lists come to below which nothing is told: past the limit that isn't known
+abbrev pub judgement_past : Asked → List Listed → Option Place → Judgement
+judgement_past asked listed None = good_judgement (some_never_ends listed) (asks asked)
+judgement_past asked listed (Some place) = NotKnown
 
 -- that of these lists
-abbrev pub lists_text : Form → List Name → JobView → ListOptions → Lists → List ℕ
-lists_text form names job options lists = text_past form names job options lists.listed.items lists.past_limit
+abbrev pub lists_judgement : Asked → Lists → Judgement
+lists_judgement asked lists = judgement_past asked lists.listed.items lists.past_limit
+
+-- the text of lists that come to this, or that they come past the limit
+abbrev pub text_past : Form → Asked → ListOptions → List Listed → Option Place → Judgement → List ℕ
+text_past form asked options listed None judgement = lists_in form asked.names asked.job judgement listed
+text_past form asked options listed (Some place) judgement = more_at form options.limit place
+
+-- that of these lists
+abbrev pub lists_text : Form → Asked → ListOptions → Lists → Judgement → List ℕ
+lists_text form asked options lists judgement = text_past form asked options lists.listed.items lists.past_limit judgement
+
+-- the status of lists and their text, with what is told below it
+abbrev pub IsEachText : Form → ListOptions → Asked → Lists → ℕ → List ℕ → Type 0
+IsEachText form options asked lists status text = (judgement : Judgement) × (told : List ℕ)
+    × IsJudgedEach form options asked (places_in lists.listed.items) (lists_judgement asked lists) (lists_status options lists) judgement status told × (text ≡ lists_text form asked options lists judgement ++ told)
 
 -- a search at a place for answers came to nothing, since no schedule shows them, or to what is told
 abbrev pub IsLookAt : JobView → List Clause → Bool → ℕ → Place → Option Told → Type 0

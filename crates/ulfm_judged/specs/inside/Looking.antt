@@ -4,6 +4,8 @@ use Rattle.ulfm_job.specs.declared.clause.Clause.{Clause}
 use Rattle.ulfm_job.specs.Job.{JobView}
 use Rattle.ulfm_finder.specs.Told.{IsLook}
 use Rattle.ulfm_found.specs.declared.goals.Goals.{Goals}
+use Rattle.ulfm_found.specs.declared.judgement.Judgement.{Judgement}
+use Rattle.ulfm_found.specs.declared.judgement.Judgement.TheVariants.{ComeTogether, NotKnown}
 use Rattle.ulfm_json.specs.declared.style.Style.{Style}
 use Rattle.ulfm_json.specs.declared.form.Form.{Form}
 use Rattle.ulfm_lists.specs.Told.{told_in}
@@ -36,6 +38,11 @@ abbrev pub IsLookText : Form → Option Style → Option Place → Asked → Opt
 IsLookText form drawn at asked None text = text ≡ nowhere_in form
 IsLookText form drawn at asked (Some (Schedule schedule)) text = drawn ≡ None → text ≡ told_in form at asked.names asked.job (Schedule schedule)
 IsLookText form drawn at asked (Some (Many limit)) text = text ≡ told_in form at asked.names asked.job (Many limit)
+
+-- what a list comes to below which this is told of a row
+abbrev pub row_judgement : Told → Judgement
+row_judgement (Schedule schedule) = ComeTogether
+row_judgement (Many limit) = NotKnown
 
 -- the status of a list below which this is told of a row
 abbrev pub row_status : Told → ℕ

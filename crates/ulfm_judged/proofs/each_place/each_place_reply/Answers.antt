@@ -30,5 +30,5 @@ returns g c =
     let asked = asked_view c.in-Ok.asked in
     let read = subst (IsAsked c.args.search.now.form Nowhere c.args.bytes.now) c.in-Ok.is c.in_ok-read.ensures in
     let lists = c.in_ok-lists.lists in
-    IfOk-weaker c.judged.result _ _ (λ r h. each_as c.args.search.now.form c.args.search.now.options c.args.stops c.args.bytes.now asked c.as_slice.result.now lists.listed.items lists.past_limit r.status (string_bytes r.text) h.0
-    read c.in_ok-lists.ensures (c.as_slice.ensures.value ∙ c.in_ok-places.ensures.exact) h.1 h.2) c.judged.ensures
+    IfOk-weaker c.judged.result _ _ (λ r h. each_as c.args.search.now.form c.args.search.now.options c.args.stops c.args.bytes.now asked c.as_slice.result.now lists.listed.items lists.past_limit h.0 r.status (string_bytes r.text) h.1
+    read c.in_ok-lists.ensures (c.as_slice.ensures.value ∙ c.in_ok-places.ensures.exact) h.2 h.3) c.judged.ensures

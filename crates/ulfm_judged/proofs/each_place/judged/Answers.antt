@@ -1,18 +1,14 @@
 use Rattle.std.proofs.Common.{ℕ, List, [], ◌++◌, None, Some, ap, string_bytes, subst, sym, ◌∙◌}
 use Rattle.std.proofs.lemmas.List.{append-nil}
 use Rattle.std.proofs.lemmas.Result.{IfOk-weaker}
-use Rattle.ulfm_lists.specs.Union.{AreAllAscii}
 use Rattle.ulfm_lists.specs.declared.listed.Listed.{Listed}
 use Rattle.ulfm_replies.specs.Stopped.{asked_view}
 use Rattle.ulfm_judged.specs.EachPlace.{IsJudgedEach, places_in, wanted}
-use Rattle.ulfm_judged.specs.inside.Judging.{AreListedOf, IsFirstUnwanted, lists_status, text_past}
+use Rattle.ulfm_judged.specs.inside.Judging.{AreListedOf, IsFirstUnwanted, lists_judgement, lists_status}
 use Rattle.ulfm_judged.proofs.each_place.judged.Goals as goal
 
-pub text_of-requires : goal.text_of-requires
-text_of-requires g c = record { ascii = subst AreAllAscii (sym c.as_slice-listed.ensures.value) c.requires.ascii }
-
 pub first_unwanted-requires : goal.first_unwanted-requires
-first_unwanted-requires g c = subst (AreListedOf (asked_view c.args.asked.now) c.args.search.now.options.limit) (sym c.as_slice-listed.ensures.value) c.requires.listed
+first_unwanted-requires g c = subst (AreListedOf (asked_view c.args.asked.now) c.args.search.now.options.limit) (sym c.as_slice.ensures.value) c.requires.listed
 
 pub returns-in-Some : goal.returns-in-Some
 returns-in-Some g c =
@@ -20,14 +16,16 @@ returns-in-Some g c =
     let form = c.args.search.now.form in
     let options = c.args.search.now.options in
     let lists = c.args.lists.now in
-    let words = string_bytes c.in-Some.told.text in
-    let of_slice = subst (IsFirstUnwanted form options asked (places_in c.as_slice-listed.result.now)) c.in-Some.is c.in_ok-told.ensures in
-    let first = subst (λ (listed : List Listed). IsFirstUnwanted form options asked (places_in listed) (Some c.in-Some.told)) c.as_slice-listed.ensures.value of_slice in
-    let text = c.in_ok-text.ensures ∙ ap (λ (listed : List Listed). text_past form asked.names asked.job options listed lists.past_limit) c.as_slice-listed.ensures.value in
+    let told = c.in-Some.told in
+    let words = string_bytes told.reply.text in
+    let of_slice = subst (IsFirstUnwanted form options asked (places_in c.as_slice.result.now)) c.in-Some.is c.in_ok-told.ensures in
+    let first = subst (λ (listed : List Listed). IsFirstUnwanted form options asked (places_in listed) (Some told)) c.as_slice.ensures.value of_slice in
     IfOk-weaker c.below.result _ _ (λ r h. (
+      told.judgement,
       words,
-      subst (λ (k : ℕ). IsJudgedEach form options asked (places_in lists.listed.items) (lists_status options lists) k words) (sym h.0) (first (lists_status options lists)),
-      h.1 ∙ ap (λ (t : List ℕ). t ++ words) text,
+      subst (λ (k : ℕ). IsJudgedEach form options asked (places_in lists.listed.items) (lists_judgement asked lists) (lists_status options lists) told.judgement k words) (sym h.0)
+          (first (lists_judgement asked lists) (lists_status options lists)),
+      h.1 ∙ ap (λ (t : List ℕ). t ++ words) c.in_ok-text.ensures,
     )) c.below.ensures
 
 pub returns-in-None : goal.returns-in-None
@@ -36,7 +34,12 @@ returns-in-None g c =
     let form = c.args.search.now.form in
     let options = c.args.search.now.options in
     let lists = c.args.lists.now in
-    let of_slice = subst (IsFirstUnwanted form options asked (places_in c.as_slice-listed.result.now)) c.in-None.is c.in_ok-told.ensures in
-    let all = subst (λ (listed : List Listed). IsFirstUnwanted form options asked (places_in listed) None) c.as_slice-listed.ensures.value of_slice in
-    let text = c.in_ok-text.ensures ∙ ap (λ (listed : List Listed). text_past form asked.names asked.job options listed lists.past_limit) c.as_slice-listed.ensures.value in
-    ([], subst (λ (k : ℕ). IsJudgedEach form options asked (places_in lists.listed.items) (lists_status options lists) k []) (sym c.status_of.ensures) (wanted all), text ∙ sym (append-nil _))
+    let alone = lists_judgement asked lists in
+    let of_slice = subst (IsFirstUnwanted form options asked (places_in c.as_slice.result.now)) c.in-None.is c.in_ok-told.ensures in
+    let all = subst (λ (listed : List Listed). IsFirstUnwanted form options asked (places_in listed) None) c.as_slice.ensures.value of_slice in
+    IfOk-weaker c.alone.result _ _ (λ r h. (
+      alone,
+      [],
+      subst (λ (k : ℕ). IsJudgedEach form options asked (places_in lists.listed.items) alone (lists_status options lists) alone k []) (sym h.0) (wanted all),
+      h.1 ∙ sym (append-nil _),
+    )) c.alone.ensures

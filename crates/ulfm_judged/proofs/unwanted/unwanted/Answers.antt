@@ -12,7 +12,7 @@ pub unmet_told-requires : goal.unmet_told-requires
 unmet_told-requires g c = subst (Judges c.args.asked.now.job) c.in-Some.is (c.first_unmet.ensures.judges _ c.args.search.now.options.limit _ c.requires.1)
 
 pub returns-in-Some : goal.returns-in-Some
-returns-in-Some g c = c.in_ok-reply.ensures c.args.found.now (sym c.first_unmet.ensures.exact ∙ c.in-Some.is)
+returns-in-Some g c = c.in_ok-told.ensures c.args.found.now (sym c.first_unmet.ensures.exact ∙ c.in-Some.is)
 
 pub returns-in-Some-2 : goal.returns-in-Some-2
 returns-in-Some-2 g c =
@@ -21,7 +21,7 @@ returns-in-Some-2 g c =
     let meets = subst (Judges job) c.in_default.is (c.first_unmet.ensures.judges _ options.limit _ c.requires.1) in
     let of_slice = subst (IsFirstRow job (rows_of c.as_slice-rows.result.now) options.is_brief options.limit) c.in-Some-2.is c.in_ok-first.ensures in
     let first = subst (λ (rows : List (Vec Clause Global)). IsFirstRow job (rows_of rows) options.is_brief options.limit (Some c.in-Some-2.first)) c.as_slice-rows.ensures.value of_slice in
-    rw (c.in_ok-reply-2.ensures.0, c.in_ok-reply-2.ensures.1) (row_told_as c.args.search.now.form options c.args.at (asked_view c.args.asked.now) c.args.found.now c.in-Some-2.first meets first)
+    rw (c.in_ok-told-2.ensures.0, c.in_ok-told-2.ensures.1, c.in_ok-told-2.ensures.2) (row_told_as c.args.search.now.form options c.args.at (asked_view c.args.asked.now) c.args.found.now c.in-Some-2.first meets first)
 
 pub returns : goal.returns
 returns g c =
