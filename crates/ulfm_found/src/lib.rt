@@ -1,7 +1,8 @@
 //! What an exploration found, as a value that is printed, and what a job wants of it: for each step all that it may be answered, in words
 //! or in JSON; the first step that isn't as the job expects; and what a schedule is to show.
 //!
-//!     let text = list_in(alloc, form, names, &job, judgement, &reached)?;
+//!     let list = list_of(alloc, steps, judgement, &reached)?;
+//!     push_list(&mut text, form, names, &list)?;
 //!     let unmet = unmet_in(&job, &reached.found);
 //!     let goals = Goals::of(alloc, &job, clauses)?;
 //!
@@ -30,11 +31,12 @@ mod words;
 pub use goals::Goals;
 pub use job_step::{JobStep, steps_of};
 pub use judgement::Judgement;
+pub use list::list_of;
 pub use listed_step::ListedStep;
 pub use open_step::OpenStep;
 pub use outcome::Outcome;
 pub use outcomes::Outcomes;
-pub use printing::{list_in, more_in, push_list};
+pub use printing::{more_in, push_list};
 pub use rows::{add_answers, in_order, is_stuck, some_never_end, words_at};
 pub use step_list::StepList;
 pub use unmet::{Unmet, is_expected, unmet_in};

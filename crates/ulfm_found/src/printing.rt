@@ -1,19 +1,14 @@
 //! A list as it is printed.
 ghost use Rattle.std.specs.Prelude.{◌≡◌, ◌++◌, IfOk, OnOk, string_bytes};
 ghost use Rattle.ulfm_found.specs.Listed.{list_view};
-ghost use Rattle.ulfm_found.specs.Objects.{list_in, more_in, printed};
-ghost use Rattle.ulfm_found.specs.Text.{AreAscii};
+ghost use Rattle.ulfm_found.specs.Objects.{more_in, printed};
 
-use crate::judgement::Judgement;
-use crate::list::list_of;
 use crate::objects::push_objects;
 use crate::step_list::StepList;
 use crate::words::push_words;
 use std::alloc::{AllocError, Global};
 use ulfm_base::OutOfMemory;
-use ulfm_job::Job;
 use ulfm_json::Form;
-use ulfm_reach::Reached;
 use ulfm_reader::Name;
 
 /// Puts a list of steps that have these names behind a text, in this form: a line for each step with its answers, in the order in which they
@@ -34,28 +29,6 @@ pub fn push_list(
         Form::Words => push_words(text, list),
         Form::Json => push_objects(text, names, list),
     }
-}
-
-/// The list of an exploration of a job whose steps have these names, in this form. It comes to this.
-///
-/// # Errors
-///
-/// `OutOfMemory` where a growth was refused.
-pub fn list_in(
-    alloc: Global,
-    form: Form,
-    names: &[Name],
-    job: &Job,
-    judgement: Judgement,
-    reached: &Reached,
-) -> Result<String, OutOfMemory>
-    requires ascii { AreAscii reached.now.found }
-    ensures { IfOk result (λ text. string_bytes text ≡ list_in form names.now job.now judgement reached.now) }
-{
-    let list = list_of(alloc, job, judgement, reached)?;
-    let mut text = String::new(alloc);
-    push_list(&mut text, form, names, &list)?;
-    Ok(text)
 }
 
 /// That there are more states than the limit.

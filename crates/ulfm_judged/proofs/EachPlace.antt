@@ -19,12 +19,14 @@ use Rattle.ulfm_job.specs.declared.clause.Clause.{Clause}
 use Rattle.ulfm_stops.specs.Places.{places_of}
 use Rattle.ulfm_json.specs.declared.form.Form.{Form}
 use Rattle.ulfm_replies.specs.Stopped.{Asked, IsAskedAt, asked_at}
+use Rattle.ulfm_replies.specs.Wish.{ChoiceView}
 use Rattle.ulfm_replies.specs.declared.command.ListOptions.{ListOptions}
 use Rattle.ulfm_found.specs.declared.judgement.Judgement.{Judgement}
 use Rattle.ulfm_found.specs.declared.judgement.Judgement.TheVariants.{NotKnown}
 use Rattle.ulfm_judged.specs.declared.finding.Finding.{Finding}
 use Rattle.ulfm_judged.specs.EachPlace.{IsEachPlaceReply, IsJudgedEach, listed_all, past_limit_at, places_in}
 use Rattle.ulfm_lists.specs.Told.{row_in}
+use Rattle.ulfm_judged.specs.Chosen.{unknown_part}
 use Rattle.ulfm_judged.specs.Outcomes.{goals_asked}
 use Rattle.ulfm_judged.specs.ShowEach.{IsFirstPlace, IsShowEachReply, nowhere_at_all, shown_at, told_at_place, too_many_at}
 use Rattle.ulfm_judged.specs.Wanted.{HasList, IsToldOf, together, unsearched}
@@ -115,12 +117,13 @@ lists-writable j limit (place ∷ places) (one ∷ listed) past lists =
     All-cons (λ (one : Listed). AreAscii one.found) one listed (one-writable j limit place one lists.0) (lists-writable j limit places listed past lists.1)
 
 -- the lists of all places with what is told below them
-pub each_as : (form : Form) (options : ListOptions) (stops : ℕ) (bytes : List ℕ) (asked : Asked) (places : List Place) (listed : List Listed) (past : Option Place) (judgement : Judgement) (status : ℕ) (text words : List ℕ) → IsAskedAt Nowhere bytes asked
-    → AreLists asked.job options.limit places listed past → places ≡ places_of stops asked.job → IsJudgedEach form options asked (places_in listed) (judgement_past asked listed past) (status_past options listed past) judgement status words
-    → text ≡ text_past form asked options listed past judgement ++ words → IsEachPlaceReply form options stops bytes status text
-each_as form options stops bytes asked places listed None judgement status text words read are is judged same =
-    subst (λ (t : List ℕ). IsEachPlaceReply form options stops bytes status t) (sym same)
-    (listed_all asked listed judgement status words read (subst (λ (ps : List Place). AreLists asked.job options.limit ps listed None) is are) judged)
-each_as form options stops bytes asked places listed (Some place) judgement status text words read are is judged same =
-    subst (λ (t : List ℕ). IsEachPlaceReply form options stops bytes status t) (sym same)
-    (past_limit_at asked listed place judgement status words read (subst (λ (ps : List Place). AreLists asked.job options.limit ps listed (Some place)) is are) judged)
+pub each_as : (form : Form) (choice : ChoiceView) (options : ListOptions) (stops : ℕ) (bytes : List ℕ) (asked : Asked) (places : List Place) (listed : List Listed) (past : Option Place) (judgement : Judgement) (status : ℕ) (text words : List ℕ)
+    → IsAskedAt Nowhere bytes asked → unknown_part choice asked ≡ None → AreLists asked.job options.limit places listed past → places ≡ places_of stops asked.job
+    → IsJudgedEach form options asked (places_in listed) (judgement_past asked listed past) (status_past options listed past) judgement status words
+    → text ≡ text_past form choice asked options listed past judgement ++ words → IsEachPlaceReply form choice options stops bytes status text
+each_as form choice options stops bytes asked places listed None judgement status text words read named are is judged same =
+    subst (λ (t : List ℕ). IsEachPlaceReply form choice options stops bytes status t) (sym same)
+    (listed_all asked listed judgement status words read named (subst (λ (ps : List Place). AreLists asked.job options.limit ps listed None) is are) judged)
+each_as form choice options stops bytes asked places listed (Some place) judgement status text words read named are is judged same =
+    subst (λ (t : List ℕ). IsEachPlaceReply form choice options stops bytes status t) (sym same)
+    (past_limit_at asked listed place judgement status words read named (subst (λ (ps : List Place). AreLists asked.job options.limit ps listed (Some place)) is are) judged)

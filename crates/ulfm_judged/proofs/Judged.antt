@@ -3,6 +3,7 @@ use Rattle.std.proofs.Common.{◌≡◌, ℕ, ◌+◌, ◌<◌, List, [], ◌∷
 use Rattle.std.proofs.lemmas.List.{take_more}
 use Rattle.std.proofs.lemmas.List.Elements.{All-push}
 use Rattle.std.proofs.lemmas.Option.{get_or_from_slice_get, slice_get-get_or, slice_get-map}
+use Rattle.std.specs.Borrow.{Bor}
 use Rattle.std.specs.declared.alloc.Global.{Global}
 use Rattle.ulfm_reader.specs.JobText.{rows_of}
 use Rattle.ulfm_job.specs.Job.{JobView}
@@ -19,6 +20,10 @@ use Rattle.ulfm_lists.specs.Told.{told_in}
 use Rattle.ulfm_lists.specs.declared.told.Told.{Told}
 use Rattle.ulfm_lists.specs.declared.told.Told.TheVariants as told
 use Rattle.ulfm_judged.specs.inside.Looking.{IsLookText, look_status}
+
+-- what contracts see of a part of a text, if there is one
+abbrev pub part_now : Option (Bor (List ℕ)) → Option (List ℕ)
+part_now part = option_map (λ p. p.now) part
 
 -- the reply to what came of a search
 pub show_as : (form : Form) (options : ListOptions) (show bytes : List ℕ) (asked : Asked) (answers : List Clause) (goals : Goals) (look : Option Told) (text : List ℕ) → IsAskedAt options.place bytes asked → goals_asked asked show ≡ Ok answers → AreOfClauses asked.job answers goals

@@ -11,11 +11,12 @@ use Rattle.ulfm_replies.proofs.Statuses as statuses
 use Rattle.ulfm_replies.proofs.Statuses.{IsKnown, no_play}
 use Rattle.ulfm_replies.specs.Failure.{out_of_memory_in}
 use Rattle.ulfm_replies.specs.Stopped.{Asked}
+use Rattle.ulfm_replies.specs.Wish.{ChoiceView}
 use Rattle.ulfm_replies.specs.declared.command.ListOptions.{ListOptions}
 use Rattle.ulfm_judged.specs.EachPlace as each
 use Rattle.ulfm_judged.specs.EachPlace.{IsEachPlaceReply, IsJudgedEach}
 use Rattle.ulfm_judged.specs.ListReply.{IsListReply, IsReplyBy, as_asked, open_drawn, open_goal}
-use Rattle.ulfm_judged.specs.Outcomes.{IsJudged, IsOutcomesReply, IsShowReply, list_status, good, unwanted, listed, past_limit, not_listed, unlisted, shown, nowhere, too_many, unnamed, not_shown, unshown}
+use Rattle.ulfm_judged.specs.Outcomes.{IsJudged, IsOutcomesReply, IsShowReply, list_status, good, unwanted, listed, past_limit, misnamed, not_listed, unlisted, shown, nowhere, too_many, unnamed, not_shown, unshown}
 use Rattle.ulfm_judged.specs.Wanted.{IsToldOf, together, unmet, unsearched}
 use Rattle.ulfm_judged.specs.ShowEach as each_shown
 use Rattle.ulfm_judged.specs.ShowEach.{IsShowEachReply}
@@ -30,15 +31,16 @@ told_known form options at asked found judgement status text (unmet one goals wh
 told_known form options at asked found judgement status text (together number row goals schedule meets here none are shows) = statuses.not_wanted
 told_known form options at asked found judgement status text (unsearched number row goals meets here none are shows) = statuses.past
 
-judged_known : (form : Form) (options : ListOptions) (asked : Asked) (reached : Reached) (status : ℕ) (text : List ℕ) → IsJudged form options asked reached status text → IsKnown status
-judged_known form options asked reached status text (good wanted) = list_alone options.is_strict (some_never_ends reached.found)
-judged_known form options asked reached status text (unwanted judgement k words is) = told_known form options None asked reached.found judgement status words is
+judged_known : (form : Form) (choice : ChoiceView) (options : ListOptions) (asked : Asked) (reached : Reached) (status : ℕ) (text : List ℕ) → IsJudged form choice options asked reached status text → IsKnown status
+judged_known form choice options asked reached status text (good wanted) = list_alone options.is_strict (some_never_ends reached.found)
+judged_known form choice options asked reached status text (unwanted judgement k words is) = told_known form options None asked reached.found judgement status words is
 
-list_known : (form : Form) (options : ListOptions) (bytes : List ℕ) (status : ℕ) (text : List ℕ) → IsOutcomesReply form options bytes status text → IsKnown status
-list_known form options bytes status text (listed asked reached k words is all judged) = judged_known form options asked _ status text judged
-list_known form options bytes status text (past_limit asked is many) = statuses.past
-list_known form options bytes status text (not_listed k words is) = no_play form options.place bytes status text is
-list_known form options bytes status text unlisted = statuses.run_fails
+list_known : (form : Form) (choice : ChoiceView) (options : ListOptions) (bytes : List ℕ) (status : ℕ) (text : List ℕ) → IsOutcomesReply form choice options bytes status text → IsKnown status
+list_known form choice options bytes status text (listed asked reached k words is named all judged) = judged_known form choice options asked _ status text judged
+list_known form choice options bytes status text (past_limit asked is named many) = statuses.past
+list_known form choice options bytes status text (misnamed asked part is named) = statuses.no_job
+list_known form choice options bytes status text (not_listed k words is) = no_play form options.place bytes status text is
+list_known form choice options bytes status text unlisted = statuses.run_fails
 
 show_known : (form : Form) (options : ListOptions) (show bytes : List ℕ) (status : ℕ) (text : List ℕ) → IsShowReply form options show bytes status text → IsKnown status
 show_known form options show bytes status text (shown asked answers is named goals are schedule words what same) = statuses.done
@@ -54,12 +56,13 @@ each_judged_known form options asked places good alone judgement status text kno
 each_judged_known form options asked places good alone judgement status text known (each.found number place what words here before is) = statuses.not_wanted
 each_judged_known form options asked places good alone judgement status text known (each.unfound number place words here before none is) = statuses.past
 
-each_known : (form : Form) (options : ListOptions) (stops : ℕ) (bytes : List ℕ) (status : ℕ) (text : List ℕ) → IsEachPlaceReply form options stops bytes status text → IsKnown status
-each_known form options stops bytes status text (each.listed_all asked lists judgement k words is are judged) = each_judged_known form options asked _ _ _ judgement status _ (list_alone options.is_strict (each_never_ends lists)) judged
-each_known form options stops bytes status text (each.past_limit_at asked lists place judgement k words is are judged) = each_judged_known form options asked _ _ _ judgement status _ statuses.past judged
-each_known form options stops bytes status text (each.no_room_for_stops asked is many) = statuses.no_job
-each_known form options stops bytes status text (each.not_listed_at_all k words is) = no_play form Nowhere bytes status text is
-each_known form options stops bytes status text each.no_memory_for_lists = statuses.run_fails
+each_known : (form : Form) (choice : ChoiceView) (options : ListOptions) (stops : ℕ) (bytes : List ℕ) (status : ℕ) (text : List ℕ) → IsEachPlaceReply form choice options stops bytes status text → IsKnown status
+each_known form choice options stops bytes status text (each.listed_all asked lists judgement k words is named are judged) = each_judged_known form options asked _ _ _ judgement status _ (list_alone options.is_strict (each_never_ends lists)) judged
+each_known form choice options stops bytes status text (each.past_limit_at asked lists place judgement k words is named are judged) = each_judged_known form options asked _ _ _ judgement status _ statuses.past judged
+each_known form choice options stops bytes status text (each.no_room_for_stops asked is named many) = statuses.no_job
+each_known form choice options stops bytes status text (each.misnamed_at_all asked part is named) = statuses.no_job
+each_known form choice options stops bytes status text (each.not_listed_at_all k words is) = no_play form Nowhere bytes status text is
+each_known form choice options stops bytes status text each.no_memory_for_lists = statuses.run_fails
 
 show_each_known : (form : Form) (options : ListOptions) (stops : ℕ) (show bytes : List ℕ) (status : ℕ) (text : List ℕ) → IsShowEachReply form options stops show bytes status text → IsKnown status
 show_each_known form options stops show bytes status text (each_shown.shown_at asked answers place is named first goals are schedule words shows same) = statuses.done
@@ -70,22 +73,22 @@ show_each_known form options stops show bytes status text (each_shown.no_room_to
 show_each_known form options stops show bytes status text (each_shown.not_shown_at_all k words is) = no_play form Nowhere bytes status text is
 show_each_known form options stops show bytes status text each_shown.no_memory_to_show_each = statuses.run_fails
 
-by_known : (form : Form) (show : Option (List ℕ)) (stops : Option ℕ) (options : ListOptions) (bytes : List ℕ) (status : ℕ) (text : List ℕ) → IsReplyBy form show stops options bytes status text → IsKnown status
-by_known form None None options bytes status text h = list_known form options bytes status text h
-by_known form None (Some stops) options bytes status text h = each_known form options stops bytes status text h
-by_known form (Some goals) None options bytes status text h = show_known form options goals bytes status text h
-by_known form (Some goals) (Some stops) options bytes status text h = show_each_known form options stops goals bytes status text h
+by_known : (form : Form) (show : Option (List ℕ)) (stops : Option ℕ) (choice : ChoiceView) (options : ListOptions) (bytes : List ℕ) (status : ℕ) (text : List ℕ) → IsReplyBy form show stops choice options bytes status text → IsKnown status
+by_known form None None choice options bytes status text h = list_known form choice options bytes status text h
+by_known form None (Some stops) choice options bytes status text h = each_known form choice options stops bytes status text h
+by_known form (Some goals) None choice options bytes status text h = show_known form options goals bytes status text h
+by_known form (Some goals) (Some stops) choice options bytes status text h = show_each_known form options stops goals bytes status text h
 
-pub reply_known : (form : Form) (show : Option (List ℕ)) (options : ListOptions) (bytes : List ℕ) (status : ℕ) (text : List ℕ) → IsListReply form show options bytes status text → IsKnown status
-reply_known form show options bytes status text (as_asked k words h) = by_known form show options.stops options bytes status text h
-reply_known form show options bytes status text (open_drawn rank step k words none drawn h) = by_known form (Some (open_goal rank step)) options.stops options bytes status text h
+pub reply_known : (form : Form) (show : Option (List ℕ)) (choice : ChoiceView) (options : ListOptions) (bytes : List ℕ) (status : ℕ) (text : List ℕ) → IsListReply form show choice options bytes status text → IsKnown status
+reply_known form show choice options bytes status text (as_asked k words h) = by_known form show options.stops choice options bytes status text h
+reply_known form show choice options bytes status text (open_drawn rank step k words none drawn h) = by_known form (Some (open_goal rank step)) options.stops choice options bytes status text h
 
 -- out of memory is what each may come to
-starved_by : (form : Form) (show : Option (List ℕ)) (stops : Option ℕ) (options : ListOptions) (bytes : List ℕ) → IsReplyBy form show stops options bytes 3 (out_of_memory_in form)
-starved_by form None None options bytes = unlisted
-starved_by form None (Some stops) options bytes = each.no_memory_for_lists
-starved_by form (Some goals) None options bytes = unshown
-starved_by form (Some goals) (Some stops) options bytes = each_shown.no_memory_to_show_each
+starved_by : (form : Form) (show : Option (List ℕ)) (stops : Option ℕ) (choice : ChoiceView) (options : ListOptions) (bytes : List ℕ) → IsReplyBy form show stops choice options bytes 3 (out_of_memory_in form)
+starved_by form None None choice options bytes = unlisted
+starved_by form None (Some stops) choice options bytes = each.no_memory_for_lists
+starved_by form (Some goals) None choice options bytes = unshown
+starved_by form (Some goals) (Some stops) choice options bytes = each_shown.no_memory_to_show_each
 
-pub starved_list : (form : Form) (show : Option (List ℕ)) (options : ListOptions) (bytes : List ℕ) → IsListReply form show options bytes 3 (out_of_memory_in form)
-starved_list form show options bytes = as_asked 3 (out_of_memory_in form) (starved_by form show options.stops options bytes)
+pub starved_list : (form : Form) (show : Option (List ℕ)) (choice : ChoiceView) (options : ListOptions) (bytes : List ℕ) → IsListReply form show choice options bytes 3 (out_of_memory_in form)
+starved_list form show choice options bytes = as_asked 3 (out_of_memory_in form) (starved_by form show options.stops choice options bytes)

@@ -6,7 +6,6 @@ use Rattle.ulfm_stops.specs.Places.{places_of}
 use Rattle.ulfm_stops.specs.declared.place.Place.{Place}
 use Rattle.ulfm_stops.specs.declared.place.Place.TheVariants.{Nowhere}
 use Rattle.ulfm_judged.specs.Lists.{AreLists}
-use Rattle.ulfm_lists.specs.List.{lists_in}
 use Rattle.ulfm_lists.specs.Told.{more_at}
 use Rattle.ulfm_lists.specs.Union.{some_never_ends}
 use Rattle.ulfm_lists.specs.declared.listed.Listed.{Listed}
@@ -18,6 +17,8 @@ use Rattle.ulfm_replies.specs.Failure.{out_of_memory_in}
 use Rattle.ulfm_replies.specs.Replies.{refused_in}
 use Rattle.ulfm_replies.specs.Stopped.{Asked, IsAskedAt, IsRefusal, asked_at}
 use Rattle.ulfm_replies.specs.declared.command.ListOptions.{ListOptions}
+use Rattle.ulfm_replies.specs.Wish.{ChoiceView}
+use Rattle.ulfm_judged.specs.Chosen.{lists_in, no_name, unknown_part}
 use Rattle.ulfm_judged.specs.Outcomes.{list_status}
 use Rattle.ulfm_judged.specs.Wanted.{HasList, IsToldOf, IsWanted, asks}
 
@@ -46,14 +47,15 @@ places_in listed = map (λ (one : Listed). one.place) listed
 -- The status and the text, in this form, that `outcomes --stops` gives for these bytes: the lists of all outcomes at all places with at
 -- most so many stops, as one list, with what is told below it; with 7 the line alone that there are more states than the limit at the
 -- first place where there are, or below it, with 9, what is told of a place before; with 1 the line of the job's refusal, also of one
--- that has no room for so many stops; with 3 the line that memory ran out.
-pub data IsEachPlaceReply (form : Form) (options : ListOptions) (stops : ℕ) (bytes : List ℕ) : ℕ → List ℕ → Type 0 where
-  listed_all : (asked : Asked) (listed : List Listed) (judgement : Judgement) (status : ℕ) (text : List ℕ) → IsAskedAt Nowhere bytes asked → AreLists asked.job options.limit (places_of stops asked.job) listed None
+-- that has no room for so many stops, or that it has no step of a name; with 3 the line that memory ran out.
+pub data IsEachPlaceReply (form : Form) (choice : ChoiceView) (options : ListOptions) (stops : ℕ) (bytes : List ℕ) : ℕ → List ℕ → Type 0 where
+  listed_all : (asked : Asked) (listed : List Listed) (judgement : Judgement) (status : ℕ) (text : List ℕ) → IsAskedAt Nowhere bytes asked → unknown_part choice asked ≡ None → AreLists asked.job options.limit (places_of stops asked.job) listed None
       → IsJudgedEach form options asked (places_in listed) (good_judgement (some_never_ends listed) (asks asked)) (list_status options.is_strict (some_never_ends listed)) judgement status text
-      → IsEachPlaceReply form options stops bytes status (lists_in form asked.names asked.job judgement listed ++ text)
-  past_limit_at : (asked : Asked) (listed : List Listed) (place : Place) (judgement : Judgement) (status : ℕ) (text : List ℕ) → IsAskedAt Nowhere bytes asked → AreLists asked.job options.limit (places_of stops asked.job) listed (Some place)
+      → IsEachPlaceReply form choice options stops bytes status (lists_in form choice asked judgement listed ++ text)
+  past_limit_at : (asked : Asked) (listed : List Listed) (place : Place) (judgement : Judgement) (status : ℕ) (text : List ℕ) → IsAskedAt Nowhere bytes asked → unknown_part choice asked ≡ None → AreLists asked.job options.limit (places_of stops asked.job) listed (Some place)
       → IsJudgedEach form options asked (places_in listed) NotKnown 7 judgement status text
-      → IsEachPlaceReply form options stops bytes status (more_at form options.limit place ++ text)
-  no_room_for_stops : (asked : Asked) → IsAskedAt Nowhere bytes asked → 256 < step_count asked.job.scripts + stops → IsEachPlaceReply form options stops bytes 1 (refused_in form TooLarge)
-  not_listed_at_all : (status : ℕ) (text : List ℕ) → IsRefusal form Nowhere bytes status text → IsEachPlaceReply form options stops bytes status text
-  no_memory_for_lists : IsEachPlaceReply form options stops bytes 3 (out_of_memory_in form)
+      → IsEachPlaceReply form choice options stops bytes status (more_at form options.limit place ++ text)
+  no_room_for_stops : (asked : Asked) → IsAskedAt Nowhere bytes asked → unknown_part choice asked ≡ None → 256 < step_count asked.job.scripts + stops → IsEachPlaceReply form choice options stops bytes 1 (refused_in form TooLarge)
+  misnamed_at_all : (asked : Asked) (part : List ℕ) → IsAskedAt Nowhere bytes asked → unknown_part choice asked ≡ Some part → IsEachPlaceReply form choice options stops bytes 1 (no_name part)
+  not_listed_at_all : (status : ℕ) (text : List ℕ) → IsRefusal form Nowhere bytes status text → IsEachPlaceReply form choice options stops bytes status text
+  no_memory_for_lists : IsEachPlaceReply form choice options stops bytes 3 (out_of_memory_in form)

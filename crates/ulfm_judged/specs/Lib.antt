@@ -1,4 +1,5 @@
 pub mod Wanted
+pub mod Chosen
 pub mod Outcomes
 pub mod Lists
 pub mod EachPlace

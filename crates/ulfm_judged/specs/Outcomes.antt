@@ -1,5 +1,5 @@
 -- What `outcomes` writes for a job.
-use Rattle.std.specs.Prelude.{◌≡◌, ℕ, Bool, List, ◌++◌, None, Result, Ok, Err, codes, if◌then◌else◌}
+use Rattle.std.specs.Prelude.{◌≡◌, ℕ, Bool, List, ◌++◌, Some, None, Result, Ok, Err, codes, if◌then◌else◌}
 use Rattle.ulfm_job.specs.declared.clause.Clause.{Clause}
 use Rattle.ulfm_reader.specs.Goals.{goals_of}
 use Rattle.ulfm_reach.specs.declared.reach.Reach.TheVariants.{All, More}
@@ -13,7 +13,7 @@ use Rattle.ulfm_found.specs.declared.goals.Goals.{Goals}
 use Rattle.ulfm_json.specs.declared.form.Form.{Form}
 use Rattle.ulfm_json.specs.declared.form.Form.TheVariants.{Words, Json}
 use Rattle.ulfm_found.specs.Judgement.{good_judgement}
-use Rattle.ulfm_found.specs.Objects.{list_in, more_in}
+use Rattle.ulfm_found.specs.Objects.{more_in}
 use Rattle.ulfm_found.specs.declared.judgement.Judgement.{Judgement}
 use Rattle.ulfm_lists.specs.Told.{told_in}
 use Rattle.ulfm_lists.specs.declared.told.Told.TheVariants as told
@@ -21,6 +21,8 @@ use Rattle.ulfm_moves.specs.declared.schedule.Schedule.{Schedule}
 use Rattle.ulfm_replies.specs.Failure.{out_of_memory_in}
 use Rattle.ulfm_replies.specs.Stopped.{Asked, IsAskedAt, IsRefusal, reading_as}
 use Rattle.ulfm_replies.specs.declared.command.ListOptions.{ListOptions}
+use Rattle.ulfm_replies.specs.Wish.{ChoiceView}
+use Rattle.ulfm_judged.specs.Chosen.{list_in, no_name, unknown_part}
 use Rattle.ulfm_judged.specs.Wanted.{IsToldOf, IsWanted, asks}
 
 -- what the words say that no schedule shows the answers, in this form
@@ -34,22 +36,24 @@ list_status is_strict is_open = if is_strict then (if is_open then 6 else 0) els
 
 -- The status of a whole list, and the list with what it comes to and what is told below it. With 0, or with 6 by `--strict`, nothing is, and no schedule has an
 -- answer that its step doesn't expect, nor all answers of a row of `never`.
-pub data IsJudged (form : Form) (options : ListOptions) (asked : Asked) (reached : Reached) : ℕ → List ℕ → Type 0 where
-  good : IsWanted asked → IsJudged form options asked reached (list_status options.is_strict (some_never_ends reached.found))
-      (list_in form asked.names asked.job (good_judgement (some_never_ends reached.found) (asks asked)) reached)
+pub data IsJudged (form : Form) (choice : ChoiceView) (options : ListOptions) (asked : Asked) (reached : Reached) : ℕ → List ℕ → Type 0 where
+  good : IsWanted asked → IsJudged form choice options asked reached (list_status options.is_strict (some_never_ends reached.found))
+      (list_in form choice asked (good_judgement (some_never_ends reached.found) (asks asked)) reached)
   unwanted : (judgement : Judgement) (status : ℕ) (text : List ℕ) → IsToldOf form options None asked reached.found judgement status text
-      → IsJudged form options asked reached status (list_in form asked.names asked.job judgement reached ++ text)
+      → IsJudged form choice options asked reached status (list_in form choice asked judgement reached ++ text)
 
 -- The status and the text, in this form, that `outcomes` gives for these bytes: the list of all that the steps of their job may be
 -- answered, over every schedule, and of those that may be left open for ever, with what is told below it; with 7 also the line alone that
--- more states than the limit are reached; with 1 that the job is refused, or hasn't the place of `--stop`; with 3 the line that memory ran out.
-pub data IsOutcomesReply (form : Form) (options : ListOptions) (bytes : List ℕ) : ℕ → List ℕ → Type 0 where
-  listed : (asked : Asked) (reached : Reached) (status : ℕ) (text : List ℕ) → IsAskedAt options.place bytes asked → IsList asked.job options.limit (All reached)
-      → IsJudged form options asked reached status text → IsOutcomesReply form options bytes status text
-  past_limit : (asked : Asked) → IsAskedAt options.place bytes asked → IsList asked.job options.limit More
-      → IsOutcomesReply form options bytes 7 (more_in form options.limit)
-  not_listed : (status : ℕ) (text : List ℕ) → IsRefusal form options.place bytes status text → IsOutcomesReply form options bytes status text
-  unlisted : IsOutcomesReply form options bytes 3 (out_of_memory_in form)
+-- more states than the limit are reached; with 1 that the job is refused, or hasn't the place of `--stop`, or no step of a name; with 3 the line
+-- that memory ran out.
+pub data IsOutcomesReply (form : Form) (choice : ChoiceView) (options : ListOptions) (bytes : List ℕ) : ℕ → List ℕ → Type 0 where
+  listed : (asked : Asked) (reached : Reached) (status : ℕ) (text : List ℕ) → IsAskedAt options.place bytes asked → unknown_part choice asked ≡ None → IsList asked.job options.limit (All reached)
+      → IsJudged form choice options asked reached status text → IsOutcomesReply form choice options bytes status text
+  past_limit : (asked : Asked) → IsAskedAt options.place bytes asked → unknown_part choice asked ≡ None → IsList asked.job options.limit More
+      → IsOutcomesReply form choice options bytes 7 (more_in form options.limit)
+  misnamed : (asked : Asked) (part : List ℕ) → IsAskedAt options.place bytes asked → unknown_part choice asked ≡ Some part → IsOutcomesReply form choice options bytes 1 (no_name part)
+  not_listed : (status : ℕ) (text : List ℕ) → IsRefusal form options.place bytes status text → IsOutcomesReply form choice options bytes status text
+  unlisted : IsOutcomesReply form choice options bytes 3 (out_of_memory_in form)
 
 -- the line for a goal that names no answer of the job
 abbrev pub no_goal : List ℕ → List ℕ

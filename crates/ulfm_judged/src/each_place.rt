@@ -1,12 +1,16 @@
 //! The reply of `outcomes --stops`: what each step may be answered wherever ranks stop, and below it what the job doesn't want at the first
 //! place where it comes.
-ghost use Rattle.std.specs.Prelude.{◌≡◌, ◌<◌, ◌≤◌, IfOk, string_bytes};
+ghost use Rattle.std.specs.Prelude.{◌≡◌, ◌<◌, ◌≤◌, ℕ, List, None, IfOk, string_bytes};
 ghost use Rattle.ulfm_lists.specs.Told.{more_at};
 ghost use Rattle.ulfm_lists.specs.Union.{AreAllAscii};
-ghost use Rattle.ulfm_replies.specs.Stopped.{asked_view};
+ghost use Rattle.ulfm_stops.specs.declared.place.Place.TheVariants.{Nowhere};
+ghost use Rattle.ulfm_replies.specs.Stopped.{IsAskedAt, asked_view};
+ghost use Rattle.ulfm_replies.specs.Wish.{choice_view};
+ghost use Rattle.ulfm_judged.specs.Chosen.{unknown_part};
 ghost use Rattle.ulfm_judged.specs.EachPlace.{IsEachPlaceReply};
 ghost use Rattle.ulfm_judged.specs.inside.Judging.{AreListedOf, AreSharing, IsEachText, lists_judgement, lists_status, lists_text};
 
+use crate::choosing::{chosen, no_name, printed, unknown_part};
 use crate::finding::asks;
 use crate::listed::{below, list_status};
 use crate::lists::Lists;
@@ -21,7 +25,7 @@ use std::thread::Threads;
 use ulfm_finder::Finder;
 use ulfm_found::Judgement;
 use ulfm_job::{JobFault, MOST_STEPS};
-use ulfm_lists::{lists_in, push_more_at, some_never_ends};
+use ulfm_lists::{lists_of, push_more_at, some_never_ends};
 use ulfm_reader::Reading;
 use ulfm_replies::{ListOptions, MOST_THREADS, PAST_LIMIT, Place, Reply, asked_at, refusal};
 use ulfm_stops::places;
@@ -38,13 +42,50 @@ where
     R: Threads + Sync,
     F: Finder + Sync,
     L: Onlooker + Sync,
-    ensures { IfOk result (λ r. IsEachPlaceReply search.now.form search.now.options stops bytes.now r.status (string_bytes r.text)) }
+    ensures { IfOk result (λ r. IsEachPlaceReply search.now.form (choice_view search.now.choice) search.now.options stops bytes.now r.status (string_bytes r.text)) }
 {
     let read = asked_at(search.alloc, search.form, Place::Nowhere, bytes)?;
-    let asked = match read {
-        Ok(asked) => asked,
-        Err(reply) => return Ok(reply),
-    };
+    match read {
+        Ok(asked) => named_reply(rt, search, stops, &asked, onlooker),
+        Err(reply) => Ok(reply),
+    }
+}
+
+/// The reply to what was asked for, or that it has no step of a name.
+fn named_reply<R, F, L>(
+    rt: &R,
+    search: &Search<'_, F>,
+    stops: u8,
+    asked: &Reading,
+    onlooker: &L,
+) -> Result<Reply, AllocError>
+where
+    R: Threads + Sync,
+    F: Finder + Sync,
+    L: Onlooker + Sync,
+    ensures { (bytes : List ℕ) → IsAskedAt Nowhere bytes (asked_view asked.now) → IfOk result (λ r. IsEachPlaceReply search.now.form (choice_view search.now.choice) search.now.options stops bytes r.status (string_bytes r.text)) }
+{
+    match unknown_part(search, asked)? {
+        Some(part) => no_name(search.alloc, part),
+        None => listed_reply(rt, search, stops, asked, onlooker),
+    }
+}
+
+/// The same where it has the steps that are named.
+fn listed_reply<R, F, L>(
+    rt: &R,
+    search: &Search<'_, F>,
+    stops: u8,
+    asked: &Reading,
+    onlooker: &L,
+) -> Result<Reply, AllocError>
+where
+    R: Threads + Sync,
+    F: Finder + Sync,
+    L: Onlooker + Sync,
+    requires { unknown_part (choice_view search.now.choice) (asked_view asked.now) ≡ None }
+    ensures { (bytes : List ℕ) → IsAskedAt Nowhere bytes (asked_view asked.now) → IfOk result (λ r. IsEachPlaceReply search.now.form (choice_view search.now.choice) search.now.options stops bytes r.status (string_bytes r.text)) }
+{
     if asked.job.len() + stops as usize > MOST_STEPS {
         return refusal(search.alloc, search.form, JobFault::TooLarge);
     }
@@ -52,7 +93,7 @@ where
     let threads = threads_of(rt, search.options);
     let lists = list_places(rt, search, &asked.job, places.as_slice(), threads, onlooker)?;
     onlooker.see_listed(lists.listed.len(), places.len());
-    judged(search, &asked, &lists, onlooker)
+    judged(search, asked, &lists, onlooker)
 }
 
 /// How many threads share the places: as many as are asked for, else as there are processors, 64 at most.
@@ -87,7 +128,7 @@ fn judged<F: Finder, L: Onlooker>(
 ) -> Result<Reply, AllocError>
     requires listed { AreListedOf (asked_view asked.now) search.now.options.limit lists.now.listed.items }
     requires ascii { AreAllAscii lists.now.listed.items }
-    ensures { IfOk result (λ r. IsEachText search.now.form search.now.options (asked_view asked.now) lists.now r.status (string_bytes r.text)) }
+    ensures { IfOk result (λ r. IsEachText search.now.form (choice_view search.now.choice) search.now.options (asked_view asked.now) lists.now r.status (string_bytes r.text)) }
 {
     match first_unwanted(search, asked, lists.listed.as_slice(), onlooker)? {
         Some(told) => {
@@ -106,7 +147,7 @@ fn alone<F: Finder, L: Onlooker>(
     onlooker: &L,
 ) -> Result<Reply, AllocError>
     requires ascii { AreAllAscii lists.now.listed.items }
-    ensures { IfOk result (λ r. (r.status ≡ lists_status search.now.options lists.now) × (string_bytes r.text ≡ lists_text search.now.form (asked_view asked.now) search.now.options lists.now (lists_judgement (asked_view asked.now) lists.now))) }
+    ensures { IfOk result (λ r. (r.status ≡ lists_status search.now.options lists.now) × (string_bytes r.text ≡ lists_text search.now.form (choice_view search.now.choice) (asked_view asked.now) search.now.options lists.now (lists_judgement (asked_view asked.now) lists.now))) }
 {
     let judgement = judgement_of(asked, lists);
     Ok(Reply {
@@ -134,21 +175,16 @@ fn text_of<F: Finder>(
     judgement: Judgement,
 ) -> Result<String, AllocError>
     requires ascii { AreAllAscii lists.now.listed.items }
-    ensures { IfOk result (λ text. string_bytes text ≡ lists_text search.now.form (asked_view asked.now) search.now.options lists.now judgement) }
+    ensures { IfOk result (λ text. string_bytes text ≡ lists_text search.now.form (choice_view search.now.choice) (asked_view asked.now) search.now.options lists.now judgement) }
 {
     match lists.past_limit {
         Some(place) => more_text(search, place),
         None => {
-            let names = asked.names.as_slice();
+            let steps = chosen(search, asked)?;
+            let steps = steps.as_slice();
             let listed = lists.listed.as_slice();
-            Ok(lists_in(
-                search.alloc,
-                search.form,
-                names,
-                &asked.job,
-                judgement,
-                listed,
-            )?)
+            let list = lists_of(search.alloc, &asked.job, steps, judgement, listed)?;
+            printed(search, asked, &list)
         }
     }
 }

@@ -6,10 +6,11 @@
 //! Each place is explored by itself. The places are parted into as many parts as there are threads, and what comes out is the same
 //! whatever their number.
 //!
-//! Read specs/Wanted.antt first (what a job doesn't want, over `IsTold` of `ulfm_finder`), and Outcomes.antt (the reply to one job), then
-//! Lists.antt, EachPlace.antt and ShowEach.antt (wherever ranks stop), which ListReply.antt puts together.
+//! Read specs/Wanted.antt first (what a job doesn't want, over `IsTold` of `ulfm_finder`), Chosen.antt (the list of the steps that are asked
+//! for) and Outcomes.antt (the reply to one job), then Lists.antt, EachPlace.antt and ShowEach.antt (wherever ranks stop), which ListReply.antt puts together.
 #![tactic(auto)]
 
+mod choosing;
 mod drawing;
 mod each_place;
 mod finding;

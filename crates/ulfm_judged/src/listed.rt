@@ -1,16 +1,19 @@
 //! The reply of `outcomes`: a line for each step, with all that it may be answered, and below it a schedule that shows what the job doesn't
 //! want.
-ghost use Rattle.std.specs.Prelude.{◌≡◌, ◌++◌, ℕ, List, Some, IfOk, option_map, string_bytes};
+ghost use Rattle.std.specs.Prelude.{◌≡◌, ◌++◌, ℕ, List, None, Some, IfOk, option_map, string_bytes};
 ghost use Rattle.ulfm_replies.specs.Stopped.{IsAskedAt, asked_view};
 ghost use Rattle.ulfm_reach.specs.declared.reach.Reach.TheVariants.{All};
 ghost use Rattle.ulfm_finder.specs.Outcomes.{IsList};
 ghost use Rattle.ulfm_found.specs.Judgement.{good_judgement};
-ghost use Rattle.ulfm_found.specs.Objects.{list_in, more_in};
+ghost use Rattle.ulfm_found.specs.Objects.{more_in};
 ghost use Rattle.ulfm_found.specs.Text.{AreAscii, some_never_ends};
+ghost use Rattle.ulfm_replies.specs.Wish.{choice_view};
+ghost use Rattle.ulfm_judged.specs.Chosen.{list_in, unknown_part};
 ghost use Rattle.ulfm_judged.specs.ListReply.{IsListReply, IsReplyBy, open_goal};
 ghost use Rattle.ulfm_judged.specs.Outcomes.{IsJudged, IsOutcomesReply, list_status};
 ghost use Rattle.ulfm_judged.specs.Wanted.{asks};
 
+use crate::choosing::{chosen, no_name, printed, unknown_part};
 use crate::drawing::{drawn_step, open_goal};
 use crate::each_place::each_place_reply;
 use crate::finding::asks;
@@ -23,7 +26,7 @@ use crate::verdicts::list_remarks;
 use std::alloc::AllocError;
 use std::thread::Threads;
 use ulfm_finder::Finder;
-use ulfm_found::{Judgement, OpenStep, list_in, more_in, some_never_end};
+use ulfm_found::{Judgement, OpenStep, list_of, more_in, some_never_end};
 use ulfm_reach::{Reach, Reached, Watch};
 use ulfm_reader::Reading;
 use ulfm_replies::{DONE, PAST_LIMIT, Reply, UNFINISHED, asked_at};
@@ -41,7 +44,7 @@ where
     R: Threads + Sync,
     F: Finder + Sync,
     W: Watch + Onlooker + Sync,
-    ensures { IfOk result (λ r. IsListReply search.now.form (option_map (λ s. s.now) show.entry) search.now.options bytes.now r.status (string_bytes r.text)) }
+    ensures { IfOk result (λ r. IsListReply search.now.form (option_map (λ s. s.now) show.entry) (choice_view search.now.choice) search.now.options bytes.now r.status (string_bytes r.text)) }
 {
     match drawn_step(search, show, bytes, &*watch)? {
         Some(left) => open_reply(rt, search, left, bytes, watch),
@@ -61,7 +64,7 @@ where
     R: Threads + Sync,
     F: Finder + Sync,
     W: Watch + Onlooker + Sync,
-    ensures { IfOk result (λ r. IsReplyBy search.now.form (Some (open_goal left.rank left.step)) search.now.options.stops search.now.options bytes.now r.status (string_bytes r.text)) }
+    ensures { IfOk result (λ r. IsReplyBy search.now.form (Some (open_goal left.rank left.step)) search.now.options.stops (choice_view search.now.choice) search.now.options bytes.now r.status (string_bytes r.text)) }
 {
     let goal = open_goal(search.alloc, left)?;
     reply_by(rt, search, Some(goal.as_str()), bytes, watch)
@@ -79,7 +82,7 @@ where
     R: Threads + Sync,
     F: Finder + Sync,
     W: Watch + Onlooker + Sync,
-    ensures { IfOk result (λ r. IsReplyBy search.now.form (option_map (λ s. s.now) show.entry) search.now.options.stops search.now.options bytes.now r.status (string_bytes r.text)) }
+    ensures { IfOk result (λ r. IsReplyBy search.now.form (option_map (λ s. s.now) show.entry) search.now.options.stops (choice_view search.now.choice) search.now.options bytes.now r.status (string_bytes r.text)) }
 {
     match (show, search.options.stops) {
         (Some(show), Some(stops)) => show_each_reply(search, stops, show, bytes, &*watch),
@@ -95,22 +98,37 @@ fn outcomes_reply<F: Finder, W: Watch>(
     bytes: &[u8],
     watch: &mut W,
 ) -> Result<Reply, AllocError>
-    ensures { IfOk result (λ r. IsOutcomesReply search.now.form search.now.options bytes.now r.status (string_bytes r.text)) }
+    ensures { IfOk result (λ r. IsOutcomesReply search.now.form (choice_view search.now.choice) search.now.options bytes.now r.status (string_bytes r.text)) }
 {
     let read = asked_at(search.alloc, search.form, search.options.place, bytes)?;
     match read {
-        Ok(asked) => explored_reply(search, &asked, watch),
+        Ok(asked) => named_reply(search, &asked, watch),
         Err(reply) => Ok(reply),
     }
 }
 
-/// The reply to what was asked for, with its place of stops.
+/// The reply to what was asked for, with its place of stops, or that it has no step of a name.
+fn named_reply<F: Finder, W: Watch>(
+    search: &Search<'_, F>,
+    asked: &Reading,
+    watch: &mut W,
+) -> Result<Reply, AllocError>
+    ensures { (bytes : List ℕ) → IsAskedAt search.now.options.place bytes (asked_view asked.now) → IfOk result (λ r. IsOutcomesReply search.now.form (choice_view search.now.choice) search.now.options bytes r.status (string_bytes r.text)) }
+{
+    match unknown_part(search, asked)? {
+        Some(part) => no_name(search.alloc, part),
+        None => explored_reply(search, asked, watch),
+    }
+}
+
+/// The same where it has the steps that are named.
 fn explored_reply<F: Finder, W: Watch>(
     search: &Search<'_, F>,
     asked: &Reading,
     watch: &mut W,
 ) -> Result<Reply, AllocError>
-    ensures { (bytes : List ℕ) → IsAskedAt search.now.options.place bytes (asked_view asked.now) → IfOk result (λ r. IsOutcomesReply search.now.form search.now.options bytes r.status (string_bytes r.text)) }
+    requires { unknown_part (choice_view search.now.choice) (asked_view asked.now) ≡ None }
+    ensures { (bytes : List ℕ) → IsAskedAt search.now.options.place bytes (asked_view asked.now) → IfOk result (λ r. IsOutcomesReply search.now.form (choice_view search.now.choice) search.now.options bytes r.status (string_bytes r.text)) }
 {
     let reach = search.outcomes(&asked.job, watch)?;
     reached_reply(search, asked, &reach, watch)
@@ -123,8 +141,9 @@ fn reached_reply<F: Finder, W: Watch>(
     reach: &Reach,
     watch: &mut W,
 ) -> Result<Reply, AllocError>
-    requires { IsList asked.now.job search.now.options.limit reach.now }
-    ensures { (bytes : List ℕ) → IsAskedAt search.now.options.place bytes (asked_view asked.now) → IfOk result (λ r. IsOutcomesReply search.now.form search.now.options bytes r.status (string_bytes r.text)) }
+    requires named { unknown_part (choice_view search.now.choice) (asked_view asked.now) ≡ None }
+    requires list { IsList asked.now.job search.now.options.limit reach.now }
+    ensures { (bytes : List ℕ) → IsAskedAt search.now.options.place bytes (asked_view asked.now) → IfOk result (λ r. IsOutcomesReply search.now.form (choice_view search.now.choice) search.now.options bytes r.status (string_bytes r.text)) }
 {
     match reach {
         Reach::All(reached) => judged(search, asked, reached, watch),
@@ -151,11 +170,11 @@ fn judged<F: Finder, W: Watch>(
     watch: &mut W,
 ) -> Result<Reply, AllocError>
     requires { IsList asked.now.job search.now.options.limit (All reached.now) }
-    ensures { IfOk result (λ r. IsJudged search.now.form search.now.options (asked_view asked.now) reached.now r.status (string_bytes r.text)) }
+    ensures { IfOk result (λ r. IsJudged search.now.form (choice_view search.now.choice) search.now.options (asked_view asked.now) reached.now r.status (string_bytes r.text)) }
 {
     match unwanted(search, None, asked, &reached.found, watch)? {
         Some(told) => {
-            let list = list_of(search, asked, reached, told.judgement)?;
+            let list = text_of(search, asked, reached, told.judgement)?;
             below(list, told.reply)
         }
         None => good(search, asked, reached, watch),
@@ -170,36 +189,30 @@ fn good<F: Finder, W: Watch>(
     watch: &mut W,
 ) -> Result<Reply, AllocError>
     requires { AreAscii reached.now.found }
-    ensures { IfOk result (λ r. (r.status ≡ list_status search.now.options.is_strict (some_never_ends reached.now.found)) × (string_bytes r.text ≡ list_in search.now.form asked.now.names.items asked.now.job (good_judgement (some_never_ends reached.now.found) (asks (asked_view asked.now))) reached.now)) }
+    ensures { IfOk result (λ r. (r.status ≡ list_status search.now.options.is_strict (some_never_ends reached.now.found)) × (string_bytes r.text ≡ list_in search.now.form (choice_view search.now.choice) (asked_view asked.now) (good_judgement (some_never_ends reached.now.found) (asks (asked_view asked.now))) reached.now)) }
 {
     let is_open = some_never_end(&reached.found);
     let judgement = Judgement::good(is_open, asks(asked));
     Ok(Reply {
         status: list_status(search.options.is_strict, is_open),
-        text: list_of(search, asked, reached, judgement)?,
+        text: text_of(search, asked, reached, judgement)?,
         remarks: list_remarks(search, asked, &reached.found, watch),
     })
 }
 
 /// The text of a whole list, which comes to this.
-fn list_of<F>(
+fn text_of<F>(
     search: &Search<'_, F>,
     asked: &Reading,
     reached: &Reached,
     judgement: Judgement,
 ) -> Result<String, AllocError>
     requires { AreAscii reached.now.found }
-    ensures { IfOk result (λ text. string_bytes text ≡ list_in search.now.form asked.now.names.items asked.now.job judgement reached.now) }
+    ensures { IfOk result (λ text. string_bytes text ≡ list_in search.now.form (choice_view search.now.choice) (asked_view asked.now) judgement reached.now) }
 {
-    let names = asked.names.as_slice();
-    Ok(list_in(
-        search.alloc,
-        search.form,
-        names,
-        &asked.job,
-        judgement,
-        reached,
-    )?)
+    let steps = chosen(search, asked)?;
+    let list = list_of(search.alloc, steps.as_slice(), judgement, reached)?;
+    printed(search, asked, &list)
 }
 
 /// The status of a list that has nothing else to tell.

@@ -11,7 +11,7 @@ use ulfm_job::Job;
 use ulfm_json::Form;
 use ulfm_lists::Told;
 use ulfm_reach::{Reach, Watch};
-use ulfm_replies::ListOptions;
+use ulfm_replies::{Choice, ListOptions};
 
 /// What a command looks by for outcomes and schedules.
 #[derive(Drop)]
@@ -24,6 +24,8 @@ pub struct Search<'a, F> {
     pub form: Form,
     /// How far is looked, among others.
     pub options: ListOptions,
+    /// Which lines a list has.
+    pub choice: Choice<'a>,
 }
 
 impl<F: Finder> Search<'_, F> {

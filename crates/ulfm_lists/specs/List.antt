@@ -1,13 +1,10 @@
 -- The lists of places as one list.
 use Rattle.std.specs.Prelude.{ℕ, ◌==◌, List, [], Some, length, map, not, sum_by}
-use Rattle.ulfm_found.specs.Listed.{ListView, ListedView, OutcomeView, OutcomesView, StepView, all_steps}
-use Rattle.ulfm_found.specs.Objects.{printed}
+use Rattle.ulfm_found.specs.Listed.{ListView, ListedView, OutcomeView, OutcomesView, StepView}
 use Rattle.ulfm_found.specs.declared.judgement.Judgement.{Judgement}
 use Rattle.ulfm_job.specs.Job.{JobView}
-use Rattle.ulfm_json.specs.declared.form.Form.{Form}
 use Rattle.ulfm_lists.specs.Union.{answers_of, places_with, some_never_ends}
 use Rattle.ulfm_lists.specs.declared.listed.Listed.{Listed}
-use Rattle.ulfm_reader.specs.declared.name.Name.{Name}
 
 -- an answer of the step k of the rank r, with its places
 abbrev pub placed : JobView → List Listed → ℕ → ℕ → List ℕ → OutcomeView
@@ -29,16 +26,12 @@ listed_at j listed s = record { at = s; told = told_of j listed s.rank s.number 
 abbrev pub states_of : List Listed → ℕ
 states_of listed = sum_by (λ (one : Listed). one.states) listed
 
--- the list of all steps of a job, which comes to this
-abbrev pub list_at : JobView → Judgement → List Listed → ListView
-list_at j judgement listed = record {
-  steps = map (listed_at j listed) (all_steps 0 j.scripts);
+-- the list of these steps of a job, where that of all comes to this
+abbrev pub list_at : JobView → List StepView → Judgement → List Listed → ListView
+list_at j steps judgement listed = record {
+  steps = map (listed_at j listed) steps;
   states = states_of listed;
   places = Some (length listed);
   never_ends = some_never_ends listed;
   judgement = judgement;
 }
-
--- the lists in this form
-abbrev pub lists_in : Form → List Name → JobView → Judgement → List Listed → List ℕ
-lists_in form names j judgement listed = printed form names (list_at j judgement listed)

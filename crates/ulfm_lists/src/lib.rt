@@ -1,7 +1,7 @@
 //! The lists of all outcomes of a job at its places, as one list, in words and as JSON: what each step of the file may be answered, and
 //! where. And what is told below a list: of an answer that isn't as it should be, and of the schedule that shows it.
 //!
-//!     let text = lists_in(alloc, form, names, &job, judgement, listed)?;
+//!     let list = lists_of(alloc, &job, steps, judgement, listed)?;
 //!     push_unmet(&mut text, form, Some(place), asked, unmet, &told)?;
 //!
 //! Read specs/Numbers.antt first (steps as the file numbers them, and at a place), then Union.antt (what all lists tell of a step, and
@@ -19,7 +19,7 @@ mod told;
 mod union;
 mod waits;
 
-pub use list::lists_in;
+pub use list::lists_of;
 pub use listed::Listed;
 pub use numbers::{filed_number, number_at};
 pub use opened::first_open;

@@ -1,56 +1,34 @@
 //! The lists of places as one list.
 ghost use Rattle.std.specs.Prelude.{◌≡◌, map, IfOk, string_bytes};
 ghost use Rattle.ulfm_found.specs.Listed.{list_view, listed_view, outcome_view, outcomes_view, step_view};
-ghost use Rattle.ulfm_lists.specs.List.{list_at, listed_at, lists_in, placed, states_of, told_of};
+ghost use Rattle.ulfm_lists.specs.List.{list_at, listed_at, placed, states_of, told_of};
 ghost use Rattle.ulfm_lists.specs.Union.{AreAllAscii};
 
 use crate::listed::Listed;
 use crate::union::{answers_of, places_with, some_never_ends};
 use std::alloc::{AllocError, Global};
 use ulfm_base::OutOfMemory;
-use ulfm_found::{
-    JobStep, Judgement, ListedStep, Outcome, Outcomes, StepList, push_list, steps_of,
-};
+use ulfm_found::{JobStep, Judgement, ListedStep, Outcome, Outcomes, StepList};
 use ulfm_job::Job;
-use ulfm_json::Form;
-use ulfm_reader::Name;
 
-/// The lists of places as one list, in this form: what each step of the file may be answered, and at which of them. The job's
-/// steps have these names, and the list comes to this.
+/// The lists of places as one list: what each of these steps of the file may be answered, and at which of them. That of all steps comes to
+/// this.
 ///
 /// # Errors
 ///
 /// `OutOfMemory` where a growth was refused, or more states than a number holds are to be counted.
-pub fn lists_in(
+pub fn lists_of<'a>(
     alloc: Global,
-    form: Form,
-    names: &[Name],
     job: &Job,
-    judgement: Judgement,
-    listed: &[Listed],
-) -> Result<String, OutOfMemory>
-    requires ascii { AreAllAscii listed.now }
-    ensures { IfOk result (λ text. string_bytes text ≡ lists_in form names.now job.now judgement listed.now) }
-{
-    let list = list_of(alloc, job, judgement, listed)?;
-    let mut text = String::new(alloc);
-    push_list(&mut text, form, names, &list)?;
-    Ok(text)
-}
-
-/// The list of all steps of a job, as the lists of places have them. It comes to this.
-fn list_of<'a>(
-    alloc: Global,
-    job: &'a Job,
+    steps: &[JobStep<'a>],
     judgement: Judgement,
     listed: &[Listed],
 ) -> Result<StepList<'a>, OutOfMemory>
     requires ascii { AreAllAscii listed.now }
-    ensures { IfOk result (λ list. list_view list ≡ list_at job.now judgement listed.now) }
+    ensures { IfOk result (λ list. list_view list ≡ list_at job.now (map step_view steps.now) judgement listed.now) }
 {
-    let steps = steps_of(alloc, job)?;
     Ok(StepList {
-        steps: listed_steps(alloc, job, listed, steps.as_slice())?,
+        steps: listed_steps(alloc, job, listed, steps)?,
         states: states_of(listed)?,
         places: Some(listed.len()),
         never_ends: some_never_ends(listed),

@@ -11,6 +11,7 @@
 mod counted;
 mod goal;
 mod misplaced;
+mod naming;
 mod notes;
 mod told;
 

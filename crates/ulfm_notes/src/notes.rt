@@ -2,6 +2,7 @@
 
 use crate::goal::goal_reason;
 use crate::misplaced::{misplaced_line, place_of};
+use crate::naming::name_line;
 use crate::told::{remarks_told, verdict_line};
 use std::alloc::{AllocError, Global};
 use std::io::Write;
@@ -102,8 +103,12 @@ fn notes_on(
     bytes: &[u8],
     reply: &Reply,
 ) -> Result<String, AllocError> {
-    if let Some(goal) = refused_goal(reply) {
-        return goal_line(alloc, wanted, bytes, reply.text.as_str(), goal);
+    match refused_text(reply) {
+        Some(Remark::NoGoal(goal)) => {
+            return goal_line(alloc, wanted, bytes, reply.text.as_str(), goal.as_str())
+        }
+        Some(Remark::NoName(name)) => return name_line(alloc, wanted, bytes, name.as_str()),
+        _ => {}
     }
     match (reply.status, wanted) {
         (JOB_REFUSED, _) if bytes.trim_ascii().is_empty() => String::from_str(alloc, EMPTY),
@@ -117,15 +122,10 @@ fn notes_on(
     }
 }
 
-/// The goal that names no answer of the job, if one doesn't.
-fn refused_goal(reply: &Reply) -> Option<&str> {
+/// The remark on a goal that names no answer of the job, or on a name that no step has, if there is one.
+fn refused_text(reply: &Reply) -> Option<&Remark> {
     let remarks = reply.remarks.as_ref()?;
-    for remark in remarks {
-        if let Remark::NoGoal(goal) = remark {
-            return Some(goal.as_str());
-        }
-    }
-    None
+    remarks.iter().find(|remark| matches!(remark, Remark::NoGoal(_) | Remark::NoName(_)))
 }
 
 /// Why a job is refused, and which stop put into it has no place there.

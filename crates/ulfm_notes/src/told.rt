@@ -77,7 +77,7 @@ fn head_of(remark: &Remark) -> Option<&'static str> {
         Remark::Mistaken(..) => Some(MISTAKEN),
         Remark::Skipped(_) => Some(SKIPPED),
         // (it is told in place of all others)
-        Remark::NoGoal(_) => None,
+        Remark::NoGoal(_) | Remark::NoName(_) => None,
         Remark::Verdict(_) | Remark::Hanging(_) => None,
     }
 }
@@ -101,7 +101,7 @@ fn line_of(alloc: Global, remark: &Remark) -> Result<String, AllocError> {
             push_texts(&mut line, texts.as_slice(), " and")?;
         }
         Remark::Verdict(_) | Remark::Hanging(_) => {}
-        Remark::NoGoal(goal) => line.push_str(goal.as_str())?,
+        Remark::NoGoal(text) | Remark::NoName(text) => line.push_str(text.as_str())?,
     }
     line.push_str("\n")?;
     Ok(line)

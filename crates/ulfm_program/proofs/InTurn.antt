@@ -5,6 +5,7 @@ use Rattle.std.proofs.lemmas.List.{drop_more, length-map, map-append, take_more}
 use Rattle.std.specs.Io.KnownBytes.{Appends}
 use Rattle.ulfm_json.specs.declared.form.Form.{Form}
 use Rattle.ulfm_replies.specs.declared.command.Wanted.{Wanted}
+use Rattle.ulfm_replies.specs.Wish.{WishView}
 use Rattle.ulfm_program.specs.Replies.{IsReplyIn}
 use Rattle.ulfm_program.specs.Files.{GetsAnswer, AreAnswers, none, first, ended, GetsAnswers, head_of}
 
@@ -83,12 +84,12 @@ pub several : {X : Type 0} (f : X → List ℕ) (xs ys : List X) → xs ≡ ys �
 several f xs ys same = ap (λ k. nat_lt 1 k) (ap length same ∙ sym (length-map ys f))
 
 -- the answers to what was read from the words are those to what they ask for
-pub answers_asked : (form read_form : Form) (show read_show : Option (List ℕ)) (files read_files : List (List ℕ)) (found : Option Wanted) (wanted read : Wanted) (old new : Option (List ℕ)) (status : ℕ)
-    → read_form ≡ form → read_show ≡ show → read_files ≡ files → found ≡ Some read → found ≡ Some wanted
-    → GetsAnswers (IsReplyIn read_form read_show read) read_files old new status → GetsAnswers (IsReplyIn form show wanted) files old new status
-answers_asked form read_form show read_show files read_files found wanted read old new status f s l r w h =
+pub answers_asked : (form read_form : Form) (wish read_wish : WishView) (files read_files : List (List ℕ)) (found : Option Wanted) (wanted read : Wanted) (old new : Option (List ℕ)) (status : ℕ)
+    → read_form ≡ form → read_wish ≡ wish → read_files ≡ files → found ≡ Some read → found ≡ Some wanted
+    → GetsAnswers (IsReplyIn read_form read_wish read) read_files old new status → GetsAnswers (IsReplyIn form wish wanted) files old new status
+answers_asked form read_form wish read_wish files read_files found wanted read old new status f s l r w h =
     let same : read ≡ wanted = cc in
-    subst (λ k. GetsAnswers (IsReplyIn form show k) files old new status) same
-    (subst (λ k. GetsAnswers (IsReplyIn form show read) k old new status) l
+    subst (λ k. GetsAnswers (IsReplyIn form wish k) files old new status) same
+    (subst (λ k. GetsAnswers (IsReplyIn form wish read) k old new status) l
     (subst (λ k. GetsAnswers (IsReplyIn form k read) read_files old new status) s
-    (subst (λ k. GetsAnswers (IsReplyIn k read_show read) read_files old new status) f h)))
+    (subst (λ k. GetsAnswers (IsReplyIn k read_wish read) read_files old new status) f h)))

@@ -8,21 +8,22 @@ use Rattle.ulfm_replies.specs.Failure.{out_of_memory_in}
 use Rattle.ulfm_replies.specs.Expanded as expanded
 use Rattle.ulfm_replies.specs.Places as places
 use Rattle.ulfm_replies.specs.Replies.{starved}
+use Rattle.ulfm_replies.specs.Wish.{WishView}
 use Rattle.ulfm_judged.proofs.Statuses.{starved_list}
 use Rattle.ulfm_program.specs.Replies.{AreRead, IsReplyIn, IsWhole, GetsReply, GetsBeginning, GetsFrontOf}
 use Rattle.ulfm_played.specs.Played.{failed, undrawn, fell}
 use Rattle.ulfm_played.specs.Sweep.{unswept}
 
 -- out of memory is a reply to any words, in the form that they ask for
-pub starved_reply : (form : Form) (show : Option (List ℕ)) (wanted : Wanted) (bytes : List ℕ) → IsReplyIn form show wanted bytes 3 (out_of_memory_in form)
-starved_reply form show Check bytes = starved
-starved_reply form show (Replay is_strict turns place) bytes = failed
-starved_reply form show (Run options) bytes = fell
-starved_reply form show Sweep bytes = unswept
-starved_reply form show (Outcomes options) bytes = starved_list form show options bytes
-starved_reply form show (Places stops) bytes = places.starved
-starved_reply form show Expand bytes = expanded.starved
-starved_reply form show (Draw style turns place) bytes = undrawn
+pub starved_reply : (form : Form) (wish : WishView) (wanted : Wanted) (bytes : List ℕ) → IsReplyIn form wish wanted bytes 3 (out_of_memory_in form)
+starved_reply form wish Check bytes = starved
+starved_reply form wish (Replay is_strict turns place) bytes = failed
+starved_reply form wish (Run options) bytes = fell
+starved_reply form wish Sweep bytes = unswept
+starved_reply form wish (Outcomes options) bytes = starved_list form wish.show wish.choice options bytes
+starved_reply form wish (Places stops) bytes = places.starved
+starved_reply form wish Expand bytes = expanded.starved
+starved_reply form wish (Draw style turns place) bytes = undrawn
 
 -- bytes that may have been read
 bytes_of : (input : Option (List ℕ)) → (bytes : List ℕ) × AreRead input bytes

@@ -10,23 +10,24 @@ use Rattle.ulfm_replies.specs.Expanded.{IsExpandReply}
 use Rattle.ulfm_replies.specs.Failure.{out_of_memory_text}
 use Rattle.ulfm_replies.specs.Places.{IsPlacesReply}
 use Rattle.ulfm_replies.specs.Replies.{IsCheckReply}
+use Rattle.ulfm_replies.specs.Wish.{WishView}
 use Rattle.ulfm_played.specs.Played.{IsDrawReply, IsReplayReply, IsRunReply}
 
--- the reply in this form to what the words ask for, with the answers that a schedule is to show
-abbrev pub IsReplyIn : Form → Option (List ℕ) → Wanted → List ℕ → ℕ → List ℕ → Type 0
-IsReplyIn form show Check bytes status text = IsCheckReply form bytes status text
-IsReplyIn form show (Replay is_strict turns place) bytes status text = IsReplayReply form is_strict turns place bytes status text
-IsReplyIn form show (Run options) bytes status text = IsRunReply form options bytes status text
-IsReplyIn form show Sweep bytes status text = IsSweepReply form bytes status text
-IsReplyIn form show (Outcomes options) bytes status text = IsListReply form show options bytes status text
-IsReplyIn form show (Places stops) bytes status text = IsPlacesReply form stops bytes status text
-IsReplyIn form show Expand bytes status text = IsExpandReply form bytes status text
-IsReplyIn form show (Draw style turns place) bytes status text = IsDrawReply form turns place bytes status text
+-- the reply in this form to what the words ask for, with what of outcomes is told
+abbrev pub IsReplyIn : Form → WishView → Wanted → List ℕ → ℕ → List ℕ → Type 0
+IsReplyIn form wish Check bytes status text = IsCheckReply form bytes status text
+IsReplyIn form wish (Replay is_strict turns place) bytes status text = IsReplayReply form is_strict turns place bytes status text
+IsReplyIn form wish (Run options) bytes status text = IsRunReply form options bytes status text
+IsReplyIn form wish Sweep bytes status text = IsSweepReply form bytes status text
+IsReplyIn form wish (Outcomes options) bytes status text = IsListReply form wish.show wish.choice options bytes status text
+IsReplyIn form wish (Places stops) bytes status text = IsPlacesReply form stops bytes status text
+IsReplyIn form wish Expand bytes status text = IsExpandReply form bytes status text
+IsReplyIn form wish (Draw style turns place) bytes status text = IsDrawReply form turns place bytes status text
 
 -- the reply in the form that the words ask for; or, where memory runs out before they are followed, the line in words that says so
-pub data IsReplyTo (form : Form) (show : Option (List ℕ)) (wanted : Wanted) (bytes : List ℕ) : ℕ → List ℕ → Type 0 where
-  followed : (status : ℕ) (text : List ℕ) → IsReplyIn form show wanted bytes status text → IsReplyTo form show wanted bytes status text
-  unfollowed : IsReplyTo form show wanted bytes 3 out_of_memory_text
+pub data IsReplyTo (form : Form) (wish : WishView) (wanted : Wanted) (bytes : List ℕ) : ℕ → List ℕ → Type 0 where
+  followed : (status : ℕ) (text : List ℕ) → IsReplyIn form wish wanted bytes status text → IsReplyTo form wish wanted bytes status text
+  unfollowed : IsReplyTo form wish wanted bytes 3 out_of_memory_text
 
 -- the line for words that can't be read
 abbrev pub not_text : List ℕ

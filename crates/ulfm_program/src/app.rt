@@ -1,10 +1,11 @@
 //! From words and bytes to a status and bytes.
-ghost use Rattle.std.specs.Prelude.{◌≢◌, ◌≡◌, ◌≤◌, ◌⊎◌, [], false, map, option_map, IsTrue};
+ghost use Rattle.std.specs.Prelude.{◌≢◌, ◌≡◌, ◌≤◌, ◌⊎◌, [], false, map, IsTrue};
 ghost use Rattle.std.specs.Io.KnownBytes.{Keeps, Appends};
 ghost use Rattle.ulfm_program.specs.Replies.{IsReplyIn, IsReplyTo, IsWhole, GetsReply, GetsBeginning, GetsFront, GetsFrontOf, not_text};
 ghost use Rattle.ulfm_replies.specs.declared.command.Wanted.{Wanted};
-ghost use Rattle.ulfm_replies.specs.CommandLine.{AsksFor, HasRanges, faults, form_asked, show_asked, IsWordsStatus};
+ghost use Rattle.ulfm_replies.specs.CommandLine.{AsksFor, HasRanges, faults, form_asked, IsWordsStatus};
 ghost use Rattle.ulfm_replies.specs.Failure.{out_of_memory_in, out_of_memory_text};
+ghost use Rattle.ulfm_replies.specs.Wish.{wish_asked, wish_view};
 
 use crate::far::Far;
 use crate::progress::Progress;
@@ -47,11 +48,11 @@ where
     W: Write,
     E: Write + Send,
     ensures replies { (wanted : Wanted) → AsksFor wanted (map S.text words.now) → IsWhole result
-        → GetsReply (IsReplyTo (form_asked (map S.text words.now)) (show_asked (map S.text words.now)) wanted) (R.remaining input.old) (W.contents output.old) (W.contents output.new) result }
+        → GetsReply (IsReplyTo (form_asked (map S.text words.now)) (wish_asked (map S.text words.now)) wanted) (R.remaining input.old) (W.contents output.old) (W.contents output.new) result }
     ensures in_form { R.remaining input.new ≢ R.remaining input.old → (wanted : Wanted) → AsksFor wanted (map S.text words.now) → IsWhole result
-        → GetsReply (IsReplyIn (form_asked (map S.text words.now)) (show_asked (map S.text words.now)) wanted) (R.remaining input.old) (W.contents output.old) (W.contents output.new) result }
+        → GetsReply (IsReplyIn (form_asked (map S.text words.now)) (wish_asked (map S.text words.now)) wanted) (R.remaining input.old) (W.contents output.old) (W.contents output.new) result }
     ensures cut_off { (wanted : Wanted) → AsksFor wanted (map S.text words.now) → result ≡ 4
-        → GetsBeginning (IsReplyTo (form_asked (map S.text words.now)) (show_asked (map S.text words.now)) wanted) (R.remaining input.old) (W.contents output.old) (W.contents output.new) }
+        → GetsBeginning (IsReplyTo (form_asked (map S.text words.now)) (wish_asked (map S.text words.now)) wanted) (R.remaining input.old) (W.contents output.old) (W.contents output.new) }
     ensures output_failed { result ≡ 4 → GetsFront (W.contents output.old) (W.contents output.new) }
     ensures input_failed { result ≡ 5 → Keeps (W.contents output.old) (W.contents output.new) }
     ensures words_first { result ≡ 2 → R.remaining input.new ≡ R.remaining input.old }
@@ -108,8 +109,8 @@ where
     W: Write,
     E: Write + Send,
     requires { HasRanges asked.now.wanted }
-    ensures replies { IsWhole result → GetsReply (IsReplyIn asked.now.form (option_map (λ s. s.now) asked.now.show) asked.now.wanted) (R.remaining input.old) (W.contents output.old) (W.contents output.new) result }
-    ensures cut_off { result ≡ 4 → GetsBeginning (IsReplyIn asked.now.form (option_map (λ s. s.now) asked.now.show) asked.now.wanted) (R.remaining input.old) (W.contents output.old) (W.contents output.new) }
+    ensures replies { IsWhole result → GetsReply (IsReplyIn asked.now.form (wish_view asked.now.wish) asked.now.wanted) (R.remaining input.old) (W.contents output.old) (W.contents output.new) result }
+    ensures cut_off { result ≡ 4 → GetsBeginning (IsReplyIn asked.now.form (wish_view asked.now.wish) asked.now.wanted) (R.remaining input.old) (W.contents output.old) (W.contents output.new) }
     ensures output_failed { result ≡ 4 → GetsFront (W.contents output.old) (W.contents output.new) }
     ensures input_failed { result ≡ 5 → Keeps (W.contents output.old) (W.contents output.new) }
     ensures no_usage { result ≢ 2 }

@@ -1,10 +1,11 @@
 //! Jobs by file.
-ghost use Rattle.std.specs.Prelude.{◌≡◌, ◌≢◌, ◌≤◌, ◌⊎◌, [], map, option_map, IsTrue};
+ghost use Rattle.std.specs.Prelude.{◌≡◌, ◌≢◌, ◌≤◌, ◌⊎◌, [], map, IsTrue};
 ghost use Rattle.std.specs.Io.KnownBytes.{Keeps, Appends};
 ghost use Rattle.ulfm_program.specs.Files.{GetsAnswer, GetsAnswers, head_of};
 ghost use Rattle.ulfm_program.specs.Replies.{IsReplyIn, IsReplyTo, IsWhole, GetsReply, GetsBeginning, GetsFront, GetsFrontOf, GetsStarved};
 ghost use Rattle.ulfm_replies.specs.declared.command.Wanted.{Wanted};
-ghost use Rattle.ulfm_replies.specs.CommandLine.{AsksFor, HasRanges, IsWordsStatus, asked, faults, files_in, form_asked, show_asked};
+ghost use Rattle.ulfm_replies.specs.CommandLine.{AsksFor, HasRanges, IsWordsStatus, asked, faults, files_in, form_asked};
+ghost use Rattle.ulfm_replies.specs.Wish.{wish_asked, wish_view};
 
 use crate::app::{follow, run_on, write_starved};
 use crate::page::{tell_unpaged, write_page};
@@ -43,18 +44,18 @@ where
     W: Write,
     E: Write + Send,
     ensures replies { files_in (asked (map S.text words.now)) ≡ [] → (wanted : Wanted) → AsksFor wanted (map S.text words.now) → IsWhole result
-        → GetsReply (IsReplyTo (form_asked (map S.text words.now)) (show_asked (map S.text words.now)) wanted) (R.remaining input.old) (W.contents output.old) (W.contents output.new) result }
+        → GetsReply (IsReplyTo (form_asked (map S.text words.now)) (wish_asked (map S.text words.now)) wanted) (R.remaining input.old) (W.contents output.old) (W.contents output.new) result }
     ensures in_form { files_in (asked (map S.text words.now)) ≡ [] → R.remaining input.new ≢ R.remaining input.old → (wanted : Wanted) → AsksFor wanted (map S.text words.now) → IsWhole result
-        → GetsReply (IsReplyIn (form_asked (map S.text words.now)) (show_asked (map S.text words.now)) wanted) (R.remaining input.old) (W.contents output.old) (W.contents output.new) result }
+        → GetsReply (IsReplyIn (form_asked (map S.text words.now)) (wish_asked (map S.text words.now)) wanted) (R.remaining input.old) (W.contents output.old) (W.contents output.new) result }
     ensures cut_off { files_in (asked (map S.text words.now)) ≡ [] → (wanted : Wanted) → AsksFor wanted (map S.text words.now) → result ≡ 4
-        → GetsBeginning (IsReplyTo (form_asked (map S.text words.now)) (show_asked (map S.text words.now)) wanted) (R.remaining input.old) (W.contents output.old) (W.contents output.new) }
+        → GetsBeginning (IsReplyTo (form_asked (map S.text words.now)) (wish_asked (map S.text words.now)) wanted) (R.remaining input.old) (W.contents output.old) (W.contents output.new) }
     ensures output_failed { files_in (asked (map S.text words.now)) ≡ [] → result ≡ 4 → GetsFront (W.contents output.old) (W.contents output.new) }
     ensures input_failed { files_in (asked (map S.text words.now)) ≡ [] → result ≡ 5 → Keeps (W.contents output.old) (W.contents output.new) }
     ensures words_first { result ≡ 2 → R.remaining input.new ≡ R.remaining input.old }
     ensures not_followed { faults (map S.text words.now) ≢ [] → (R.remaining input.new ≡ R.remaining input.old) × IsWordsStatus (faults (map S.text words.now)) result }
     ensures untouched { files_in (asked (map S.text words.now)) ≢ [] → R.remaining input.new ≡ R.remaining input.old }
     ensures of_files { files_in (asked (map S.text words.now)) ≢ [] → (wanted : Wanted) → AsksFor wanted (map S.text words.now) → GetsStarved (W.contents output.old) (W.contents output.new) result
-        ⊎ GetsAnswers (IsReplyIn (form_asked (map S.text words.now)) (show_asked (map S.text words.now)) wanted) (files_in (asked (map S.text words.now))) (W.contents output.old) (W.contents output.new) result }
+        ⊎ GetsAnswers (IsReplyIn (form_asked (map S.text words.now)) (wish_asked (map S.text words.now)) wanted) (files_in (asked (map S.text words.now))) (W.contents output.old) (W.contents output.new) result }
     ensures known { result ≤ 9 }
 {
     match asked_for(alloc, words) {
@@ -86,7 +87,7 @@ where
     W: Write,
     E: Write + Send,
     requires { HasRanges asked.now.wanted }
-    ensures answers { GetsAnswers (IsReplyIn asked.now.form (option_map (λ s. s.now) asked.now.show) asked.now.wanted) (map (λ f. f.now) asked.now.files.items) (W.contents output.old) (W.contents output.new) result }
+    ensures answers { GetsAnswers (IsReplyIn asked.now.form (wish_view asked.now.wish) asked.now.wanted) (map (λ f. f.now) asked.now.files.items) (W.contents output.old) (W.contents output.new) result }
     ensures known { result ≤ 9 }
 {
     let files = asked.files.as_slice();
@@ -121,7 +122,7 @@ where
     W: Write,
     E: Write + Send,
     requires { HasRanges asked.now.wanted }
-    ensures answer { GetsAnswer (IsReplyIn asked.now.form (option_map (λ s. s.now) asked.now.show) asked.now.wanted) (head_of has_head file.now) (W.contents output.old) (W.contents output.new) result }
+    ensures answer { GetsAnswer (IsReplyIn asked.now.form (wish_view asked.now.wish) asked.now.wanted) (head_of has_head file.now) (W.contents output.old) (W.contents output.new) result }
     ensures known { result ≤ 9 }
 {
     if !write_head(file, has_head, output) {

@@ -1,8 +1,9 @@
 //! The reply to a job's bytes.
-ghost use Rattle.std.specs.Prelude.{◌≡◌, ℕ, List, Option, false, IfOk, option_map, string_bytes};
+ghost use Rattle.std.specs.Prelude.{◌≡◌, false, IfOk, string_bytes};
 ghost use Rattle.ulfm_program.specs.Replies.{IsReplyIn};
 ghost use Rattle.ulfm_program.specs.inside.Threads.{needs_threads};
 ghost use Rattle.ulfm_replies.specs.CommandLine.{HasRanges};
+ghost use Rattle.ulfm_replies.specs.Wish.{WishView, wish_view};
 
 use std::alloc::{AllocError, Global};
 use std::sync::Wait;
@@ -28,7 +29,7 @@ where
     F: Finder + Sync,
     P: Watch + Onlooker + Sync,
     requires { HasRanges asked.now.wanted }
-    ensures { IfOk result (λ r. IsReplyIn asked.now.form (option_map (λ s. s.now) asked.now.show) asked.now.wanted bytes.now r.status (string_bytes r.text)) }
+    ensures { IfOk result (λ r. IsReplyIn asked.now.form (wish_view asked.now.wish) asked.now.wanted bytes.now r.status (string_bytes r.text)) }
 {
     let form = asked.form;
     match asked.wanted {
@@ -39,8 +40,9 @@ where
                 alloc,
                 form,
                 options,
+                choice: asked.wish.choice,
             };
-            list_reply(rt, &search, asked.show, bytes, watch)
+            list_reply(rt, &search, asked.wish.show, bytes, watch)
         }
         _ => plain_reply(alloc, form, asked.wanted, bytes),
     }
@@ -50,7 +52,7 @@ where
 fn plain_reply(alloc: Global, form: Form, wanted: Wanted, bytes: &[u8]) -> Result<Reply, AllocError>
     requires ranges { HasRanges wanted }
     requires plain { needs_threads wanted ≡ false }
-    ensures { IfOk result (λ r. (show : Option (List ℕ)) → IsReplyIn form show wanted bytes.now r.status (string_bytes r.text)) }
+    ensures { IfOk result (λ r. (wish : WishView) → IsReplyIn form wish wanted bytes.now r.status (string_bytes r.text)) }
 {
     match wanted {
         Wanted::Check => check_reply(alloc, form, bytes),

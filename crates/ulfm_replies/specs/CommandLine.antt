@@ -154,15 +154,6 @@ abbrev pub files_in : Option (Text × List Row) → List Text
 files_in None = []
 files_in (Some p) = unwrap_or (all_of (codes "file") p.1) []
 
--- the answers that a schedule is to show, where the words ask for one
-abbrev pub show_in : Option (Text × List Row) → Option Text
-show_in None = None
-show_in (Some p) = first_of (codes "show") p.1
-
--- the same by the words
-abbrev pub show_asked : List Text → Option Text
-show_asked words = show_in (asked words)
-
 -- the form that a command's options ask for
 abbrev pub form_of : List Row → Form
 form_of rows = if is_flagged (codes "json") rows then Json else Words

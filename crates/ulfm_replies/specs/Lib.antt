@@ -1,5 +1,6 @@
 pub mod Rules
 pub mod CommandLine
+pub mod Wish
 pub mod Asked
 pub mod Asking
 pub mod Failure

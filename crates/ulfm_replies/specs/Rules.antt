@@ -96,6 +96,10 @@ show_rule = record (new_rule (codes "show")) { long = Some (codes "show"); value
 abbrev pub html_rule : Rule
 html_rule = record (new_rule (codes "html")) { long = Some (codes "html"); value_names = 1 }
 
+-- the option `--only` with one value
+abbrev pub only_rule : Rule
+only_rule = record (new_rule (codes "only")) { long = Some (codes "only"); value_names = 1 }
+
 -- a flag of this name
 abbrev pub flag_rule : Text → Rule
 flag_rule name = record (new_rule name) { long = Some name; action = Some SetTrue }
@@ -124,9 +128,13 @@ most_threads = 64
 abbrev pub stops_rule : Rule
 stops_rule = number_rule (codes "stops") most_stops
 
--- a command with what tells people of lists: the flag `--color` and the option `--html`
+-- a command with what chooses lines of a list: the option `--only` and the flag `--notes`
+abbrev pub of_chosen : App → App
+of_chosen app = with_rule (with_rule app only_rule) (flag_rule (codes "notes"))
+
+-- a command with what tells people of lists, the flag `--color` and the option `--html`, and with those
 abbrev pub of_told : App → App
-of_told app = with_rule (with_rule app (flag_rule (codes "color"))) html_rule
+of_told app = of_chosen (with_rule (with_rule app (flag_rule (codes "color"))) html_rule)
 
 -- a command with the options of places, `--stops` and `--threads`, and with these
 abbrev pub of_places : App → App

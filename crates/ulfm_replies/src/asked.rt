@@ -1,8 +1,9 @@
 //! What the words ask for, or what is said in place of it.
-ghost use Rattle.std.specs.Prelude.{◌≡◌, [], Some, map, option_map, IfErr, IfOk, OnOk};
+ghost use Rattle.std.specs.Prelude.{◌≡◌, [], Some, map, IfErr, IfOk, OnOk};
 ghost use Rattle.clap.specs.Words.{kind_of};
 ghost use Rattle.ulfm_replies.specs.Asked.{IsTold, IsToldAs};
-ghost use Rattle.ulfm_replies.specs.CommandLine.{HasRanges, asked, faults, files_in, form_asked, meant, show_asked};
+ghost use Rattle.ulfm_replies.specs.CommandLine.{HasRanges, asked, faults, files_in, form_asked, meant};
+ghost use Rattle.ulfm_replies.specs.Wish.{wish_asked, wish_view};
 
 use crate::command::{Asked, asked_of};
 use crate::tips::tipped;
@@ -30,7 +31,7 @@ pub enum Unfollowed {
 pub fn asked_for<'a, S: AsStr>(alloc: Global, words: &'a [S]) -> Result<Asked<'a>, Unfollowed>
     ensures ok { IfOk result (λ a. meant (asked (map S.text words.now)) ≡ Some a.wanted) }
     ensures form { IfOk result (λ a. a.form ≡ form_asked (map S.text words.now)) }
-    ensures show { IfOk result (λ a. option_map (λ s. s.now) a.show ≡ show_asked (map S.text words.now)) }
+    ensures wish { IfOk result (λ a. wish_view a.wish ≡ wish_asked (map S.text words.now)) }
     ensures files { IfOk result (λ a. map (λ f. f.now) a.files.items ≡ files_in (asked (map S.text words.now))) }
     ensures ranges { IfOk result (λ a. HasRanges a.wanted) }
     ensures no_fault { OnOk result (faults (map S.text words.now) ≡ []) }

@@ -1,7 +1,8 @@
 //! The command line.
 ghost use Rattle.std.specs.Prelude.{◌≡◌, [], codes, Some, map, option_map, unwrap_or, IfOk, IfSome};
 ghost use Rattle.clap.specs.Words.{FailsBy, all_of, first_of, found_of, rows_of, subcommand_rows_of};
-ghost use Rattle.ulfm_replies.specs.CommandLine.{AreInRange, HasRanges, asked, carrier_named, faults, form_asked, form_in, form_of, AreTurns, files_in, meant, named, named_at, run_options, show_asked, show_in, turns_in};
+ghost use Rattle.ulfm_replies.specs.CommandLine.{AreInRange, HasRanges, asked, carrier_named, faults, form_asked, form_in, form_of, AreTurns, files_in, meant, named, named_at, run_options, turns_in};
+ghost use Rattle.ulfm_replies.specs.Wish.{wish_asked, wish_view};
 
 use crate::flagged::{is_flagged, is_strict, style_of};
 use crate::listed::listed;
@@ -10,6 +11,7 @@ use crate::options::MOST_RUNS;
 use crate::placed::{place_in, stops_wanted};
 use crate::subcommands::command_line;
 use crate::unmeant::unmeant;
+use crate::wish::{Wish, wish_in};
 use clap::error::ErrorKind;
 use clap::{ArgMatches, Command, Error};
 use std::alloc::{AllocError, Global};
@@ -107,8 +109,8 @@ pub struct Asked<'a> {
     pub wanted: Wanted,
     /// In which form.
     pub form: Form,
-    /// The answers that a schedule is to show, where they ask for one.
-    pub show: Option<&'a str>,
+    /// What of a job's outcomes is told.
+    pub wish: Wish<'a>,
     /// The files that they name, in their order. Where there are none, the job comes on standard input.
     pub files: Vec<&'a str>,
     /// Where a page of lists is to be written, where it is to be: for people, and none of it is promised.
@@ -121,7 +123,7 @@ pub struct Asked<'a> {
 pub fn asked_of<'a, S: AsStr>(alloc: Global, words: &'a [S]) -> Result<Asked<'a>, Error>
     ensures wanted { IfOk result (λ a. meant (asked (map S.text words.now)) ≡ Some a.wanted) }
     ensures form { IfOk result (λ a. a.form ≡ form_asked (map S.text words.now)) }
-    ensures show { IfOk result (λ a. option_map (λ s. s.now) a.show ≡ show_asked (map S.text words.now)) }
+    ensures wish { IfOk result (λ a. wish_view a.wish ≡ wish_asked (map S.text words.now)) }
     ensures files { IfOk result (λ a. map (λ f. f.now) a.files.items ≡ files_in (asked (map S.text words.now))) }
     ensures ranges { IfOk result (λ a. HasRanges a.wanted) }
     ensures kinds { FailsBy (faults (map S.text words.now)) result }
@@ -132,7 +134,7 @@ pub fn asked_of<'a, S: AsStr>(alloc: Global, words: &'a [S]) -> Result<Asked<'a>
         Some(wanted) => Ok(Asked {
             wanted,
             form: form_in(&matches),
-            show: show_in(&matches),
+            wish: wish_in(&matches),
             files: files_in(alloc, &matches)?,
             page: page_in(&matches),
             has_colour: has_colour(&matches),
@@ -234,16 +236,6 @@ fn form_of(options: &ArgMatches<'_>) -> Form
         Form::Json
     } else {
         Form::Words
-    }
-}
-
-/// The answers that a schedule is to show, by what was found in the words.
-fn show_in<'a>(matches: &ArgMatches<'a>) -> Option<&'a str>
-    ensures { option_map (λ s. s.now) result ≡ show_in (subcommand_rows_of matches.now) }
-{
-    match matches.subcommand() {
-        Some((_, options)) => value_of(options, "show"),
-        None => None,
     }
 }
 

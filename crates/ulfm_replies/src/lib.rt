@@ -5,7 +5,7 @@
 //!
 //! [`asked_for`] reads the words, and [`check_reply`] tells of a job. The statuses of the program are constants of this crate.
 //!
-//! Read specs/CommandLine.antt first (what words ask for), then Stopped.antt (what a text asks for, with the stops of a place), then
+//! Read specs/CommandLine.antt first (what words ask for), then Wish.antt (what of outcomes is told), Stopped.antt (what a text asks for, with the stops of a place), then
 //! Replies.antt (texts and statuses).
 #![tactic(auto)]
 
@@ -30,6 +30,7 @@ mod unmeant;
 mod unmet;
 mod verdict;
 mod version;
+mod wish;
 mod written;
 
 pub use asked::{Unfollowed, asked_for};
@@ -49,4 +50,5 @@ pub use ulfm_json::Form;
 pub use ulfm_stops::Place;
 pub use unmet::push_unmet_answers;
 pub use verdict::{Extent, Verdict, Where};
+pub use wish::{Choice, Wish};
 pub use written::places_reply;

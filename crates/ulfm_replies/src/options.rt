@@ -1,7 +1,7 @@
 //! The options of the commands.
 ghost use Rattle.std.specs.Prelude.{◌≡◌, false};
 ghost use Rattle.clap.specs.Words.{rule_of};
-ghost use Rattle.ulfm_replies.specs.Rules.{brief_rule, carrier_rule, flag_rule, html_rule, json_rule, file_rule, number_rule, progress_rule, show_rule, stop_rule, stops_rule, strict_rule, turns_rule};
+ghost use Rattle.ulfm_replies.specs.Rules.{brief_rule, carrier_rule, flag_rule, html_rule, json_rule, file_rule, number_rule, only_rule, progress_rule, show_rule, stop_rule, stops_rule, strict_rule, turns_rule};
 
 use clap::builder::ValueParser;
 use clap::{Arg, ArgAction};
@@ -111,6 +111,19 @@ pub fn show_option<'a>(alloc: Global) -> Arg<'a>
         .long("show")
         .value_name("GOALS")
         .help("Prints a schedule with these answers, as '0.commit agreed 1; 2.5 never ends'")
+}
+
+/// The option `--only`.
+pub fn only_option<'a>(alloc: Global) -> Arg<'a>
+    ensures rule { rule_of result ≡ only_rule }
+    ensures local { result.global ≡ false }
+{
+    Arg::new(alloc, "only")
+        .long("only")
+        .value_name("STEPS")
+        .help(
+            "Lists the lines of these steps alone, by their names or as 1.5, with commas between them",
+        )
 }
 
 /// The option `--html`.

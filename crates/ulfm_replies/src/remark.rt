@@ -38,6 +38,8 @@ pub enum Remark {
     Hanging(String),
     /// This text names no answer of the job.
     NoGoal(String),
+    /// No step of the job has this name.
+    NoName(String),
     /// A step has an answer that is nearly always a mistake of the script: how it begins, and at which places, where some are looked at.
     Mistaken(StepTold, &'static str, Vec<Place>),
 }
@@ -147,10 +149,21 @@ impl Remark {
     /// That a text names no answer of the job, alone. Nothing where a growth was refused.
     pub fn no_goal(alloc: Global, goal: &str) -> Option<Vec<Remark>> {
         let goal = String::from_str(alloc, goal).ok()?;
-        let mut remarks = Vec::new(alloc);
-        remarks.push(Remark::NoGoal(goal)).ok()?;
-        Some(remarks)
+        alone(alloc, Remark::NoGoal(goal))
     }
+
+    /// That no step of the job has a name, alone. Nothing where a growth was refused.
+    pub fn no_name(alloc: Global, name: &str) -> Option<Vec<Remark>> {
+        let name = String::from_str(alloc, name).ok()?;
+        alone(alloc, Remark::NoName(name))
+    }
+}
+
+/// A remark alone.
+fn alone(alloc: Global, remark: Remark) -> Option<Vec<Remark>> {
+    let mut remarks = Vec::new(alloc);
+    remarks.push(remark).ok()?;
+    Some(remarks)
 }
 
 /// Whether a step of a rank asks for a clause.

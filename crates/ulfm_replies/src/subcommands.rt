@@ -2,13 +2,13 @@
 ghost use Rattle.std.specs.Prelude.{◌≡◌, false, IfOk};
 ghost use Rattle.clap.specs.declared.builder.command.Command.TheViews.{out-Command};
 ghost use Rattle.clap.specs.Words.{App, app_of, with_subcommand};
-ghost use Rattle.ulfm_replies.specs.Rules.{check_app, demanding_app, draw_app, expand_app, of_jobs, of_pictures, of_places, of_schedules, of_stopped, of_told, outcomes_app, places_app, replay_app, run_app, sweep_app, tool_app};
+ghost use Rattle.ulfm_replies.specs.Rules.{check_app, demanding_app, draw_app, expand_app, of_chosen, of_jobs, of_pictures, of_places, of_schedules, of_stopped, of_told, outcomes_app, places_app, replay_app, run_app, sweep_app, tool_app};
 
 use crate::help::{ABOUT, HELP};
 use crate::options::{
     MOST_RUNS, MOST_STATES, MOST_THREADS, brief_flag, carrier_option, files, html_option,
-    json_flag, number_option, plain_flag, progress_flag, show_option, stop_option, stops_option,
-    strict_flag, turns_option,
+    json_flag, number_option, only_option, plain_flag, progress_flag, show_option, stop_option,
+    stops_option, strict_flag, turns_option,
 };
 use crate::version::VERSION;
 use clap::Command;
@@ -183,7 +183,22 @@ fn of_places<'a>(alloc: Global, command: Command<'a>) -> Result<Command<'a>, All
     of_told(alloc, command)
 }
 
-/// A command with what tells people of lists: the flag `--color` and the option `--html`.
+/// A command with what chooses lines of a list: the option `--only` and the flag `--notes`.
+fn of_chosen<'a>(alloc: Global, command: Command<'a>) -> Result<Command<'a>, AllocError>
+    requires { (out-Command command).has_globals ≡ false }
+    ensures app { IfOk result (λ r. app_of r ≡ of_chosen (app_of command.entry)) }
+    ensures local { IfOk result (λ r. (out-Command r).has_globals ≡ false) }
+{
+    let command = command.arg(only_option(alloc))?;
+    let notes = plain_flag(
+        alloc,
+        "notes",
+        "Lists the lines of notes alone, or beside those of --only",
+    );
+    command.arg(notes)
+}
+
+/// A command with what tells people of lists, the flag `--color` and the option `--html`, and with what chooses their lines.
 fn of_told<'a>(alloc: Global, command: Command<'a>) -> Result<Command<'a>, AllocError>
     requires { (out-Command command).has_globals ≡ false }
     ensures app { IfOk result (λ r. app_of r ≡ of_told (app_of command.entry)) }
@@ -195,7 +210,8 @@ fn of_told<'a>(alloc: Global, command: Command<'a>) -> Result<Command<'a>, Alloc
         "Marks what a list comes to, on standard error, as ./ulfm asks where that is a terminal",
     );
     let command = command.arg(color)?;
-    command.arg(html_option(alloc))
+    let command = command.arg(html_option(alloc))?;
+    of_chosen(alloc, command)
 }
 
 /// The command `places` with its option.

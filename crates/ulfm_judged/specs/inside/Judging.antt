@@ -4,7 +4,6 @@ use Rattle.ulfm_job.specs.declared.clause.Clause.{Clause}
 use Rattle.ulfm_job.specs.Job.{JobView}
 use Rattle.ulfm_stops.specs.Place.{IsPlaceOf, job_at}
 use Rattle.ulfm_stops.specs.declared.place.Place.{Place}
-use Rattle.ulfm_lists.specs.List.{lists_in}
 use Rattle.ulfm_lists.specs.Union.{some_never_ends}
 use Rattle.ulfm_lists.specs.declared.listed.Listed.{Listed}
 use Rattle.ulfm_judged.specs.declared.lists.Lists.{Lists}
@@ -18,6 +17,8 @@ use Rattle.ulfm_found.specs.declared.judgement.Judgement.{Judgement}
 use Rattle.ulfm_found.specs.declared.judgement.Judgement.TheVariants.{NotKnown}
 use Rattle.ulfm_judged.specs.EachPlace.{IsJudgedEach, IsToldAt, IsUnfound, places_in}
 use Rattle.ulfm_lists.specs.Told.{more_at}
+use Rattle.ulfm_replies.specs.Wish.{ChoiceView}
+use Rattle.ulfm_judged.specs.Chosen.{lists_in}
 use Rattle.ulfm_judged.specs.Outcomes.{list_status, nowhere_in}
 use Rattle.ulfm_judged.specs.ShowEach.{AreGoalsAt, IsNowhereAt}
 use Rattle.ulfm_judged.specs.Wanted.{HasList, IsToldOf, IsWanted, asks}
@@ -92,18 +93,18 @@ abbrev pub lists_judgement : Asked → Lists → Judgement
 lists_judgement asked lists = judgement_past asked lists.listed.items lists.past_limit
 
 -- the text of lists that come to this, or that they come past the limit
-abbrev pub text_past : Form → Asked → ListOptions → List Listed → Option Place → Judgement → List ℕ
-text_past form asked options listed None judgement = lists_in form asked.names asked.job judgement listed
-text_past form asked options listed (Some place) judgement = more_at form options.limit place
+abbrev pub text_past : Form → ChoiceView → Asked → ListOptions → List Listed → Option Place → Judgement → List ℕ
+text_past form choice asked options listed None judgement = lists_in form choice asked judgement listed
+text_past form choice asked options listed (Some place) judgement = more_at form options.limit place
 
 -- that of these lists
-abbrev pub lists_text : Form → Asked → ListOptions → Lists → Judgement → List ℕ
-lists_text form asked options lists judgement = text_past form asked options lists.listed.items lists.past_limit judgement
+abbrev pub lists_text : Form → ChoiceView → Asked → ListOptions → Lists → Judgement → List ℕ
+lists_text form choice asked options lists judgement = text_past form choice asked options lists.listed.items lists.past_limit judgement
 
 -- the status of lists and their text, with what is told below it
-abbrev pub IsEachText : Form → ListOptions → Asked → Lists → ℕ → List ℕ → Type 0
-IsEachText form options asked lists status text = (judgement : Judgement) × (told : List ℕ)
-    × IsJudgedEach form options asked (places_in lists.listed.items) (lists_judgement asked lists) (lists_status options lists) judgement status told × (text ≡ lists_text form asked options lists judgement ++ told)
+abbrev pub IsEachText : Form → ChoiceView → ListOptions → Asked → Lists → ℕ → List ℕ → Type 0
+IsEachText form choice options asked lists status text = (judgement : Judgement) × (told : List ℕ)
+    × IsJudgedEach form options asked (places_in lists.listed.items) (lists_judgement asked lists) (lists_status options lists) judgement status told × (text ≡ lists_text form choice asked options lists judgement ++ told)
 
 -- a search at a place for answers came to nothing, since no schedule shows them, or to what is told
 abbrev pub IsLookAt : JobView → List Clause → Bool → ℕ → Place → Option Told → Type 0

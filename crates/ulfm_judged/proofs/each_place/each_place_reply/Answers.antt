@@ -1,34 +1,11 @@
-use Rattle.std.proofs.Common.{All, string_bytes, subst, sym, ◌∙◌, arith}
-use Rattle.std.proofs.lemmas.Result.{IfOk-weaker}
-use Rattle.ulfm_stops.specs.Place.{IsPlaceOf}
+use Rattle.std.proofs.Common.{subst}
+use Rattle.ulfm_replies.specs.Stopped.{IsAsked}
 use Rattle.ulfm_stops.specs.declared.place.Place.TheVariants.{Nowhere}
-use Rattle.ulfm_replies.specs.Stopped.{IsAsked, asked_view}
-use Rattle.ulfm_judged.specs.EachPlace.{no_room_for_stops, not_listed_at_all}
-use Rattle.ulfm_judged.proofs.EachPlace.{each_as, lists-writable, lists_of}
+use Rattle.ulfm_judged.specs.EachPlace.{not_listed_at_all}
 use Rattle.ulfm_judged.proofs.each_place.each_place_reply.Goals as goal
+
+pub returns-in-Ok : goal.returns-in-Ok
+returns-in-Ok g c = c.named_reply.ensures c.args.bytes.now (subst (IsAsked c.args.search.now.form Nowhere c.args.bytes.now) c.in-Ok.is c.in_ok-read.ensures)
 
 pub returns-in-Err : goal.returns-in-Err
 returns-in-Err g c = not_listed_at_all _ _ (subst (IsAsked c.args.search.now.form Nowhere c.args.bytes.now) c.in-Err.is c.in_ok-read.ensures)
-
-pub returns-then-len-stops-gt-MOST_STEPS : goal.returns-then-len-stops-gt-MOST_STEPS
-returns-then-len-stops-gt-MOST_STEPS g c =
-    let read = subst (IsAsked c.args.search.now.form Nowhere c.args.bytes.now) c.in-Ok.is c.in_ok-read.ensures in
-    IfOk-weaker c.refusal.result _ _ (λ r h. rw (h.0, h.1) (no_room_for_stops (asked_view c.in-Ok.asked) read (omega (arith, c.len.ensures.exact, c.if-len-stops-gt-MOST_STEPS.true)))) c.refusal.ensures
-
-pub judged-requires-clause-listed : goal.judged-requires-clause-listed
-judged-requires-clause-listed g c =
-    let asked = asked_view c.in-Ok.asked in
-    lists_of asked c.args.search.now.options.limit c.as_slice.result.now c.in_ok-lists.lists.listed.items c.in_ok-lists.lists.past_limit c.in_ok-lists.ensures
-    (subst (All (IsPlaceOf asked.job)) (sym c.as_slice.ensures.value) c.in_ok-places.ensures.inside)
-
-pub judged-requires-clause-ascii : goal.judged-requires-clause-ascii
-judged-requires-clause-ascii g c =
-    lists-writable c.in-Ok.asked.job c.args.search.now.options.limit c.as_slice.result.now c.in_ok-lists.lists.listed.items c.in_ok-lists.lists.past_limit c.in_ok-lists.ensures
-
-pub returns : goal.returns
-returns g c =
-    let asked = asked_view c.in-Ok.asked in
-    let read = subst (IsAsked c.args.search.now.form Nowhere c.args.bytes.now) c.in-Ok.is c.in_ok-read.ensures in
-    let lists = c.in_ok-lists.lists in
-    IfOk-weaker c.judged.result _ _ (λ r h. each_as c.args.search.now.form c.args.search.now.options c.args.stops c.args.bytes.now asked c.as_slice.result.now lists.listed.items lists.past_limit h.0 r.status (string_bytes r.text) h.1
-    read c.in_ok-lists.ensures (c.as_slice.ensures.value ∙ c.in_ok-places.ensures.exact) h.2 h.3) c.judged.ensures

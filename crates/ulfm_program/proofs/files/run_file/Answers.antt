@@ -1,5 +1,6 @@
-use Rattle.std.proofs.Common.{[], option_map}
+use Rattle.std.proofs.Common.{[]}
 use Rattle.ulfm_replies.specs.Failure.{out_of_memory_in}
+use Rattle.ulfm_replies.specs.Wish.{wish_view}
 use Rattle.ulfm_program.specs.Files.{head_of}
 use Rattle.ulfm_program.specs.Replies.{IsReplyIn}
 use Rattle.ulfm_program.proofs.Answered.{head_cut, file_unread, file_answered}
@@ -8,17 +9,17 @@ use Rattle.ulfm_program.proofs.files.run_file.Goals as goal
 
 pub returns-then-not-write_head-clause-answer : goal.returns-then-not-write_head-clause-answer
 returns-then-not-write_head-clause-answer g c =
-    let show = option_map (λ s. s.now) c.args.asked.now.show in
-    head_cut (IsReplyIn c.args.asked.now.form show c.args.asked.now.wanted) (head_of c.args.has_head c.args.file.now) _ _ [] 3 (out_of_memory_in c.args.asked.now.form)
-    (starved_reply c.args.asked.now.form show c.args.asked.now.wanted []) c.write_head.ensures.beginning
+    let wish = wish_view c.args.asked.now.wish in
+    head_cut (IsReplyIn c.args.asked.now.form wish c.args.asked.now.wanted) (head_of c.args.has_head c.args.file.now) _ _ [] 3 (out_of_memory_in c.args.asked.now.form)
+    (starved_reply c.args.asked.now.form wish c.args.asked.now.wanted []) c.write_head.ensures.beginning
 
 pub returns-after-status-eq-INPUT_FAILED-clause-answer : goal.returns-after-status-eq-INPUT_FAILED-clause-answer
 returns-after-status-eq-INPUT_FAILED-clause-answer g c =
-    let show = option_map (λ s. s.now) c.args.asked.now.show in
-    file_answered (IsReplyIn c.args.asked.now.form show c.args.asked.now.wanted) (head_of c.args.has_head c.args.file.now) _ _ _ _ _ (c.write_head.ensures.written c.if-not-write_head.false)
+    let wish = wish_view c.args.asked.now.wish in
+    file_answered (IsReplyIn c.args.asked.now.form wish c.args.asked.now.wanted) (head_of c.args.has_head c.args.file.now) _ _ _ _ _ (c.write_head.ensures.written c.if-not-write_head.false)
     c.follow-status.ensures.replies c.follow-status.ensures.cut_off c.follow-status.ensures.input_failed
 
 pub returns-in-Err-clause-answer : goal.returns-in-Err-clause-answer
 returns-in-Err-clause-answer g c =
-    let show = option_map (λ s. s.now) c.args.asked.now.show in
-    file_unread (IsReplyIn c.args.asked.now.form show c.args.asked.now.wanted) (head_of c.args.has_head c.args.file.now) _ _ (c.write_head.ensures.written c.if-not-write_head.false)
+    let wish = wish_view c.args.asked.now.wish in
+    file_unread (IsReplyIn c.args.asked.now.form wish c.args.asked.now.wanted) (head_of c.args.has_head c.args.file.now) _ _ (c.write_head.ensures.written c.if-not-write_head.false)

@@ -4,7 +4,8 @@ use Rattle.clap.specs.declared.error.kind.ErrorKind.TheVariants.{OutOfMemory}
 use Rattle.clap.specs.Kinds.{HasKind, or_else}
 use Rattle.clap.specs.Words.{App, Kinds, IsAmong, fault_of, is_simple, is_simple_and_free, subcommand_of}
 use Rattle.clap.proofs.OnLiterals.{clap_on_literals}
-use Rattle.ulfm_replies.specs.CommandLine.{asked, faults, files_in, form_in, meant, show_in, unmeant}
+use Rattle.ulfm_replies.specs.CommandLine.{asked, faults, files_in, form_in, meant, unmeant}
+use Rattle.ulfm_replies.specs.Wish.{wish_in}
 use Rattle.ulfm_replies.specs.Rules.{tool_app}
 use Rattle.ulfm_replies.proofs.Parsed.{among_first}
 use Rattle.ulfm_replies.proofs.command.asked_of.Goals as goal
@@ -39,12 +40,12 @@ returns-in-Some-clause-form g c =
     let matched = c.in_ok-matches.ensures.ok.2 (ap is_simple c.in_ok-command.ensures ∙ simple) in
     c.form_in.ensures ∙ ap form_in (matched.1 ∙ ap (λ (a : App). subcommand_of a words) c.in_ok-command.ensures)
 
-pub returns-in-Some-clause-show : goal.returns-in-Some-clause-show
+pub returns-in-Some-clause-wish : goal.returns-in-Some-clause-wish
 unfolding asked
-returns-in-Some-clause-show g c =
+returns-in-Some-clause-wish g c =
     let words = map g.S.AsStr.text c.args.words.now in
     let matched = c.in_ok-matches.ensures.ok.2 (ap is_simple c.in_ok-command.ensures ∙ simple) in
-    c.show_in.ensures ∙ ap show_in (matched.1 ∙ ap (λ (a : App). subcommand_of a words) c.in_ok-command.ensures)
+    c.wish_in.ensures ∙ ap wish_in (matched.1 ∙ ap (λ (a : App). subcommand_of a words) c.in_ok-command.ensures)
 
 pub returns-in-Some-clause-files : goal.returns-in-Some-clause-files
 unfolding asked

@@ -1,0 +1,41 @@
+-- What of a job's outcomes is told, by the words of a command line.
+use Rattle.std.specs.Prelude.{Bool, false, List, Option, Some, None, codes, option_map}
+use Rattle.clap.specs.Words.{Row, Text, first_of}
+use Rattle.ulfm_replies.specs.CommandLine.{asked, is_flagged}
+use Rattle.ulfm_replies.specs.declared.wish.Choice.{Choice}
+use Rattle.ulfm_replies.specs.declared.wish.Wish.{Wish}
+
+-- the steps whose lines a list has, where some are asked for: those that a text names, and notes
+pub record ChoiceView : Type 0 where
+  pub only : Option Text
+  pub has_notes : Bool
+
+-- the answers that a schedule is to show, where one is asked for, and the lines of a list
+pub record WishView : Type 0 where
+  pub show : Option Text
+  pub choice : ChoiceView
+
+-- what contracts see of them
+abbrev pub choice_view : Choice → ChoiceView
+choice_view choice = record { only = option_map (λ s. s.now) choice.only; has_notes = choice.has_notes }
+
+-- of both
+abbrev pub wish_view : Wish → WishView
+wish_view wish = record { show = option_map (λ s. s.now) wish.show; choice = choice_view wish.choice }
+
+-- the lines that the options of a command ask for
+abbrev pub choice_of : List Row → ChoiceView
+choice_of rows = record { only = first_of (codes "only") rows; has_notes = is_flagged (codes "notes") rows }
+
+-- what they ask for
+abbrev pub wish_of : List Row → WishView
+wish_of rows = record { show = first_of (codes "show") rows; choice = choice_of rows }
+
+-- the same by the subcommand: without one, all lines of a list
+abbrev pub wish_in : Option (Text × List Row) → WishView
+wish_in None = record { show = None; choice = record { only = None; has_notes = false } }
+wish_in (Some p) = wish_of p.1
+
+-- the same by the words
+abbrev pub wish_asked : List Text → WishView
+wish_asked words = wish_in (asked words)
