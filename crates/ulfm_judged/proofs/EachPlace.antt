@@ -24,7 +24,7 @@ use Rattle.ulfm_replies.specs.declared.command.ListOptions.{ListOptions}
 use Rattle.ulfm_found.specs.declared.judgement.Judgement.{Judgement}
 use Rattle.ulfm_found.specs.declared.judgement.Judgement.TheVariants.{NotKnown}
 use Rattle.ulfm_judged.specs.declared.finding.Finding.{Finding}
-use Rattle.ulfm_judged.specs.EachPlace.{IsEachPlaceReply, IsJudgedEach, listed_all, past_limit_at, places_in}
+use Rattle.ulfm_judged.specs.EachPlace.{IsEachPlaceReply, IsJudgedEach, IsUndrawn, listed_all, past_limit_at, places_in}
 use Rattle.ulfm_lists.specs.Told.{row_in}
 use Rattle.ulfm_judged.specs.Chosen.{unknown_part}
 use Rattle.ulfm_judged.specs.Outcomes.{goals_asked}
@@ -118,12 +118,12 @@ lists-writable j limit (place ∷ places) (one ∷ listed) past lists =
 
 -- the lists of all places with what is told below them
 pub each_as : (form : Form) (choice : ChoiceView) (options : ListOptions) (stops : ℕ) (bytes : List ℕ) (asked : Asked) (places : List Place) (listed : List Listed) (past : Option Place) (judgement : Judgement) (status : ℕ) (text words : List ℕ)
-    → IsAskedAt Nowhere bytes asked → unknown_part choice asked ≡ None → AreLists asked.job options.limit places listed past → places ≡ places_of stops asked.job
+    → IsAskedAt Nowhere bytes asked → unknown_part choice asked ≡ None → AreLists asked.job options.limit places listed past → places ≡ places_of stops asked.job → All (IsUndrawn options asked) listed
     → IsJudgedEach form options asked (places_in listed) (judgement_past asked listed past) (status_past options listed past) judgement status words
     → text ≡ text_past form choice asked options listed past judgement ++ words → IsEachPlaceReply form choice options stops bytes status text
-each_as form choice options stops bytes asked places listed None judgement status text words read named are is judged same =
+each_as form choice options stops bytes asked places listed None judgement status text words read named are is none judged same =
     subst (λ (t : List ℕ). IsEachPlaceReply form choice options stops bytes status t) (sym same)
-    (listed_all asked listed judgement status words read named (subst (λ (ps : List Place). AreLists asked.job options.limit ps listed None) is are) judged)
-each_as form choice options stops bytes asked places listed (Some place) judgement status text words read named are is judged same =
+    (listed_all asked listed judgement status words read named (subst (λ (ps : List Place). AreLists asked.job options.limit ps listed None) is are) none judged)
+each_as form choice options stops bytes asked places listed (Some place) judgement status text words read named are is none judged same =
     subst (λ (t : List ℕ). IsEachPlaceReply form choice options stops bytes status t) (sym same)
-    (past_limit_at asked listed place judgement status words read named (subst (λ (ps : List Place). AreLists asked.job options.limit ps listed (Some place)) is are) judged)
+    (past_limit_at asked listed place judgement status words read named (subst (λ (ps : List Place). AreLists asked.job options.limit ps listed (Some place)) is are) none judged)

@@ -1,5 +1,6 @@
 pub mod Writable
 pub mod Looked
+pub mod Picture
 pub mod Judged
 pub mod EachPlace
 pub mod Unfound

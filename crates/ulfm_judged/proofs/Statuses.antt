@@ -4,6 +4,7 @@ use Rattle.ulfm_stops.specs.declared.place.Place.{Place}
 use Rattle.ulfm_stops.specs.declared.place.Place.TheVariants.{Nowhere}
 use Rattle.ulfm_found.specs.Text.{some_never_ends}
 use Rattle.ulfm_found.specs.declared.judgement.Judgement.{Judgement}
+use Rattle.ulfm_found.specs.declared.unmet.Unmet.{Unmet}
 use Rattle.ulfm_reach.specs.declared.reached.Reached.{Reached}
 use Rattle.ulfm_lists.specs.Union.{some_never_ends as each_never_ends}
 use Rattle.ulfm_json.specs.declared.form.Form.{Form}
@@ -15,8 +16,9 @@ use Rattle.ulfm_replies.specs.Wish.{ChoiceView}
 use Rattle.ulfm_replies.specs.declared.command.ListOptions.{ListOptions}
 use Rattle.ulfm_judged.specs.EachPlace as each
 use Rattle.ulfm_judged.specs.EachPlace.{IsEachPlaceReply, IsJudgedEach}
-use Rattle.ulfm_judged.specs.ListReply.{IsListReply, IsReplyBy, as_asked, open_drawn, open_goal}
-use Rattle.ulfm_judged.specs.Outcomes.{IsJudged, IsOutcomesReply, IsShowReply, list_status, good, unwanted, listed, past_limit, misnamed, not_listed, unlisted, shown, nowhere, too_many, unnamed, not_shown, unshown}
+use Rattle.ulfm_judged.specs.Drawn.{IsDrawn, no_picture, picture}
+use Rattle.ulfm_judged.specs.ListReply.{IsListReply, IsReplyBy}
+use Rattle.ulfm_judged.specs.Outcomes.{IsJudged, IsOutcomesReply, IsShowReply, list_status, drawn, good, unwanted, listed, past_limit, misnamed, not_listed, unlisted, shown, nowhere, too_many, unnamed, not_shown, unshown}
 use Rattle.ulfm_judged.specs.Wanted.{IsToldOf, together, unmet, unsearched}
 use Rattle.ulfm_judged.specs.ShowEach as each_shown
 use Rattle.ulfm_judged.specs.ShowEach.{IsShowEachReply}
@@ -31,9 +33,14 @@ told_known form options at asked found judgement status text (unmet one goals wh
 told_known form options at asked found judgement status text (together number row goals schedule meets here none are shows) = statuses.not_wanted
 told_known form options at asked found judgement status text (unsearched number row goals meets here none are shows) = statuses.past
 
+drawn_known : (form : Form) (options : ListOptions) (at : Option Place) (asked : Asked) (left : Unmet) (status : ℕ) (text : List ℕ) → IsDrawn form options at asked left status text → IsKnown status
+drawn_known form options at asked left status text (picture goals schedule words are shows same) = statuses.done
+drawn_known form options at asked left status text (no_picture goals are many) = statuses.past
+
 judged_known : (form : Form) (choice : ChoiceView) (options : ListOptions) (asked : Asked) (reached : Reached) (status : ℕ) (text : List ℕ) → IsJudged form choice options asked reached status text → IsKnown status
-judged_known form choice options asked reached status text (good wanted) = list_alone options.is_strict (some_never_ends reached.found)
-judged_known form choice options asked reached status text (unwanted judgement k words is) = told_known form options None asked reached.found judgement status words is
+judged_known form choice options asked reached status text (drawn left k words first is) = drawn_known form options None asked left k words is
+judged_known form choice options asked reached status text (good none wanted) = list_alone options.is_strict (some_never_ends reached.found)
+judged_known form choice options asked reached status text (unwanted judgement k words none is) = told_known form options None asked reached.found judgement status words is
 
 list_known : (form : Form) (choice : ChoiceView) (options : ListOptions) (bytes : List ℕ) (status : ℕ) (text : List ℕ) → IsOutcomesReply form choice options bytes status text → IsKnown status
 list_known form choice options bytes status text (listed asked reached k words is named all judged) = judged_known form choice options asked _ status text judged
@@ -57,9 +64,10 @@ each_judged_known form options asked places good alone judgement status text kno
 each_judged_known form options asked places good alone judgement status text known (each.unfound number place words here before none is) = statuses.past
 
 each_known : (form : Form) (choice : ChoiceView) (options : ListOptions) (stops : ℕ) (bytes : List ℕ) (status : ℕ) (text : List ℕ) → IsEachPlaceReply form choice options stops bytes status text → IsKnown status
-each_known form choice options stops bytes status text (each.listed_all asked lists judgement k words is named are judged) = each_judged_known form options asked _ _ _ judgement status _ (list_alone options.is_strict (each_never_ends lists)) judged
-each_known form choice options stops bytes status text (each.past_limit_at asked lists place judgement k words is named are judged) = each_judged_known form options asked _ _ _ judgement status _ statuses.past judged
+each_known form choice options stops bytes status text (each.listed_all asked lists judgement k words is named are none judged) = each_judged_known form options asked _ _ _ judgement status _ (list_alone options.is_strict (each_never_ends lists)) judged
+each_known form choice options stops bytes status text (each.past_limit_at asked lists place judgement k words is named are none judged) = each_judged_known form options asked _ _ _ judgement status _ statuses.past judged
 each_known form choice options stops bytes status text (each.no_room_for_stops asked is named many) = statuses.no_job
+each_known form choice options stops bytes status text (each.drawn_at_place asked lists past k words is named are first) = drawn_known form options _ _ first.left k words first.drawn
 each_known form choice options stops bytes status text (each.misnamed_at_all asked part is named) = statuses.no_job
 each_known form choice options stops bytes status text (each.not_listed_at_all k words is) = no_play form Nowhere bytes status text is
 each_known form choice options stops bytes status text each.no_memory_for_lists = statuses.run_fails
@@ -80,8 +88,7 @@ by_known form (Some goals) None choice options bytes status text h = show_known 
 by_known form (Some goals) (Some stops) choice options bytes status text h = show_each_known form options stops goals bytes status text h
 
 pub reply_known : (form : Form) (show : Option (List ℕ)) (choice : ChoiceView) (options : ListOptions) (bytes : List ℕ) (status : ℕ) (text : List ℕ) → IsListReply form show choice options bytes status text → IsKnown status
-reply_known form show choice options bytes status text (as_asked k words h) = by_known form show options.stops choice options bytes status text h
-reply_known form show choice options bytes status text (open_drawn rank step k words none drawn h) = by_known form (Some (open_goal rank step)) options.stops choice options bytes status text h
+reply_known form show choice options bytes status text h = by_known form show options.stops choice options bytes status text h
 
 -- out of memory is what each may come to
 starved_by : (form : Form) (show : Option (List ℕ)) (stops : Option ℕ) (choice : ChoiceView) (options : ListOptions) (bytes : List ℕ) → IsReplyBy form show stops choice options bytes 3 (out_of_memory_in form)
@@ -91,4 +98,4 @@ starved_by form (Some goals) None choice options bytes = unshown
 starved_by form (Some goals) (Some stops) choice options bytes = each_shown.no_memory_to_show_each
 
 pub starved_list : (form : Form) (show : Option (List ℕ)) (choice : ChoiceView) (options : ListOptions) (bytes : List ℕ) → IsListReply form show choice options bytes 3 (out_of_memory_in form)
-starved_list form show choice options bytes = as_asked 3 (out_of_memory_in form) (starved_by form show options.stops choice options bytes)
+starved_list form show choice options bytes = starved_by form show options.stops choice options bytes

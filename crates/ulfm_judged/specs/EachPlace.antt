@@ -18,7 +18,9 @@ use Rattle.ulfm_replies.specs.Replies.{refused_in}
 use Rattle.ulfm_replies.specs.Stopped.{Asked, IsAskedAt, IsRefusal, asked_at}
 use Rattle.ulfm_replies.specs.declared.command.ListOptions.{ListOptions}
 use Rattle.ulfm_replies.specs.Wish.{ChoiceView}
+use Rattle.ulfm_found.specs.declared.unmet.Unmet.{Unmet}
 use Rattle.ulfm_judged.specs.Chosen.{lists_in, no_name, unknown_part}
+use Rattle.ulfm_judged.specs.Drawn.{IsDrawn, left_drawn}
 use Rattle.ulfm_judged.specs.Outcomes.{list_status}
 use Rattle.ulfm_judged.specs.Wanted.{HasList, IsToldOf, IsWanted, asks}
 
@@ -40,6 +42,20 @@ pub data IsJudgedEach (form : Form) (options : ListOptions) (asked : Asked) (pla
   unfound : (number : ℕ) (place : Place) (text : List ℕ) → slice_get places number ≡ Some place → All (λ place. IsWanted (asked_at place asked)) (take number places)
       → All (IsUnfound form options asked) places → IsToldAt form options place (asked_at place asked) NotKnown 7 text → IsJudgedEach form options asked places alone status NotKnown 7 text
 
+-- nothing is drawn at a place, by its list
+abbrev pub IsUndrawn : ListOptions → Asked → Listed → Type 0
+IsUndrawn options asked one = left_drawn options.drawn (asked_at one.place asked).job one.found ≡ None
+
+-- the picture at the first of these places where a step never ends
+pub record IsFirstPicture (form : Form) (options : ListOptions) (asked : Asked) (listed : List Listed) (status : ℕ) (text : List ℕ) : Type 0 where
+  pub number : ℕ
+  pub one : Listed
+  pub left : Unmet
+  pub there : slice_get listed number ≡ Some one
+  pub before : All (IsUndrawn options asked) (take number listed)
+  pub first : left_drawn options.drawn (asked_at one.place asked).job one.found ≡ Some left
+  pub drawn : IsDrawn form options (Some one.place) (asked_at one.place asked) left status text
+
 -- the places of lists
 abbrev pub places_in : List Listed → List Place
 places_in listed = map (λ (one : Listed). one.place) listed
@@ -47,15 +63,18 @@ places_in listed = map (λ (one : Listed). one.place) listed
 -- The status and the text, in this form, that `outcomes --stops` gives for these bytes: the lists of all outcomes at all places with at
 -- most so many stops, as one list, with what is told below it; with 7 the line alone that there are more states than the limit at the
 -- first place where there are, or below it, with 9, what is told of a place before; with 1 the line of the job's refusal, also of one
--- that has no room for so many stops, or that it has no step of a name; with 3 the line that memory ran out.
+-- that has no room for so many stops, or that it has no step of a name; with 3 the line that memory ran out. Where a picture is asked for and a
+-- step never ends at one of them, that alone, of the first such place.
 pub data IsEachPlaceReply (form : Form) (choice : ChoiceView) (options : ListOptions) (stops : ℕ) (bytes : List ℕ) : ℕ → List ℕ → Type 0 where
-  listed_all : (asked : Asked) (listed : List Listed) (judgement : Judgement) (status : ℕ) (text : List ℕ) → IsAskedAt Nowhere bytes asked → unknown_part choice asked ≡ None → AreLists asked.job options.limit (places_of stops asked.job) listed None
+  listed_all : (asked : Asked) (listed : List Listed) (judgement : Judgement) (status : ℕ) (text : List ℕ) → IsAskedAt Nowhere bytes asked → unknown_part choice asked ≡ None → AreLists asked.job options.limit (places_of stops asked.job) listed None → All (IsUndrawn options asked) listed
       → IsJudgedEach form options asked (places_in listed) (good_judgement (some_never_ends listed) (asks asked)) (list_status options.is_strict (some_never_ends listed)) judgement status text
       → IsEachPlaceReply form choice options stops bytes status (lists_in form choice asked judgement listed ++ text)
-  past_limit_at : (asked : Asked) (listed : List Listed) (place : Place) (judgement : Judgement) (status : ℕ) (text : List ℕ) → IsAskedAt Nowhere bytes asked → unknown_part choice asked ≡ None → AreLists asked.job options.limit (places_of stops asked.job) listed (Some place)
+  past_limit_at : (asked : Asked) (listed : List Listed) (place : Place) (judgement : Judgement) (status : ℕ) (text : List ℕ) → IsAskedAt Nowhere bytes asked → unknown_part choice asked ≡ None → AreLists asked.job options.limit (places_of stops asked.job) listed (Some place) → All (IsUndrawn options asked) listed
       → IsJudgedEach form options asked (places_in listed) NotKnown 7 judgement status text
       → IsEachPlaceReply form choice options stops bytes status (more_at form options.limit place ++ text)
   no_room_for_stops : (asked : Asked) → IsAskedAt Nowhere bytes asked → unknown_part choice asked ≡ None → 256 < step_count asked.job.scripts + stops → IsEachPlaceReply form choice options stops bytes 1 (refused_in form TooLarge)
+  drawn_at_place : (asked : Asked) (listed : List Listed) (past : Option Place) (status : ℕ) (text : List ℕ) → IsAskedAt Nowhere bytes asked → unknown_part choice asked ≡ None
+      → AreLists asked.job options.limit (places_of stops asked.job) listed past → IsFirstPicture form options asked listed status text → IsEachPlaceReply form choice options stops bytes status text
   misnamed_at_all : (asked : Asked) (part : List ℕ) → IsAskedAt Nowhere bytes asked → unknown_part choice asked ≡ Some part → IsEachPlaceReply form choice options stops bytes 1 (no_name part)
   not_listed_at_all : (status : ℕ) (text : List ℕ) → IsRefusal form Nowhere bytes status text → IsEachPlaceReply form choice options stops bytes status text
   no_memory_for_lists : IsEachPlaceReply form choice options stops bytes 3 (out_of_memory_in form)

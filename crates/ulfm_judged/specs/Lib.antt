@@ -1,5 +1,6 @@
 pub mod Wanted
 pub mod Chosen
+pub mod Drawn
 pub mod Outcomes
 pub mod Lists
 pub mod EachPlace

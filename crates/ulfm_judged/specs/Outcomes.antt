@@ -22,6 +22,8 @@ use Rattle.ulfm_replies.specs.Failure.{out_of_memory_in}
 use Rattle.ulfm_replies.specs.Stopped.{Asked, IsAskedAt, IsRefusal, reading_as}
 use Rattle.ulfm_replies.specs.declared.command.ListOptions.{ListOptions}
 use Rattle.ulfm_replies.specs.Wish.{ChoiceView}
+use Rattle.ulfm_found.specs.declared.unmet.Unmet.{Unmet}
+use Rattle.ulfm_judged.specs.Drawn.{IsDrawn, left_drawn}
 use Rattle.ulfm_judged.specs.Chosen.{list_in, no_name, unknown_part}
 use Rattle.ulfm_judged.specs.Wanted.{IsToldOf, IsWanted, asks}
 
@@ -34,12 +36,14 @@ nowhere_in Json = codes "{\"schedule\":null}\n"
 abbrev pub list_status : Bool → Bool → ℕ
 list_status is_strict is_open = if is_strict then (if is_open then 6 else 0) else 0
 
--- The status of a whole list, and the list with what it comes to and what is told below it. With 0, or with 6 by `--strict`, nothing is, and no schedule has an
+-- The status of a whole list, and the list with what it comes to and what is told below it. Where a picture is asked for and a step never ends,
+-- that alone, of the first such step. Else with 0, or with 6 by `--strict`, nothing is, and no schedule has an
 -- answer that its step doesn't expect, nor all answers of a row of `never`.
 pub data IsJudged (form : Form) (choice : ChoiceView) (options : ListOptions) (asked : Asked) (reached : Reached) : ℕ → List ℕ → Type 0 where
-  good : IsWanted asked → IsJudged form choice options asked reached (list_status options.is_strict (some_never_ends reached.found))
+  drawn : (left : Unmet) (status : ℕ) (text : List ℕ) → left_drawn options.drawn asked.job reached.found ≡ Some left → IsDrawn form options None asked left status text → IsJudged form choice options asked reached status text
+  good : left_drawn options.drawn asked.job reached.found ≡ None → IsWanted asked → IsJudged form choice options asked reached (list_status options.is_strict (some_never_ends reached.found))
       (list_in form choice asked (good_judgement (some_never_ends reached.found) (asks asked)) reached)
-  unwanted : (judgement : Judgement) (status : ℕ) (text : List ℕ) → IsToldOf form options None asked reached.found judgement status text
+  unwanted : (judgement : Judgement) (status : ℕ) (text : List ℕ) → left_drawn options.drawn asked.job reached.found ≡ None → IsToldOf form options None asked reached.found judgement status text
       → IsJudged form choice options asked reached status (list_in form choice asked judgement reached ++ text)
 
 -- The status and the text, in this form, that `outcomes` gives for these bytes: the list of all that the steps of their job may be

@@ -1,105 +1,135 @@
-//! The step that `--draw` draws where no answers are to be shown.
-ghost use Rattle.std.specs.Prelude.{◌≡◌, ◌≢◌, None, IfOk, IfSome, option_map, string_bytes};
-ghost use Rattle.ulfm_judged.specs.ListReply.{open_goal};
+//! The step that `--draw` draws where no answers are to be shown: the first one that never ends.
+ghost use Rattle.std.specs.Prelude.{◌≡◌, Some, IfOk, map, string_bytes};
+ghost use Rattle.ulfm_finder.specs.Unmet.{Judges};
+ghost use Rattle.ulfm_found.specs.Listed.{step_view};
+ghost use Rattle.ulfm_replies.specs.Stopped.{asked_at, asked_view};
+ghost use Rattle.ulfm_judged.specs.Drawn.{IsDrawn, first_left, left_drawn, left_of};
+ghost use Rattle.ulfm_judged.specs.Wanted.{HasList};
+ghost use Rattle.ulfm_judged.specs.inside.Judging.{AreListedOf, IsDrawnThere, IsFirstDrawn, IsListedOf};
+ghost use Rattle.ulfm_judged.specs.inside.Looking.{IsDrawnOf};
 
 use crate::onlooker::{Onlooker, Seen};
 use crate::search::Search;
-use std::alloc::{AllocError, Global};
+use crate::shown::told_reply;
+use crate::unwanted::{stopped, told_of};
+use std::alloc::AllocError;
 use ulfm_finder::Finder;
-use ulfm_found::OpenStep;
-use ulfm_json::Form;
-use ulfm_lists::{filed_number, first_open};
-use ulfm_reach::Reach;
+use ulfm_found::{JobStep, Unmet, is_stuck, steps_of};
+use ulfm_lists::Listed;
+use ulfm_reach::{Rows, Watch};
 use ulfm_reader::Reading;
-use ulfm_replies::{Place, asked_at};
-use ulfm_stops::places;
+use ulfm_replies::{Place, Reply};
 
-/// The first step that never ends, by the number that goals name it with, where a picture is asked for and no answers are. Nothing where
-/// each step ends, or that isn't known within the limit.
-pub(crate) fn drawn_step<F: Finder, L: Onlooker>(
+/// The picture at the first of these places where a step never ends, where one is asked for.
+pub(crate) fn first_drawn<F: Finder, L: Onlooker>(
     search: &Search<'_, F>,
-    show: Option<&str>,
-    bytes: &[u8],
+    asked: &Reading,
+    listed: &[Listed],
     onlooker: &L,
-) -> Result<Option<OpenStep>, AllocError>
-    ensures { IfOk result (λ found. IfSome found (λ left. (option_map (λ s. s.now) show.entry ≡ None) × (search.now.options.drawn ≢ None))) }
+) -> Result<Option<Reply>, AllocError>
+    requires { AreListedOf (asked_view asked.now) search.now.options.limit listed.now }
+    ensures { IfOk result (IsFirstDrawn search.now.form search.now.options (asked_view asked.now) listed.now) }
 {
-    if show.is_some() || search.options.drawn.is_none() {
-        return Ok(None);
-    }
-    open_step(search, bytes, onlooker)
-}
-
-/// The words that ask for a step that never ends.
-pub(crate) fn open_goal(alloc: Global, left: OpenStep) -> Result<String, AllocError>
-    ensures { IfOk result (λ text. string_bytes text ≡ open_goal left.rank left.step) }
-{
-    let rank = left.rank;
-    let step = left.step;
-    format!(in alloc; "{rank}.{step} never ends")
-}
-
-/// The first step that never ends, in the job with its place, or at the first place where one does.
-fn open_step<F: Finder, L: Onlooker>(
-    search: &Search<'_, F>,
-    bytes: &[u8],
-    onlooker: &L,
-) -> Result<Option<OpenStep>, AllocError> {
-    let Ok(asked) = asked_at(search.alloc, Form::Words, search.options.place, bytes)? else {
-        return Ok(None);
-    };
-    let Some(stops) = search.options.stops else {
-        return open_in(search, &asked, search.options.place, onlooker);
-    };
-    for place in &places(search.alloc, &asked.job, stops)? {
-        let open = open_at(search, bytes, *place, onlooker)?;
-        if open.is_some() {
-            return Ok(open);
+    for one in listed {
+        let drawn = drawn_there(search, asked, one, onlooker)?;
+        if drawn.is_some() {
+            return Ok(drawn);
         }
     }
     Ok(None)
 }
 
-/// The same at a place, by the number that the step has in the file.
-fn open_at<F: Finder, L: Onlooker>(
-    search: &Search<'_, F>,
-    bytes: &[u8],
-    place: Place,
-    onlooker: &L,
-) -> Result<Option<OpenStep>, AllocError> {
-    let Ok(asked) = asked_at(search.alloc, Form::Words, place, bytes)? else {
-        return Ok(None);
-    };
-    match open_in(search, &asked, place, onlooker)? {
-        Some(OpenStep { rank, step }) => Ok(Some(OpenStep {
-            rank,
-            step: filed_number(place, rank, step),
-        })),
-        None => Ok(None),
-    }
-}
-
-/// The first one by the list of what is asked for with the stops of a place.
-fn open_in<F: Finder, L: Onlooker>(
+/// The picture at a place, where a step never ends there.
+fn drawn_there<F: Finder, L: Onlooker>(
     search: &Search<'_, F>,
     asked: &Reading,
-    place: Place,
+    one: &Listed,
     onlooker: &L,
-) -> Result<Option<OpenStep>, AllocError> {
-    let watch = &mut Seen::of(onlooker, place);
-    let Reach::All(reached) = search.outcomes(&asked.job, watch)? else {
+) -> Result<Option<Reply>, AllocError>
+    requires { IsListedOf (asked_view asked.now) search.now.options.limit one.now }
+    ensures { IfOk result (IsDrawnThere search.now.form search.now.options one.now (asked_at one.now.place (asked_view asked.now))) }
+{
+    if search.options.drawn.is_none() {
         return Ok(None);
-    };
-    match first_open(&asked.job, &reached.found) {
-        Some((rank, step)) => Ok(step_of(rank, step)),
+    }
+    let watch = &mut Seen::of(onlooker, one.place);
+    match stopped(search.alloc, one.place, asked)? {
+        Some(made) => drawn(search, Some(one.place), &made, &one.found, watch),
+        None => drawn(search, Some(one.place), asked, &one.found, watch),
+    }
+}
+
+/// The picture of what was asked for, perhaps with the stops of a place, by the rows of its list, where one is asked for and a step never ends.
+pub(crate) fn drawn<F: Finder, W: Watch>(
+    search: &Search<'_, F>,
+    at: Option<Place>,
+    asked: &Reading,
+    found: &Rows,
+    watch: &mut W,
+) -> Result<Option<Reply>, AllocError>
+    requires { HasList asked.now.job search.now.options.limit found.now }
+    ensures { IfOk result (IsDrawnOf search.now.form search.now.options at (asked_view asked.now) found.now) }
+{
+    match left_drawn(search, asked, found)? {
+        Some(left) => Ok(Some(left_reply(search, at, asked, left, watch)?)),
         None => Ok(None),
     }
 }
 
-/// A step by its number.
-fn step_of(rank: u8, step: usize) -> Option<OpenStep> {
-    match u16::try_from(step) {
-        Ok(step) => Some(OpenStep { rank, step }),
-        Err(_) => None,
+/// The first step that never ends, where a picture is asked for.
+fn left_drawn<F>(
+    search: &Search<'_, F>,
+    asked: &Reading,
+    found: &Rows,
+) -> Result<Option<Unmet>, AllocError>
+    ensures { IfOk result (λ left. left ≡ left_drawn search.now.options.drawn asked.now.job found.now) }
+{
+    if search.options.drawn.is_none() {
+        return Ok(None);
     }
+    let steps = steps_of(search.alloc, &asked.job)?;
+    Ok(first_left(found, steps.as_slice()))
+}
+
+/// The first of these steps that never ends.
+fn first_left(found: &Rows, steps: &[JobStep<'_>]) -> Option<Unmet>
+    ensures { result ≡ first_left found.now (map step_view steps.now) }
+{
+    for at in steps {
+        let left = left_of(found, at);
+        if left.is_some() {
+            return left;
+        }
+    }
+    None
+}
+
+/// A step that never ends, if it doesn't.
+fn left_of(found: &Rows, at: &JobStep<'_>) -> Option<Unmet>
+    ensures { result ≡ left_of found.now (step_view at.now) }
+{
+    match u16::try_from(at.number) {
+        Ok(step) if is_stuck(found, at.rank, at.number) => Some(Unmet {
+            rank: at.rank,
+            step,
+            is_open: true,
+        }),
+        _ => None,
+    }
+}
+
+/// The reply that shows this step, which never ends in some schedule.
+fn left_reply<F: Finder, W: Watch>(
+    search: &Search<'_, F>,
+    at: Option<Place>,
+    asked: &Reading,
+    left: Unmet,
+    watch: &mut W,
+) -> Result<Reply, AllocError>
+    requires { Judges asked.now.job (Some left) }
+    ensures { IfOk result (λ r. IsDrawn search.now.form search.now.options at (asked_view asked.now) left r.status (string_bytes r.text)) }
+{
+    let goals = left.goals(search.alloc, &asked.job)?;
+    let told = told_of(search, &asked.job, &goals, watch)?;
+    told_reply(search, at, asked, &told)
 }

@@ -11,6 +11,7 @@ ghost use Rattle.ulfm_judged.specs.EachPlace.{IsEachPlaceReply};
 ghost use Rattle.ulfm_judged.specs.inside.Judging.{AreListedOf, AreSharing, IsEachText, lists_judgement, lists_status, lists_text};
 
 use crate::choosing::{chosen, no_name, printed, unknown_part};
+use crate::drawing::first_drawn;
 use crate::finding::asks;
 use crate::listed::{below, list_status};
 use crate::lists::Lists;
@@ -93,7 +94,10 @@ where
     let threads = threads_of(rt, search.options);
     let lists = list_places(rt, search, &asked.job, places.as_slice(), threads, onlooker)?;
     onlooker.see_listed(lists.listed.len(), places.len());
-    judged(search, asked, &lists, onlooker)
+    match first_drawn(search, asked, lists.listed.as_slice(), onlooker)? {
+        Some(reply) => Ok(reply),
+        None => judged(search, asked, &lists, onlooker),
+    }
 }
 
 /// How many threads share the places: as many as are asked for, else as there are processors, 64 at most.
@@ -130,7 +134,8 @@ fn judged<F: Finder, L: Onlooker>(
     requires ascii { AreAllAscii lists.now.listed.items }
     ensures { IfOk result (λ r. IsEachText search.now.form (choice_view search.now.choice) search.now.options (asked_view asked.now) lists.now r.status (string_bytes r.text)) }
 {
-    match first_unwanted(search, asked, lists.listed.as_slice(), onlooker)? {
+    let listed = lists.listed.as_slice();
+    match first_unwanted(search, asked, listed, onlooker)? {
         Some(told) => {
             let text = text_of(search, asked, lists, told.judgement)?;
             below(text, told.reply)

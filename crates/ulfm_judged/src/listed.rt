@@ -1,6 +1,6 @@
 //! The reply of `outcomes`: a line for each step, with all that it may be answered, and below it a schedule that shows what the job doesn't
 //! want.
-ghost use Rattle.std.specs.Prelude.{◌≡◌, ◌++◌, ℕ, List, None, Some, IfOk, option_map, string_bytes};
+ghost use Rattle.std.specs.Prelude.{◌≡◌, ◌++◌, ℕ, List, None, IfOk, option_map, string_bytes};
 ghost use Rattle.ulfm_replies.specs.Stopped.{IsAskedAt, asked_view};
 ghost use Rattle.ulfm_reach.specs.declared.reach.Reach.TheVariants.{All};
 ghost use Rattle.ulfm_finder.specs.Outcomes.{IsList};
@@ -9,12 +9,13 @@ ghost use Rattle.ulfm_found.specs.Objects.{more_in};
 ghost use Rattle.ulfm_found.specs.Text.{AreAscii, some_never_ends};
 ghost use Rattle.ulfm_replies.specs.Wish.{choice_view};
 ghost use Rattle.ulfm_judged.specs.Chosen.{list_in, unknown_part};
-ghost use Rattle.ulfm_judged.specs.ListReply.{IsListReply, IsReplyBy, open_goal};
+ghost use Rattle.ulfm_judged.specs.Drawn.{left_drawn};
+ghost use Rattle.ulfm_judged.specs.ListReply.{IsListReply};
 ghost use Rattle.ulfm_judged.specs.Outcomes.{IsJudged, IsOutcomesReply, list_status};
 ghost use Rattle.ulfm_judged.specs.Wanted.{asks};
 
 use crate::choosing::{chosen, no_name, printed, unknown_part};
-use crate::drawing::{drawn_step, open_goal};
+use crate::drawing::drawn;
 use crate::each_place::each_place_reply;
 use crate::finding::asks;
 use crate::onlooker::Onlooker;
@@ -26,7 +27,7 @@ use crate::verdicts::list_remarks;
 use std::alloc::AllocError;
 use std::thread::Threads;
 use ulfm_finder::Finder;
-use ulfm_found::{Judgement, OpenStep, list_of, more_in, some_never_end};
+use ulfm_found::{Judgement, list_of, more_in, some_never_end};
 use ulfm_reach::{Reach, Reached, Watch};
 use ulfm_reader::Reading;
 use ulfm_replies::{DONE, PAST_LIMIT, Reply, UNFINISHED, asked_at};
@@ -45,44 +46,6 @@ where
     F: Finder + Sync,
     W: Watch + Onlooker + Sync,
     ensures { IfOk result (λ r. IsListReply search.now.form (option_map (λ s. s.now) show.entry) (choice_view search.now.choice) search.now.options bytes.now r.status (string_bytes r.text)) }
-{
-    match drawn_step(search, show, bytes, &*watch)? {
-        Some(left) => open_reply(rt, search, left, bytes, watch),
-        None => reply_by(rt, search, show, bytes, watch),
-    }
-}
-
-/// The reply that shows this step, which never ends.
-fn open_reply<R, F, W>(
-    rt: &R,
-    search: &Search<'_, F>,
-    left: OpenStep,
-    bytes: &[u8],
-    watch: &mut W,
-) -> Result<Reply, AllocError>
-where
-    R: Threads + Sync,
-    F: Finder + Sync,
-    W: Watch + Onlooker + Sync,
-    ensures { IfOk result (λ r. IsReplyBy search.now.form (Some (open_goal left.rank left.step)) search.now.options.stops (choice_view search.now.choice) search.now.options bytes.now r.status (string_bytes r.text)) }
-{
-    let goal = open_goal(search.alloc, left)?;
-    reply_by(rt, search, Some(goal.as_str()), bytes, watch)
-}
-
-/// The reply with these answers that a schedule is to show, if there are some.
-fn reply_by<R, F, W>(
-    rt: &R,
-    search: &Search<'_, F>,
-    show: Option<&str>,
-    bytes: &[u8],
-    watch: &mut W,
-) -> Result<Reply, AllocError>
-where
-    R: Threads + Sync,
-    F: Finder + Sync,
-    W: Watch + Onlooker + Sync,
-    ensures { IfOk result (λ r. IsReplyBy search.now.form (option_map (λ s. s.now) show.entry) search.now.options.stops (choice_view search.now.choice) search.now.options bytes.now r.status (string_bytes r.text)) }
 {
     match (show, search.options.stops) {
         (Some(show), Some(stops)) => show_each_reply(search, stops, show, bytes, &*watch),
@@ -170,6 +133,23 @@ fn judged<F: Finder, W: Watch>(
     watch: &mut W,
 ) -> Result<Reply, AllocError>
     requires { IsList asked.now.job search.now.options.limit (All reached.now) }
+    ensures { IfOk result (λ r. IsJudged search.now.form (choice_view search.now.choice) search.now.options (asked_view asked.now) reached.now r.status (string_bytes r.text)) }
+{
+    match drawn(search, None, asked, &reached.found, watch)? {
+        Some(reply) => Ok(reply),
+        None => undrawn(search, asked, reached, watch),
+    }
+}
+
+/// The same where nothing is drawn.
+fn undrawn<F: Finder, W: Watch>(
+    search: &Search<'_, F>,
+    asked: &Reading,
+    reached: &Reached,
+    watch: &mut W,
+) -> Result<Reply, AllocError>
+    requires list { IsList asked.now.job search.now.options.limit (All reached.now) }
+    requires none { left_drawn search.now.options.drawn asked.now.job reached.now.found ≡ None }
     ensures { IfOk result (λ r. IsJudged search.now.form (choice_view search.now.choice) search.now.options (asked_view asked.now) reached.now r.status (string_bytes r.text)) }
 {
     match unwanted(search, None, asked, &reached.found, watch)? {

@@ -163,7 +163,7 @@ fn unmet_told<F: Finder, W: Watch>(
 }
 
 /// What comes of a search for goals that some schedule shows.
-fn told_of<F: Finder, W: Watch>(
+pub(crate) fn told_of<F: Finder, W: Watch>(
     search: &Search<'_, F>,
     job: &Job,
     goals: &Goals,

@@ -11,11 +11,12 @@ use Rattle.ulfm_json.specs.declared.form.Form.{Form}
 use Rattle.ulfm_replies.specs.Stopped.{Asked, asked_at, asked_view}
 use Rattle.ulfm_reader.specs.declared.reading.Reading.{Reading}
 use Rattle.ulfm_replies.specs.declared.command.ListOptions.{ListOptions}
+use Rattle.ulfm_replies.specs.declared.reply.Reply.{Reply}
 use Rattle.ulfm_judged.specs.declared.finding.Finding.{Finding}
 use Rattle.ulfm_found.specs.Judgement.{good_judgement}
 use Rattle.ulfm_found.specs.declared.judgement.Judgement.{Judgement}
 use Rattle.ulfm_found.specs.declared.judgement.Judgement.TheVariants.{NotKnown}
-use Rattle.ulfm_judged.specs.EachPlace.{IsJudgedEach, IsToldAt, IsUnfound, places_in}
+use Rattle.ulfm_judged.specs.EachPlace.{IsFirstPicture, IsJudgedEach, IsToldAt, IsUndrawn, IsUnfound, places_in}
 use Rattle.ulfm_lists.specs.Told.{more_at}
 use Rattle.ulfm_replies.specs.Wish.{ChoiceView}
 use Rattle.ulfm_judged.specs.Chosen.{lists_in}
@@ -25,7 +26,7 @@ use Rattle.ulfm_judged.specs.Wanted.{HasList, IsToldOf, IsWanted, asks}
 use Rattle.ulfm_judged.specs.declared.show_each.LookAt.{LookAt}
 use Rattle.ulfm_lists.specs.declared.told.Told.{Told}
 use Rattle.ulfm_finder.specs.Told.{IsLook}
-use Rattle.ulfm_judged.specs.inside.Looking.{IsLookText, look_status}
+use Rattle.ulfm_judged.specs.inside.Looking.{IsDrawnOf, IsLookText, look_status}
 use Rattle.ulfm_found.specs.declared.goals.Goals.{Goals}
 use Rattle.ulfm_json.specs.declared.style.Style.{Style}
 
@@ -105,6 +106,15 @@ lists_text form choice asked options lists judgement = text_past form choice ask
 abbrev pub IsEachText : Form → ChoiceView → ListOptions → Asked → Lists → ℕ → List ℕ → Type 0
 IsEachText form choice options asked lists status text = (judgement : Judgement) × (told : List ℕ)
     × IsJudgedEach form options asked (places_in lists.listed.items) (lists_judgement asked lists) (lists_status options lists) judgement status told × (text ≡ lists_text form choice asked options lists judgement ++ told)
+
+-- a picture at a place, by its list, or none
+abbrev pub IsDrawnThere : Form → ListOptions → Listed → Asked → Option Reply → Type 0
+IsDrawnThere form options one asked drawn = IsDrawnOf form options (Some one.place) asked one.found drawn
+
+-- none at any of these places, or the picture at the first where there is one
+abbrev pub IsFirstDrawn : Form → ListOptions → Asked → List Listed → Option Reply → Type 0
+IsFirstDrawn form options asked listed None = All (IsUndrawn options asked) listed
+IsFirstDrawn form options asked listed (Some reply) = IsFirstPicture form options asked listed reply.status (string_bytes reply.text)
 
 -- a search at a place for answers came to nothing, since no schedule shows them, or to what is told
 abbrev pub IsLookAt : JobView → List Clause → Bool → ℕ → Place → Option Told → Type 0

@@ -1,9 +1,10 @@
 -- What single functions find that look for schedules.
-use Rattle.std.specs.Prelude.{◌≡◌, ℕ, Bool, List, Option, Some, None, slice_get, take}
+use Rattle.std.specs.Prelude.{◌≡◌, ℕ, Bool, List, Option, Some, None, slice_get, string_bytes, take}
 use Rattle.ulfm_job.specs.declared.clause.Clause.{Clause}
 use Rattle.ulfm_job.specs.Job.{JobView}
 use Rattle.ulfm_finder.specs.Told.{IsLook}
 use Rattle.ulfm_found.specs.declared.goals.Goals.{Goals}
+use Rattle.ulfm_found.specs.declared.unmet.Unmet.{Unmet}
 use Rattle.ulfm_found.specs.declared.judgement.Judgement.{Judgement}
 use Rattle.ulfm_found.specs.declared.judgement.Judgement.TheVariants.{ComeTogether, NotKnown}
 use Rattle.ulfm_json.specs.declared.style.Style.{Style}
@@ -12,7 +13,10 @@ use Rattle.ulfm_lists.specs.Told.{told_in}
 use Rattle.ulfm_lists.specs.declared.told.Told.{Told}
 use Rattle.ulfm_lists.specs.declared.told.Told.TheVariants.{Schedule, Many}
 use Rattle.ulfm_replies.specs.Stopped.{Asked}
+use Rattle.ulfm_replies.specs.declared.command.ListOptions.{ListOptions}
+use Rattle.ulfm_replies.specs.declared.reply.Reply.{Reply}
 use Rattle.ulfm_stops.specs.declared.place.Place.{Place}
+use Rattle.ulfm_judged.specs.Drawn.{IsDrawn, left_drawn}
 use Rattle.ulfm_judged.specs.Outcomes.{nowhere_in}
 use Rattle.ulfm_judged.specs.Wanted.{AreOfRow, NeverComes, NoneComes}
 use Rattle.ulfm_judged.specs.declared.looking.FirstRow.{FirstRow}
@@ -38,6 +42,11 @@ abbrev pub IsLookText : Form → Option Style → Option Place → Asked → Opt
 IsLookText form drawn at asked None text = text ≡ nowhere_in form
 IsLookText form drawn at asked (Some (Schedule schedule)) text = drawn ≡ None → text ≡ told_in form at asked.names asked.job (Schedule schedule)
 IsLookText form drawn at asked (Some (Many limit)) text = text ≡ told_in form at asked.names asked.job (Many limit)
+
+-- a picture of the first step that never ends, by the rows of a list, where one is asked for and a step never ends
+abbrev pub IsDrawnOf : Form → ListOptions → Option Place → Asked → List (List ℕ) → Option Reply → Type 0
+IsDrawnOf form options at asked found None = left_drawn options.drawn asked.job found ≡ None
+IsDrawnOf form options at asked found (Some reply) = (left : Unmet) × (left_drawn options.drawn asked.job found ≡ Some left) × IsDrawn form options at asked left reply.status (string_bytes reply.text)
 
 -- what a list comes to below which this is told of a row
 abbrev pub row_judgement : Told → Judgement

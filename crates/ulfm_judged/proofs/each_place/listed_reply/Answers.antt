@@ -1,9 +1,13 @@
-use Rattle.std.proofs.Common.{All, string_bytes, subst, sym, ◌∙◌, arith}
+use Rattle.std.proofs.Common.{All, List, None, Some, string_bytes, subst, sym, ◌∙◌, arith}
 use Rattle.std.proofs.lemmas.Result.{IfOk-weaker}
 use Rattle.ulfm_stops.specs.Place.{IsPlaceOf}
 use Rattle.ulfm_replies.specs.Stopped.{asked_view}
 use Rattle.ulfm_replies.specs.Wish.{choice_view}
-use Rattle.ulfm_judged.specs.EachPlace.{no_room_for_stops}
+use Rattle.ulfm_stops.specs.declared.place.Place.{Place}
+use Rattle.ulfm_lists.specs.declared.listed.Listed.{Listed}
+use Rattle.ulfm_judged.specs.EachPlace.{drawn_at_place, no_room_for_stops}
+use Rattle.ulfm_judged.specs.Lists.{AreLists}
+use Rattle.ulfm_judged.specs.inside.Judging.{AreListedOf, IsFirstDrawn}
 use Rattle.ulfm_judged.proofs.EachPlace.{each_as, lists-writable, lists_of}
 use Rattle.ulfm_judged.proofs.each_place.listed_reply.Goals as goal
 
@@ -21,9 +25,32 @@ pub judged-requires-clause-ascii : goal.judged-requires-clause-ascii
 judged-requires-clause-ascii g c =
     lists-writable c.args.asked.now.job c.args.search.now.options.limit c.as_slice.result.now c.in_ok-lists.lists.listed.items c.in_ok-lists.lists.past_limit c.in_ok-lists.ensures
 
-pub returns : goal.returns
-returns g c = λ bytes read.
+pub first_drawn-requires : goal.first_drawn-requires
+first_drawn-requires g c =
     let asked = asked_view c.args.asked.now in
+    subst (AreListedOf asked c.args.search.now.options.limit) (sym c.as_slice-2.ensures.value)
+    (lists_of asked c.args.search.now.options.limit c.as_slice.result.now c.in_ok-lists.lists.listed.items c.in_ok-lists.lists.past_limit c.in_ok-lists.ensures
+    (subst (All (IsPlaceOf asked.job)) (sym c.as_slice.ensures.value) c.in_ok-places.ensures.inside))
+
+pub returns-in-Some : goal.returns-in-Some
+returns-in-Some g c = λ bytes read.
+    let asked = asked_view c.args.asked.now in
+    let form = c.args.search.now.form in
+    let options = c.args.search.now.options in
     let lists = c.in_ok-lists.lists in
-    IfOk-weaker c.judged.result _ _ (λ r h. each_as c.args.search.now.form (choice_view c.args.search.now.choice) c.args.search.now.options c.args.stops bytes asked c.as_slice.result.now lists.listed.items lists.past_limit h.0 r.status
-    (string_bytes r.text) h.1 read c.requires c.in_ok-lists.ensures (c.as_slice.ensures.value ∙ c.in_ok-places.ensures.exact) h.2 h.3) c.judged.ensures
+    let reply = c.in-Some.reply in
+    let of_slice = subst (IsFirstDrawn form options asked c.as_slice-2.result.now) c.in-Some.is c.in_ok.ensures in
+    let first = subst (λ (listed : List Listed). IsFirstDrawn form options asked listed (Some reply)) c.as_slice-2.ensures.value of_slice in
+    drawn_at_place asked lists.listed.items lists.past_limit reply.status (string_bytes reply.text) read c.requires
+    (subst (λ (ps : List Place). AreLists asked.job options.limit ps lists.listed.items lists.past_limit) (c.as_slice.ensures.value ∙ c.in_ok-places.ensures.exact) c.in_ok-lists.ensures) first
+
+pub returns-in-None : goal.returns-in-None
+returns-in-None g c = λ bytes read.
+    let asked = asked_view c.args.asked.now in
+    let form = c.args.search.now.form in
+    let options = c.args.search.now.options in
+    let lists = c.in_ok-lists.lists in
+    let of_slice = subst (IsFirstDrawn form options asked c.as_slice-2.result.now) c.in-None.is c.in_ok.ensures in
+    let none = subst (λ (listed : List Listed). IsFirstDrawn form options asked listed None) c.as_slice-2.ensures.value of_slice in
+    IfOk-weaker c.judged.result _ _ (λ r h. each_as form (choice_view c.args.search.now.choice) options c.args.stops bytes asked c.as_slice.result.now lists.listed.items lists.past_limit h.0 r.status (string_bytes r.text) h.1 read c.requires
+    c.in_ok-lists.ensures (c.as_slice.ensures.value ∙ c.in_ok-places.ensures.exact) none h.2 h.3) c.judged.ensures

@@ -1,35 +1,16 @@
-use Rattle.std.proofs.Common.{ℕ, List, ◌++◌, None, string_bytes, subst, sym}
-use Rattle.std.proofs.lemmas.Result.{IfOk-weaker}
-use Rattle.ulfm_reach.specs.declared.reach.Reach.TheVariants.{All}
+use Rattle.std.proofs.Common.{None, string_bytes, subst}
 use Rattle.ulfm_replies.specs.Stopped.{asked_view}
-use Rattle.ulfm_replies.specs.Wish.{choice_view}
-use Rattle.ulfm_judged.specs.Outcomes.{IsJudged, good, unwanted}
-use Rattle.ulfm_judged.specs.inside.Judging.{IsUnwanted}
-use Rattle.ulfm_judged.proofs.Writable.{writable}
+use Rattle.ulfm_judged.specs.Outcomes.{drawn}
+use Rattle.ulfm_judged.specs.inside.Looking.{IsDrawnOf}
 use Rattle.ulfm_judged.proofs.listed.judged.Goals as goal
 
-pub unwanted-requires : goal.unwanted-requires
-unwanted-requires g c = (c.args.reached.now.keys, c.requires)
+pub drawn-requires : goal.drawn-requires
+drawn-requires g c = (c.args.reached.now.keys, c.requires)
 
-pub text_of-requires : goal.text_of-requires
-text_of-requires g c = writable c.args.asked.now.job c.args.search.now.options.limit (All c.args.reached.now) c.requires
-
-pub good-requires : goal.good-requires
-good-requires g c = writable c.args.asked.now.job c.args.search.now.options.limit (All c.args.reached.now) c.requires
+pub undrawn-requires-clause-none : goal.undrawn-requires-clause-none
+undrawn-requires-clause-none g c = subst (IsDrawnOf c.args.search.now.form c.args.search.now.options None (asked_view c.args.asked.now) c.args.reached.now.found) c.in-None.is c.in_ok.ensures
 
 pub returns-in-Some : goal.returns-in-Some
 returns-in-Some g c =
-    let asked = asked_view c.args.asked.now in
-    let form = c.args.search.now.form in
-    let options = c.args.search.now.options in
-    let choice = choice_view c.args.search.now.choice in
-    let told = c.in-Some.told in
-    let words = string_bytes told.reply.text in
-    let is = subst (IsUnwanted form options None asked c.args.reached.now.found) c.in-Some.is c.in_ok-told.ensures in
-    let whole = subst (λ (list : List ℕ). IsJudged form choice options asked c.args.reached.now told.reply.status (list ++ words)) (sym c.in_ok-list.ensures) (unwanted told.judgement told.reply.status words is) in
-    IfOk-weaker c.below.result _ _ (λ r h. rw (h.0, h.1) whole) c.below.ensures
-
-pub returns-in-None : goal.returns-in-None
-returns-in-None g c =
-    let wanted = subst (IsUnwanted c.args.search.now.form c.args.search.now.options None (asked_view c.args.asked.now) c.args.reached.now.found) c.in-None.is c.in_ok-told.ensures in
-    IfOk-weaker c.good.result _ _ (λ r h. rw (h.0, h.1) (good wanted)) c.good.ensures
+    let is = subst (IsDrawnOf c.args.search.now.form c.args.search.now.options None (asked_view c.args.asked.now) c.args.reached.now.found) c.in-Some.is c.in_ok.ensures in
+    drawn is.0 c.in-Some.reply.status (string_bytes c.in-Some.reply.text) is.1 is.2
