@@ -119,7 +119,7 @@ lists-writable j limit (place ∷ places) (one ∷ listed) past lists =
 -- the lists of all places with what is told below them
 pub each_as : (form : Form) (choice : ChoiceView) (options : ListOptions) (stops : ℕ) (bytes : List ℕ) (asked : Asked) (places : List Place) (listed : List Listed) (past : Option Place) (judgement : Judgement) (status : ℕ) (text words : List ℕ)
     → IsAskedAt Nowhere bytes asked → unknown_part choice asked ≡ None → AreLists asked.job options.limit places listed past → places ≡ places_of stops asked.job → All (IsUndrawn options asked) listed
-    → IsJudgedEach form options asked (places_in listed) (judgement_past asked listed past) (status_past options listed past) judgement status words
+    → IsJudgedEach form options asked (places_in listed) (judgement_past options asked listed past) (status_past options listed past) judgement status words
     → text ≡ text_past form choice asked options listed past judgement ++ words → IsEachPlaceReply form choice options stops bytes status text
 each_as form choice options stops bytes asked places listed None judgement status text words read named are is none judged same =
     subst (λ (t : List ℕ). IsEachPlaceReply form choice options stops bytes status t) (sym same)

@@ -9,7 +9,6 @@ use Rattle.ulfm_judged.specs.Lists.{AreLists}
 use Rattle.ulfm_lists.specs.Told.{more_at}
 use Rattle.ulfm_lists.specs.Union.{some_never_ends}
 use Rattle.ulfm_lists.specs.declared.listed.Listed.{Listed}
-use Rattle.ulfm_found.specs.Judgement.{good_judgement}
 use Rattle.ulfm_found.specs.declared.judgement.Judgement.{Judgement}
 use Rattle.ulfm_found.specs.declared.judgement.Judgement.TheVariants.{NotKnown}
 use Rattle.ulfm_json.specs.declared.form.Form.{Form}
@@ -21,8 +20,9 @@ use Rattle.ulfm_replies.specs.Wish.{ChoiceView}
 use Rattle.ulfm_found.specs.declared.unmet.Unmet.{Unmet}
 use Rattle.ulfm_judged.specs.Chosen.{lists_in, no_name, unknown_part}
 use Rattle.ulfm_judged.specs.Drawn.{IsDrawn, left_drawn}
+use Rattle.ulfm_judged.specs.Hangs.{judgement_of_all}
 use Rattle.ulfm_judged.specs.Outcomes.{list_status}
-use Rattle.ulfm_judged.specs.Wanted.{HasList, IsToldOf, IsWanted, asks}
+use Rattle.ulfm_judged.specs.Wanted.{HasList, IsToldOf, IsWanted}
 
 -- what is told of a place where some schedule has one, by a list of all outcomes there
 abbrev pub IsToldAt : Form → ListOptions → Place → Asked → Judgement → ℕ → List ℕ → Type 0
@@ -67,7 +67,7 @@ places_in listed = map (λ (one : Listed). one.place) listed
 -- step never ends at one of them, that alone, of the first such place.
 pub data IsEachPlaceReply (form : Form) (choice : ChoiceView) (options : ListOptions) (stops : ℕ) (bytes : List ℕ) : ℕ → List ℕ → Type 0 where
   listed_all : (asked : Asked) (listed : List Listed) (judgement : Judgement) (status : ℕ) (text : List ℕ) → IsAskedAt Nowhere bytes asked → unknown_part choice asked ≡ None → AreLists asked.job options.limit (places_of stops asked.job) listed None → All (IsUndrawn options asked) listed
-      → IsJudgedEach form options asked (places_in listed) (good_judgement (some_never_ends listed) (asks asked)) (list_status options.is_strict (some_never_ends listed)) judgement status text
+      → IsJudgedEach form options asked (places_in listed) (judgement_of_all options.is_strict asked listed) (list_status options.is_strict (some_never_ends listed)) judgement status text
       → IsEachPlaceReply form choice options stops bytes status (lists_in form choice asked judgement listed ++ text)
   past_limit_at : (asked : Asked) (listed : List Listed) (place : Place) (judgement : Judgement) (status : ℕ) (text : List ℕ) → IsAskedAt Nowhere bytes asked → unknown_part choice asked ≡ None → AreLists asked.job options.limit (places_of stops asked.job) listed (Some place) → All (IsUndrawn options asked) listed
       → IsJudgedEach form options asked (places_in listed) NotKnown 7 judgement status text

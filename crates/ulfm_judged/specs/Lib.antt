@@ -1,4 +1,5 @@
 pub mod Wanted
+pub mod Hangs
 pub mod Chosen
 pub mod Drawn
 pub mod Outcomes

@@ -12,7 +12,6 @@ use Rattle.ulfm_found.specs.Text.{some_never_ends}
 use Rattle.ulfm_found.specs.declared.goals.Goals.{Goals}
 use Rattle.ulfm_json.specs.declared.form.Form.{Form}
 use Rattle.ulfm_json.specs.declared.form.Form.TheVariants.{Words, Json}
-use Rattle.ulfm_found.specs.Judgement.{good_judgement}
 use Rattle.ulfm_found.specs.Objects.{more_in}
 use Rattle.ulfm_found.specs.declared.judgement.Judgement.{Judgement}
 use Rattle.ulfm_lists.specs.Told.{told_in}
@@ -24,8 +23,9 @@ use Rattle.ulfm_replies.specs.declared.command.ListOptions.{ListOptions}
 use Rattle.ulfm_replies.specs.Wish.{ChoiceView}
 use Rattle.ulfm_found.specs.declared.unmet.Unmet.{Unmet}
 use Rattle.ulfm_judged.specs.Drawn.{IsDrawn, left_drawn}
+use Rattle.ulfm_judged.specs.Hangs.{judgement_alone}
 use Rattle.ulfm_judged.specs.Chosen.{list_in, no_name, unknown_part}
-use Rattle.ulfm_judged.specs.Wanted.{IsToldOf, IsWanted, asks}
+use Rattle.ulfm_judged.specs.Wanted.{IsToldOf, IsWanted}
 
 -- what the words say that no schedule shows the answers, in this form
 abbrev pub nowhere_in : Form → List ℕ
@@ -42,7 +42,7 @@ list_status is_strict is_open = if is_strict then (if is_open then 6 else 0) els
 pub data IsJudged (form : Form) (choice : ChoiceView) (options : ListOptions) (asked : Asked) (reached : Reached) : ℕ → List ℕ → Type 0 where
   drawn : (left : Unmet) (status : ℕ) (text : List ℕ) → left_drawn options.drawn asked.job reached.found ≡ Some left → IsDrawn form options None asked left status text → IsJudged form choice options asked reached status text
   good : left_drawn options.drawn asked.job reached.found ≡ None → IsWanted asked → IsJudged form choice options asked reached (list_status options.is_strict (some_never_ends reached.found))
-      (list_in form choice asked (good_judgement (some_never_ends reached.found) (asks asked)) reached)
+      (list_in form choice asked (judgement_alone options.is_strict asked reached.found) reached)
   unwanted : (judgement : Judgement) (status : ℕ) (text : List ℕ) → left_drawn options.drawn asked.job reached.found ≡ None → IsToldOf form options None asked reached.found judgement status text
       → IsJudged form choice options asked reached status (list_in form choice asked judgement reached ++ text)
 

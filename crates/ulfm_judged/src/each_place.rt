@@ -12,7 +12,7 @@ ghost use Rattle.ulfm_judged.specs.inside.Judging.{AreListedOf, AreSharing, IsEa
 
 use crate::choosing::{chosen, no_name, printed, unknown_part};
 use crate::drawing::first_drawn;
-use crate::finding::asks;
+use crate::hang::judgement_of_all;
 use crate::listed::{below, list_status};
 use crate::lists::Lists;
 use crate::onlooker::Onlooker;
@@ -152,9 +152,9 @@ fn alone<F: Finder, L: Onlooker>(
     onlooker: &L,
 ) -> Result<Reply, AllocError>
     requires ascii { AreAllAscii lists.now.listed.items }
-    ensures { IfOk result (λ r. (r.status ≡ lists_status search.now.options lists.now) × (string_bytes r.text ≡ lists_text search.now.form (choice_view search.now.choice) (asked_view asked.now) search.now.options lists.now (lists_judgement (asked_view asked.now) lists.now))) }
+    ensures { IfOk result (λ r. (r.status ≡ lists_status search.now.options lists.now) × (string_bytes r.text ≡ lists_text search.now.form (choice_view search.now.choice) (asked_view asked.now) search.now.options lists.now (lists_judgement search.now.options (asked_view asked.now) lists.now))) }
 {
-    let judgement = judgement_of(asked, lists);
+    let judgement = judgement_of(search, asked, lists)?;
     Ok(Reply {
         status: status_of(search.options, lists),
         text: text_of(search, asked, lists, judgement)?,
@@ -163,12 +163,16 @@ fn alone<F: Finder, L: Onlooker>(
 }
 
 /// What lists come to below which nothing is told: past the limit that isn't known.
-fn judgement_of(asked: &Reading, lists: &Lists) -> Judgement
-    ensures { result ≡ lists_judgement (asked_view asked.now) lists.now }
+fn judgement_of<F>(
+    search: &Search<'_, F>,
+    asked: &Reading,
+    lists: &Lists,
+) -> Result<Judgement, AllocError>
+    ensures { IfOk result (λ j. j ≡ lists_judgement search.now.options (asked_view asked.now) lists.now) }
 {
     match lists.past_limit {
-        Some(_) => Judgement::NotKnown,
-        None => Judgement::good(some_never_ends(lists.listed.as_slice()), asks(asked)),
+        Some(_) => Ok(Judgement::NotKnown),
+        None => judgement_of_all(search, asked, lists.listed.as_slice()),
     }
 }
 

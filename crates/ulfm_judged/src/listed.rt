@@ -4,7 +4,6 @@ ghost use Rattle.std.specs.Prelude.{◌≡◌, ◌++◌, ℕ, List, None, IfOk, 
 ghost use Rattle.ulfm_replies.specs.Stopped.{IsAskedAt, asked_view};
 ghost use Rattle.ulfm_reach.specs.declared.reach.Reach.TheVariants.{All};
 ghost use Rattle.ulfm_finder.specs.Outcomes.{IsList};
-ghost use Rattle.ulfm_found.specs.Judgement.{good_judgement};
 ghost use Rattle.ulfm_found.specs.Objects.{more_in};
 ghost use Rattle.ulfm_found.specs.Text.{AreAscii, some_never_ends};
 ghost use Rattle.ulfm_replies.specs.Wish.{choice_view};
@@ -12,12 +11,12 @@ ghost use Rattle.ulfm_judged.specs.Chosen.{list_in, unknown_part};
 ghost use Rattle.ulfm_judged.specs.Drawn.{left_drawn};
 ghost use Rattle.ulfm_judged.specs.ListReply.{IsListReply};
 ghost use Rattle.ulfm_judged.specs.Outcomes.{IsJudged, IsOutcomesReply, list_status};
-ghost use Rattle.ulfm_judged.specs.Wanted.{asks};
+ghost use Rattle.ulfm_judged.specs.Hangs.{judgement_alone};
 
 use crate::choosing::{chosen, no_name, printed, unknown_part};
 use crate::drawing::drawn;
 use crate::each_place::each_place_reply;
-use crate::finding::asks;
+use crate::hang::judgement_alone;
 use crate::onlooker::Onlooker;
 use crate::search::Search;
 use crate::show_each::show_each_reply;
@@ -169,10 +168,10 @@ fn good<F: Finder, W: Watch>(
     watch: &mut W,
 ) -> Result<Reply, AllocError>
     requires { AreAscii reached.now.found }
-    ensures { IfOk result (λ r. (r.status ≡ list_status search.now.options.is_strict (some_never_ends reached.now.found)) × (string_bytes r.text ≡ list_in search.now.form (choice_view search.now.choice) (asked_view asked.now) (good_judgement (some_never_ends reached.now.found) (asks (asked_view asked.now))) reached.now)) }
+    ensures { IfOk result (λ r. (r.status ≡ list_status search.now.options.is_strict (some_never_ends reached.now.found)) × (string_bytes r.text ≡ list_in search.now.form (choice_view search.now.choice) (asked_view asked.now) (judgement_alone search.now.options.is_strict (asked_view asked.now) reached.now.found) reached.now)) }
 {
     let is_open = some_never_end(&reached.found);
-    let judgement = Judgement::good(is_open, asks(asked));
+    let judgement = judgement_alone(search, asked, &reached.found)?;
     Ok(Reply {
         status: list_status(search.options.is_strict, is_open),
         text: text_of(search, asked, reached, judgement)?,

@@ -13,16 +13,16 @@ use Rattle.ulfm_reader.specs.declared.reading.Reading.{Reading}
 use Rattle.ulfm_replies.specs.declared.command.ListOptions.{ListOptions}
 use Rattle.ulfm_replies.specs.declared.reply.Reply.{Reply}
 use Rattle.ulfm_judged.specs.declared.finding.Finding.{Finding}
-use Rattle.ulfm_found.specs.Judgement.{good_judgement}
 use Rattle.ulfm_found.specs.declared.judgement.Judgement.{Judgement}
 use Rattle.ulfm_found.specs.declared.judgement.Judgement.TheVariants.{NotKnown}
 use Rattle.ulfm_judged.specs.EachPlace.{IsFirstPicture, IsJudgedEach, IsToldAt, IsUndrawn, IsUnfound, places_in}
 use Rattle.ulfm_lists.specs.Told.{more_at}
 use Rattle.ulfm_replies.specs.Wish.{ChoiceView}
 use Rattle.ulfm_judged.specs.Chosen.{lists_in}
+use Rattle.ulfm_judged.specs.Hangs.{judgement_of_all}
 use Rattle.ulfm_judged.specs.Outcomes.{list_status, nowhere_in}
 use Rattle.ulfm_judged.specs.ShowEach.{AreGoalsAt, IsNowhereAt}
-use Rattle.ulfm_judged.specs.Wanted.{HasList, IsToldOf, IsWanted, asks}
+use Rattle.ulfm_judged.specs.Wanted.{HasList, IsToldOf, IsWanted}
 use Rattle.ulfm_judged.specs.declared.show_each.LookAt.{LookAt}
 use Rattle.ulfm_lists.specs.declared.told.Told.{Told}
 use Rattle.ulfm_finder.specs.Told.{IsLook}
@@ -85,13 +85,13 @@ abbrev pub lists_status : ListOptions → Lists → ℕ
 lists_status options lists = status_past options lists.listed.items lists.past_limit
 
 -- what lists come to below which nothing is told: past the limit that isn't known
-abbrev pub judgement_past : Asked → List Listed → Option Place → Judgement
-judgement_past asked listed None = good_judgement (some_never_ends listed) (asks asked)
-judgement_past asked listed (Some place) = NotKnown
+abbrev pub judgement_past : ListOptions → Asked → List Listed → Option Place → Judgement
+judgement_past options asked listed None = judgement_of_all options.is_strict asked listed
+judgement_past options asked listed (Some place) = NotKnown
 
 -- that of these lists
-abbrev pub lists_judgement : Asked → Lists → Judgement
-lists_judgement asked lists = judgement_past asked lists.listed.items lists.past_limit
+abbrev pub lists_judgement : ListOptions → Asked → Lists → Judgement
+lists_judgement options asked lists = judgement_past options asked lists.listed.items lists.past_limit
 
 -- the text of lists that come to this, or that they come past the limit
 abbrev pub text_past : Form → ChoiceView → Asked → ListOptions → List Listed → Option Place → Judgement → List ℕ
@@ -105,7 +105,7 @@ lists_text form choice asked options lists judgement = text_past form choice ask
 -- the status of lists and their text, with what is told below it
 abbrev pub IsEachText : Form → ChoiceView → ListOptions → Asked → Lists → ℕ → List ℕ → Type 0
 IsEachText form choice options asked lists status text = (judgement : Judgement) × (told : List ℕ)
-    × IsJudgedEach form options asked (places_in lists.listed.items) (lists_judgement asked lists) (lists_status options lists) judgement status told × (text ≡ lists_text form choice asked options lists judgement ++ told)
+    × IsJudgedEach form options asked (places_in lists.listed.items) (lists_judgement options asked lists) (lists_status options lists) judgement status told × (text ≡ lists_text form choice asked options lists judgement ++ told)
 
 -- a picture at a place, by its list, or none
 abbrev pub IsDrawnThere : Form → ListOptions → Listed → Asked → Option Reply → Type 0

@@ -1,4 +1,4 @@
-use Rattle.std.proofs.Common.{Some, sym, ◌∙◌}
+use Rattle.std.proofs.Common.{sym, ◌∙◌}
 use Rattle.ulfm_judged.proofs.Picture.{left_possible}
 use Rattle.ulfm_judged.proofs.drawing.drawn.Goals as goal
 

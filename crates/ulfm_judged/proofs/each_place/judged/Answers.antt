@@ -23,8 +23,8 @@ returns-in-Some g c =
     IfOk-weaker c.below.result _ _ (λ r h. (
       told.judgement,
       words,
-      subst (λ (k : ℕ). IsJudgedEach form options asked (places_in lists.listed.items) (lists_judgement asked lists) (lists_status options lists) told.judgement k words) (sym h.0)
-          (first (lists_judgement asked lists) (lists_status options lists)),
+      subst (λ (k : ℕ). IsJudgedEach form options asked (places_in lists.listed.items) (lists_judgement options asked lists) (lists_status options lists) told.judgement k words) (sym h.0)
+          (first (lists_judgement options asked lists) (lists_status options lists)),
       h.1 ∙ ap (λ (t : List ℕ). t ++ words) c.in_ok-text.ensures,
     )) c.below.ensures
 
@@ -34,7 +34,7 @@ returns-in-None g c =
     let form = c.args.search.now.form in
     let options = c.args.search.now.options in
     let lists = c.args.lists.now in
-    let alone = lists_judgement asked lists in
+    let alone = lists_judgement options asked lists in
     let of_slice = subst (IsFirstUnwanted form options asked (places_in c.as_slice.result.now)) c.in-None.is c.in_ok-told.ensures in
     let all = subst (λ (listed : List Listed). IsFirstUnwanted form options asked (places_in listed) None) c.as_slice.ensures.value of_slice in
     IfOk-weaker c.alone.result _ _ (λ r h. (
