@@ -17,7 +17,7 @@ DONE, USAGE, INPUT_FAILED = 0, 2, 5
 # From here on two names are alike.
 ALIKE = 0.7
 # The values that a page gives no range for.
-FREE = {"GOALS": r"[^-].*", "PAGE": r"[^-].*", "PLACE": r"-|[0-7]\.\d{1,3}\*?"}
+FREE = {"GOALS": r"[^-].*", "PAGE": r"[^-].*", "STEPS": r"[^-].*", "PLACE": r"-|[0-7]\.\d{1,3}\*?"}
 
 
 class Page:

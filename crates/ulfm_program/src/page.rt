@@ -50,6 +50,7 @@ pub(crate) fn write_page<T: Files, F: Finder, E: Write>(
             is_brief: true,
             ..options
         },
+        choice: asked.wish.choice,
     };
     match made(rt, &search, stops, file) {
         // Standard error has said what is wrong with the job.
