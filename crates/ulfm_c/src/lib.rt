@@ -1,5 +1,5 @@
-//! What C calls: an export for each call of a process, over `ulfm_process`. `c/ulfm.h` says what each does, `c/ulfm.c` looks for null pointers
-//! before it calls one.
+//! What C calls: an export for each call of a process, over `ulfm_process`. `c/include/ulfm.h` says what each does, `c/engine/ulfm.c` looks
+//! for null pointers before it calls one.
 //!
 //! C holds a process by a [`Handle`](handle::Handle). An export takes the process out, calls it, and puts it back. Each answers a code: 0, the
 //! number of a refusal, 16 where the handle has no process, 17 where nothing came yet, 18 where a receive pends. A refusal changes nothing and
