@@ -1,5 +1,5 @@
 -- What is told below a list, and of answers that words name.
-use Rattle.std.proofs.Common.{◌≡◌, ℕ, ◌+◌, ◌<◌, List, [], ◌∷◌, ◌++◌, length, take, get_or, slice_get, Option, Some, None, Vec, option_map, Ok, subst, sym, ap, ◌∙◌}
+use Rattle.std.proofs.Common.{◌≡◌, ℕ, ◌+◌, ◌<◌, Bool, true, false, cond, find, map, refl, List, [], ◌∷◌, ◌++◌, length, take, get_or, slice_get, Option, Some, None, Vec, option_map, Ok, subst, sym, ap, ◌∙◌}
 use Rattle.std.proofs.lemmas.List.{take_more}
 use Rattle.std.proofs.lemmas.List.Elements.{All-push}
 use Rattle.std.proofs.lemmas.Option.{get_or_from_slice_get, slice_get-get_or, slice_get-map}
@@ -20,6 +20,15 @@ use Rattle.ulfm_lists.specs.Told.{told_in}
 use Rattle.ulfm_lists.specs.declared.told.Told.{Told}
 use Rattle.ulfm_lists.specs.declared.told.Told.TheVariants as told
 use Rattle.ulfm_judged.specs.inside.Looking.{IsLookText, look_status}
+
+-- what is found among views, by what is found among what they are of
+pub find-map : {X Y : Type 0} (p : Y → Bool) (f : X → Y) (xs : List X) → option_map f (find (λ x. p (f x)) xs) ≡ find p (map f xs)
+find-map p f [] = refl
+find-map {X} {Y} p f (x ∷ xs) = by (find-map p f xs) (p (f x))
+  where
+    by : option_map f (find (λ y. p (f y)) xs) ≡ find p (map f xs) → (b : Bool) → option_map f (cond b (Some x) (find (λ y. p (f y)) xs)) ≡ cond b (Some (f x)) (find p (map f xs))
+    by later true = refl
+    by later false = later
 
 -- what contracts see of a part of a text, if there is one
 abbrev pub part_now : Option (Bor (List ℕ)) → Option (List ℕ)

@@ -85,11 +85,11 @@ module _ (job : JobView) (limit : ℕ) (found : List (List ℕ)) (list : HasList
 
   first : (steps : List StepView) (left : Unmet) → first_left found steps ≡ Some left → Judges job (Some left)
   first [] left same = absurd (none-some left same)
-  first (s ∷ steps) left = by (left_of found s) refl
+  first (s ∷ steps) left same = by (λ rest. first steps left rest) (left_of found s) refl same
     where
-      by : (o : Option Unmet) → left_of found s ≡ o → option_or o (first_left found steps) ≡ Some left → Judges job (Some left)
-      by None is same = first steps left same
-      by (Some one) is same = here s left (is ∙ same)
+      by : (first_left found steps ≡ Some left → Judges job (Some left)) → (o : Option Unmet) → left_of found s ≡ o → option_or o (first_left found steps) ≡ Some left → Judges job (Some left)
+      by later None is same = later same
+      by later (Some one) is same = here s left (is ∙ same)
 
 -- and so may the one that is drawn
 pub left_possible : (drawn : Option Style) (job : JobView) (limit : ℕ) (found : List (List ℕ)) (left : Unmet) → HasList job limit found → left_drawn drawn job found ≡ Some left → Judges job (Some left)

@@ -57,11 +57,11 @@ show_known form options show bytes status text (unnamed job part is named) = sta
 show_known form options show bytes status text (not_shown k words is) = no_play form options.place bytes status text is
 show_known form options show bytes status text unshown = statuses.run_fails
 
-each_judged_known : (form : Form) (options : ListOptions) (asked : Asked) (places : List Place) (good : Judgement) (alone : ℕ) (judgement : Judgement) (status : ℕ) (text : List ℕ) → IsKnown alone
-    → IsJudgedEach form options asked places good alone judgement status text → IsKnown status
-each_judged_known form options asked places good alone judgement status text known (each.wanted all) = known
-each_judged_known form options asked places good alone judgement status text known (each.found number place what words here before is) = statuses.not_wanted
-each_judged_known form options asked places good alone judgement status text known (each.unfound number place words here before none is) = statuses.past
+each_judged_known : (form : Form) (options : ListOptions) (asked : Asked) (places : List Place) (lone : Judgement) (alone : ℕ) (judgement : Judgement) (status : ℕ) (text : List ℕ) → IsKnown alone
+    → IsJudgedEach form options asked places lone alone judgement status text → IsKnown status
+each_judged_known form options asked places lone alone judgement status text known (each.wanted all) = known
+each_judged_known form options asked places lone alone judgement status text known (each.found number place what words here before is) = statuses.not_wanted
+each_judged_known form options asked places lone alone judgement status text known (each.unfound number place words here before none is) = statuses.past
 
 each_known : (form : Form) (choice : ChoiceView) (options : ListOptions) (stops : ℕ) (bytes : List ℕ) (status : ℕ) (text : List ℕ) → IsEachPlaceReply form choice options stops bytes status text → IsKnown status
 each_known form choice options stops bytes status text (each.listed_all asked lists judgement k words is named are none judged) = each_judged_known form options asked _ _ _ judgement status _ (list_alone options.is_strict (each_never_ends lists)) judged

@@ -43,7 +43,7 @@ module _ (form : Form) (options : ListOptions) (asked : Asked) where
       by : (what : Judgement) (k : ℕ) (words : List ℕ) → IsToldOf form options (Some place) (asked_at place asked) told.0 what k words → (k == 9) ≡ false → (what ≡ NotKnown) × (k ≡ 7) × is_told place NotKnown 7 words
       by what k words (unmet one goals shown first is shows) other = absurd (false≢true (sym other))
       by what k words (together number row goals schedule meets here none are shows) other = absurd (false≢true (sym other))
-      by what k words (unsearched number row goals meets here none are shows) other = (refl, refl, told.0, told.1, unsearched number row goals meets here none are shows)
+      by what k words (unsearched number row goals meets here none are shows) other = (refl, refl, (told.0, told.1, unsearched number row goals meets here none are shows))
 
   module _ (listed : List Listed) where
     -- at none of so many places a schedule was found

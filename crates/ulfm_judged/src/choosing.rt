@@ -1,6 +1,6 @@
 //! The steps whose lines a list has.
-ghost use Rattle.std.specs.Prelude.{◌≡◌, ◌++◌, not, IfOk, OnOk, filter, map, option_map, string_bytes};
-ghost use Rattle.std.specs.List.{find, flat_map};
+ghost use Rattle.std.specs.Prelude.{◌≡◌, ◌==◌, ◌++◌, not, IfOk, OnOk, filter, map, option_map, string_bytes};
+ghost use Rattle.std.specs.List.{find, flat_map, list_any, slice_split};
 ghost use Rattle.ulfm_found.specs.Listed.{list_view, step_view};
 ghost use Rattle.ulfm_found.specs.Objects.{printed};
 ghost use Rattle.ulfm_replies.specs.Stopped.{asked_view};
@@ -77,9 +77,16 @@ fn parts_of<'a>(alloc: Global, only: Option<&'a str>) -> Result<Vec<&'a str>, Al
     ensures { IfOk result (λ parts. map (λ p. p.now) parts.items ≡ parts_of (option_map (λ s. s.now) only.entry)) }
 {
     match only {
-        Some(text) => text.split(',').collect(alloc),
+        Some(text) => split(alloc, text),
         None => Ok(Vec::new(alloc)),
     }
+}
+
+/// The parts of a text between commas.
+fn split<'a>(alloc: Global, text: &'a str) -> Result<Vec<&'a str>, AllocError>
+    ensures { IfOk result (λ parts. map (λ p. p.now) parts.items ≡ slice_split (λ b. b == 44) text.now) }
+{
+    text.split(',').collect(alloc)
 }
 
 /// Those of these steps that are asked for.
@@ -90,7 +97,7 @@ fn kept<'a>(
     names: &[Name],
     steps: &[JobStep<'a>],
 ) -> Result<Vec<JobStep<'a>>, AllocError>
-    ensures { IfOk result (λ kept. map step_view kept.items ≡ filter (is_chosen (choice_view choice) (map (λ p. p.now) parts.now) names.now) (map step_view steps.now)) }
+    ensures { IfOk result (λ kept. map step_view kept.items ≡ filter (is_chosen (choice_view choice.entry) (map (λ p. p.now) parts.now) names.now) (map step_view steps.now)) }
 {
     let mut kept = Vec::new(alloc);
     for at in steps {
@@ -109,7 +116,7 @@ fn is_chosen(
     names: &[Name],
     at: &JobStep<'_>,
 ) -> Result<bool, AllocError>
-    ensures { IfOk result (λ is. is ≡ is_chosen (choice_view choice) (map (λ p. p.now) parts.now) names.now (step_view at.now)) }
+    ensures { IfOk result (λ is. is ≡ is_chosen (choice_view choice.entry) (map (λ p. p.now) parts.now) names.now (step_view at.now)) }
 {
     if is_all(choice) || (choice.has_notes && is_note(at.step)) {
         return Ok(true);
@@ -121,7 +128,7 @@ fn is_chosen(
 
 /// Whether all lines are asked for.
 fn is_all(choice: Choice<'_>) -> bool
-    ensures { result ≡ is_all (choice_view choice) }
+    ensures { result ≡ is_all (choice_view choice.entry) }
 {
     choice.only.is_none() && !choice.has_notes
 }
@@ -175,12 +182,26 @@ fn push_named(texts: &mut Vec<String>, rank: u8, name: Option<&str>) -> Result<(
 fn are_called(parts: &[&str], texts: &[String]) -> bool
     ensures { result ≡ are_called (map (λ p. p.now) parts.now) (map string_bytes texts.now) }
 {
+    some_called(parts, texts)
+}
+
+/// The same, part by part.
+fn some_called(parts: &[&str], texts: &[String]) -> bool
+    ensures { result ≡ list_any (λ part. is_called (map string_bytes texts.now) part.now) parts.now }
+{
     parts.iter().any(|part| is_called(texts, *part))
 }
 
 /// Whether a part is one of these texts.
 fn is_called(texts: &[String], part: &str) -> bool
     ensures { result ≡ is_called (map string_bytes texts.now) part.now }
+{
+    has_text(texts, part)
+}
+
+/// The same, text by text.
+fn has_text(texts: &[String], part: &str) -> bool
+    ensures { result ≡ list_any (λ text. is_part part.now (string_bytes text)) texts.now }
 {
     texts.iter().any(|text| is_part(part, text.as_str()))
 }
@@ -195,6 +216,13 @@ fn is_part(part: &str, text: &str) -> bool
 /// The first of these parts that is none of these texts.
 fn first_unknown<'a>(parts: &[&'a str], texts: &[String]) -> Option<&'a str>
     ensures { option_map (λ p. p.now) result ≡ find (λ part. not (is_called (map string_bytes texts.now) part)) (map (λ p. p.now) parts.now) }
+{
+    first_without(parts, texts)
+}
+
+/// The same, part by part.
+fn first_without<'a>(parts: &[&'a str], texts: &[String]) -> Option<&'a str>
+    ensures { option_map (λ p. p.now) result ≡ option_map (λ p. p.now) (find (λ part. not (is_called (map string_bytes texts.now) part.now)) parts.now) }
 {
     let part = parts.iter().find(|part| !is_called(texts, **part))?;
     Some(*part)

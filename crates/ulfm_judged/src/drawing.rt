@@ -71,7 +71,10 @@ pub(crate) fn drawn<F: Finder, W: Watch>(
     ensures { IfOk result (IsDrawnOf search.now.form search.now.options at (asked_view asked.now) found.now) }
 {
     match left_drawn(search, asked, found)? {
-        Some(left) => Ok(Some(left_reply(search, at, asked, left, watch)?)),
+        Some(left) => {
+            let reply = left_reply(search, at, asked, left, watch)?;
+            Ok(Some(reply))
+        }
         None => Ok(None),
     }
 }

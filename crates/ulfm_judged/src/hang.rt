@@ -112,6 +112,13 @@ fn hangs_somewhere(is_strict: bool, job: &Job, steps: &[JobStep<'_>], listed: &[
 fn hangs_at(is_strict: bool, job: &Job, steps: &[JobStep<'_>], place: Place, found: &Rows) -> bool
     ensures { result ≡ hangs_at is_strict job.now (map step_view steps.now) place found.now }
 {
+    some_hangs(is_strict, job, steps, place, found)
+}
+
+/// The same, step by step.
+fn some_hangs(is_strict: bool, job: &Job, steps: &[JobStep<'_>], place: Place, found: &Rows) -> bool
+    ensures { result ≡ list_any (λ at. is_hang is_strict job.now place found.now (step_view at)) steps.now }
+{
     steps
         .iter()
         .any(|at| is_hang(is_strict, job, place, found, at))

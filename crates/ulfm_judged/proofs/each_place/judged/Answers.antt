@@ -8,24 +8,24 @@ use Rattle.ulfm_judged.specs.inside.Judging.{AreListedOf, IsFirstUnwanted, lists
 use Rattle.ulfm_judged.proofs.each_place.judged.Goals as goal
 
 pub first_unwanted-requires : goal.first_unwanted-requires
-first_unwanted-requires g c = subst (AreListedOf (asked_view c.args.asked.now) c.args.search.now.options.limit) (sym c.as_slice.ensures.value) c.requires.listed
+first_unwanted-requires g c = subst (AreListedOf (asked_view c.args.asked.now) c.args.search.now.options.limit) (sym c.as_slice-listed.ensures.value) c.requires.listed
 
-pub returns-in-Some : goal.returns-in-Some
-returns-in-Some g c =
+pub returns-in_ok-text-in-Some : goal.returns-in_ok-text-in-Some
+returns-in_ok-text-in-Some g c =
     let asked = asked_view c.args.asked.now in
     let form = c.args.search.now.form in
     let options = c.args.search.now.options in
     let lists = c.args.lists.now in
     let told = c.in-Some.told in
     let words = string_bytes told.reply.text in
-    let of_slice = subst (IsFirstUnwanted form options asked (places_in c.as_slice.result.now)) c.in-Some.is c.in_ok-told.ensures in
-    let first = subst (λ (listed : List Listed). IsFirstUnwanted form options asked (places_in listed) (Some told)) c.as_slice.ensures.value of_slice in
+    let of_slice = subst (IsFirstUnwanted form options asked (places_in c.as_slice-listed.result.now)) c.in-Some.is c.in_ok-told.ensures in
+    let first = subst (λ (listed : List Listed). IsFirstUnwanted form options asked (places_in listed) (Some told)) c.as_slice-listed.ensures.value of_slice in
     IfOk-weaker c.below.result _ _ (λ r h. (
       told.judgement,
       words,
       subst (λ (k : ℕ). IsJudgedEach form options asked (places_in lists.listed.items) (lists_judgement options asked lists) (lists_status options lists) told.judgement k words) (sym h.0)
           (first (lists_judgement options asked lists) (lists_status options lists)),
-      h.1 ∙ ap (λ (t : List ℕ). t ++ words) c.in_ok-text.ensures,
+      h.1 ∙ ap (λ (t : List ℕ). t ++ words) c.in_ok-text-in-Some.ensures,
     )) c.below.ensures
 
 pub returns-in-None : goal.returns-in-None
@@ -35,8 +35,8 @@ returns-in-None g c =
     let options = c.args.search.now.options in
     let lists = c.args.lists.now in
     let alone = lists_judgement options asked lists in
-    let of_slice = subst (IsFirstUnwanted form options asked (places_in c.as_slice.result.now)) c.in-None.is c.in_ok-told.ensures in
-    let all = subst (λ (listed : List Listed). IsFirstUnwanted form options asked (places_in listed) None) c.as_slice.ensures.value of_slice in
+    let of_slice = subst (IsFirstUnwanted form options asked (places_in c.as_slice-listed.result.now)) c.in-None.is c.in_ok-told.ensures in
+    let all = subst (λ (listed : List Listed). IsFirstUnwanted form options asked (places_in listed) None) c.as_slice-listed.ensures.value of_slice in
     IfOk-weaker c.alone.result _ _ (λ r h. (
       alone,
       [],

@@ -39,18 +39,18 @@ returns-in-Some g c = λ bytes read.
     let options = c.args.search.now.options in
     let lists = c.in_ok-lists.lists in
     let reply = c.in-Some.reply in
-    let of_slice = subst (IsFirstDrawn form options asked c.as_slice-2.result.now) c.in-Some.is c.in_ok.ensures in
+    let of_slice = subst (IsFirstDrawn form options asked c.as_slice-2.result.now) c.in-Some.is c.in_ok-reply.ensures in
     let first = subst (λ (listed : List Listed). IsFirstDrawn form options asked listed (Some reply)) c.as_slice-2.ensures.value of_slice in
     drawn_at_place asked lists.listed.items lists.past_limit reply.status (string_bytes reply.text) read c.requires
     (subst (λ (ps : List Place). AreLists asked.job options.limit ps lists.listed.items lists.past_limit) (c.as_slice.ensures.value ∙ c.in_ok-places.ensures.exact) c.in_ok-lists.ensures) first
 
-pub returns-in-None : goal.returns-in-None
-returns-in-None g c = λ bytes read.
+pub returns : goal.returns
+returns g c = λ bytes read.
     let asked = asked_view c.args.asked.now in
     let form = c.args.search.now.form in
     let options = c.args.search.now.options in
     let lists = c.in_ok-lists.lists in
-    let of_slice = subst (IsFirstDrawn form options asked c.as_slice-2.result.now) c.in-None.is c.in_ok.ensures in
+    let of_slice = subst (IsFirstDrawn form options asked c.as_slice-2.result.now) c.in-None.is c.in_ok-reply.ensures in
     let none = subst (λ (listed : List Listed). IsFirstDrawn form options asked listed None) c.as_slice-2.ensures.value of_slice in
     IfOk-weaker c.judged.result _ _ (λ r h. each_as form (choice_view c.args.search.now.choice) options c.args.stops bytes asked c.as_slice.result.now lists.listed.items lists.past_limit h.0 r.status (string_bytes r.text) h.1 read c.requires
     c.in_ok-lists.ensures (c.as_slice.ensures.value ∙ c.in_ok-places.ensures.exact) none h.2 h.3) c.judged.ensures

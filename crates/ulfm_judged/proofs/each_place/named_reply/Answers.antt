@@ -6,9 +6,9 @@ use Rattle.ulfm_judged.proofs.Judged.{part_now}
 use Rattle.ulfm_judged.proofs.each_place.named_reply.Goals as goal
 
 pub listed_reply-requires : goal.listed_reply-requires
-listed_reply-requires g c = sym c.in_ok.ensures ∙ ap part_now c.in-None.is
+listed_reply-requires g c = sym c.in_ok-part.ensures ∙ ap part_now c.in-None.is
 
 pub returns-in-Some : goal.returns-in-Some
 returns-in-Some g c = λ bytes read.
-    let named = sym c.in_ok.ensures ∙ ap part_now c.in-Some.is in
+    let named = sym c.in_ok-part.ensures ∙ ap part_now c.in-Some.is in
     IfOk-weaker c.no_name.result _ _ (λ r h. rw (h.0, h.1) (misnamed_at_all (asked_view c.args.asked.now) c.in-Some.part.now read named)) c.no_name.ensures

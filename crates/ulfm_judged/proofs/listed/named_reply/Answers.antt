@@ -6,9 +6,9 @@ use Rattle.ulfm_judged.proofs.Judged.{part_now}
 use Rattle.ulfm_judged.proofs.listed.named_reply.Goals as goal
 
 pub explored_reply-requires : goal.explored_reply-requires
-explored_reply-requires g c = sym c.in_ok.ensures ∙ ap part_now c.in-None.is
+explored_reply-requires g c = sym c.in_ok-part.ensures ∙ ap part_now c.in-None.is
 
 pub returns-in-Some : goal.returns-in-Some
 returns-in-Some g c = λ bytes read.
-    let named = sym c.in_ok.ensures ∙ ap part_now c.in-Some.is in
+    let named = sym c.in_ok-part.ensures ∙ ap part_now c.in-Some.is in
     IfOk-weaker c.no_name.result _ _ (λ r h. rw (h.0, h.1) (misnamed (asked_view c.args.asked.now) c.in-Some.part.now read named)) c.no_name.ensures

@@ -17,8 +17,8 @@ text_of-requires g c = writable c.args.asked.now.job c.args.search.now.options.l
 pub good-requires : goal.good-requires
 good-requires g c = writable c.args.asked.now.job c.args.search.now.options.limit (All c.args.reached.now) c.requires.list
 
-pub returns-in-Some : goal.returns-in-Some
-returns-in-Some g c =
+pub returns-in_ok-list-in-Some : goal.returns-in_ok-list-in-Some
+returns-in_ok-list-in-Some g c =
     let asked = asked_view c.args.asked.now in
     let form = c.args.search.now.form in
     let options = c.args.search.now.options in
@@ -26,7 +26,7 @@ returns-in-Some g c =
     let told = c.in-Some.told in
     let words = string_bytes told.reply.text in
     let is = subst (IsUnwanted form options None asked c.args.reached.now.found) c.in-Some.is c.in_ok-told.ensures in
-    let whole = subst (λ (list : List ℕ). IsJudged form choice options asked c.args.reached.now told.reply.status (list ++ words)) (sym c.in_ok-list.ensures) (unwanted told.judgement told.reply.status words c.requires.none is) in
+    let whole = subst (λ (list : List ℕ). IsJudged form choice options asked c.args.reached.now told.reply.status (list ++ words)) (sym c.in_ok-list-in-Some.ensures) (unwanted told.judgement told.reply.status words c.requires.none is) in
     IfOk-weaker c.below.result _ _ (λ r h. rw (h.0, h.1) whole) c.below.ensures
 
 pub returns-in-None : goal.returns-in-None
