@@ -1,7 +1,7 @@
 -- What is told below a list, and of answers that words name.
-use Rattle.std.proofs.Common.{◌≡◌, ℕ, ◌+◌, ◌<◌, Bool, true, false, cond, find, map, refl, List, [], ◌∷◌, ◌++◌, length, take, get_or, slice_get, Option, Some, None, Vec, option_map, Ok, subst, sym, ap, ◌∙◌}
-use Rattle.std.proofs.lemmas.List.{take_more}
-use Rattle.std.proofs.lemmas.List.Elements.{All-push}
+use Rattle.std.proofs.Common.{◌≡◌, ℕ, ◌+◌, ◌<◌, Bool, true, false, cond, filter, find, map, refl, List, [], ◌∷◌, ◌++◌, length, take, get_or, slice_get, Option, Some, None, Vec, option_map, Ok, subst, sym, ap, ◌∙◌}
+use Rattle.std.proofs.lemmas.List.{map-append, take_more}
+use Rattle.std.proofs.lemmas.List.Elements.{All-push, filter-append}
 use Rattle.std.proofs.lemmas.Option.{get_or_from_slice_get, slice_get-get_or, slice_get-map}
 use Rattle.std.specs.Borrow.{Bor}
 use Rattle.std.specs.declared.alloc.Global.{Global}
@@ -20,6 +20,11 @@ use Rattle.ulfm_lists.specs.Told.{told_in}
 use Rattle.ulfm_lists.specs.declared.told.Told.{Told}
 use Rattle.ulfm_lists.specs.declared.told.Told.TheVariants as told
 use Rattle.ulfm_judged.specs.inside.Looking.{IsLookText, look_status}
+
+-- those of which that holds, with one more
+pub filter-more : {X V : Type 0} (p : V → Bool) (view : X → V) (xs : List X) (i : ℕ) (x : X) → i < length xs → x ≡ get_or xs i x → filter p (map view (take i xs)) ++ filter p (view x ∷ []) ≡ filter p (map view (take (i + 1) xs))
+filter-more {X} p view xs i x low is =
+    sym (filter-append p (map view (take i xs)) (view x ∷ [])) ∙ ap (filter p) (sym (map-append view (take i xs) (x ∷ []))) ∙ ap (λ (ys : List X). filter p (map view ys)) (ap (λ (y : X). take i xs ++ y ∷ []) is ∙ sym (take_more xs i x low))
 
 -- what is found among views, by what is found among what they are of
 pub find-map : {X Y : Type 0} (p : Y → Bool) (f : X → Y) (xs : List X) → option_map f (find (λ x. p (f x)) xs) ≡ find p (map f xs)

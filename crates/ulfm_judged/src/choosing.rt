@@ -1,5 +1,5 @@
 //! The steps whose lines a list has.
-ghost use Rattle.std.specs.Prelude.{◌≡◌, ◌==◌, ◌++◌, not, IfOk, OnOk, filter, map, option_map, string_bytes};
+ghost use Rattle.std.specs.Prelude.{◌≡◌, ◌==◌, ◌++◌, ◌∷◌, [], if◌then◌else◌, not, IfOk, OnOk, filter, map, option_map, string_bytes};
 ghost use Rattle.std.specs.List.{find, flat_map, list_any, slice_split};
 ghost use Rattle.ulfm_found.specs.Listed.{list_view, step_view};
 ghost use Rattle.ulfm_found.specs.Objects.{printed};
@@ -101,11 +101,20 @@ fn kept<'a>(
 {
     let mut kept = Vec::new(alloc);
     for at in steps {
-        if is_chosen(alloc, choice, parts, names, at)? {
-            kept.push(*at)?;
-        }
+        let is = is_chosen(alloc, choice, parts, names, at)?;
+        push_if(&mut kept, at, is)?;
     }
     Ok(kept)
+}
+
+/// Puts a step behind others, if it is to be there.
+fn push_if<'a>(kept: &mut Vec<JobStep<'a>>, at: &JobStep<'a>, is: bool) -> Result<(), AllocError>
+    ensures { OnOk result (map step_view kept.new.items ≡ map step_view kept.old.items ++ (if is then step_view at.now ∷ [] else [])) }
+{
+    if is {
+        kept.push(*at)?;
+    }
+    Ok(())
 }
 
 /// Whether the line of a step is asked for.

@@ -84,8 +84,7 @@ where
     R: Threads + Sync,
     F: Finder + Sync,
     L: Onlooker + Sync,
-    requires { unknown_part (choice_view search.now.choice) (asked_view asked.now) ≡ None }
-    ensures { (bytes : List ℕ) → IsAskedAt Nowhere bytes (asked_view asked.now) → IfOk result (λ r. IsEachPlaceReply search.now.form (choice_view search.now.choice) search.now.options stops bytes r.status (string_bytes r.text)) }
+    ensures { (bytes : List ℕ) → IsAskedAt Nowhere bytes (asked_view asked.now) → unknown_part (choice_view search.now.choice) (asked_view asked.now) ≡ None → IfOk result (λ r. IsEachPlaceReply search.now.form (choice_view search.now.choice) search.now.options stops bytes r.status (string_bytes r.text)) }
 {
     if asked.job.len() + stops as usize > MOST_STEPS {
         return refusal(search.alloc, search.form, JobFault::TooLarge);

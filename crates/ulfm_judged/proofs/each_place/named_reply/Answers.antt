@@ -5,8 +5,8 @@ use Rattle.ulfm_judged.specs.EachPlace.{misnamed_at_all}
 use Rattle.ulfm_judged.proofs.Judged.{part_now}
 use Rattle.ulfm_judged.proofs.each_place.named_reply.Goals as goal
 
-pub listed_reply-requires : goal.listed_reply-requires
-listed_reply-requires g c = sym c.in_ok-part.ensures ∙ ap part_now c.in-None.is
+pub returns-in-None : goal.returns-in-None
+returns-in-None g c = λ bytes read. c.listed_reply.ensures bytes read (sym c.in_ok-part.ensures ∙ ap part_now c.in-None.is)
 
 pub returns-in-Some : goal.returns-in-Some
 returns-in-Some g c = λ bytes read.
