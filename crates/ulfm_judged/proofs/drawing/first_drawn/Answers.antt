@@ -1,4 +1,4 @@
-use Rattle.std.proofs.Common.{All, is_some, sym, subst, ap, ◌∙◌}
+use Rattle.std.proofs.Common.{All, sym, subst, ◌∙◌}
 use Rattle.std.proofs.lemmas.List.{take_all}
 use Rattle.ulfm_replies.specs.Stopped.{asked_view}
 use Rattle.ulfm_judged.specs.EachPlace.{IsUndrawn}
