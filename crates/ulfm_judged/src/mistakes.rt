@@ -10,11 +10,11 @@ use ulfm_replies::{Place, Remark, StepTold};
 
 /// How such answers begin: a communicator, a rank, a tag or a request that isn't there, or one that the rank made before.
 const MISTAKES: [&str; 5] = [
-    "refused 1 ",
-    "refused 2 ",
-    "refused 4 ",
-    "refused 7 ",
-    "refused 8 ",
+    "refused 1",
+    "refused 2",
+    "refused 4",
+    "refused 7",
+    "refused 8",
 ];
 
 /// Adds the mistakes in the list of a job.
