@@ -21,19 +21,19 @@ pub write_reply-status-requires : goal.write_reply-status-requires
 write_reply-status-requires g c = let known = known_status _ _ _ _ _ _ c.in-Ok-told.ensures in (known.written, known.read)
 
 pub returns-in-Ok-told-clause-input_failed : goal.returns-in-Ok-told-clause-input_failed
-returns-in-Ok-told-clause-input_failed g c = λ five. absurd (elim c.write_reply-status.ensures.known [
-  | inl same ↦ (known_status _ _ _ _ _ _ c.in-Ok-told.ensures).read (sym same ∙ five)
+returns-in-Ok-told-clause-input_failed g c = let known = known_status _ _ _ _ _ _ c.in-Ok-told.ensures in λ five. absurd (elim c.write_reply-status.ensures.known [
+  | inl same ↦ known.read (sym same ∙ five)
   | inr four ↦ omega (arith, four, five)
 ])
 
 pub returns-in-Ok-told-clause-no_usage : goal.returns-in-Ok-told-clause-no_usage
-returns-in-Ok-told-clause-no_usage g c = λ two. elim c.write_reply-status.ensures.known [
-  | inl same ↦ (known_status _ _ _ _ _ _ c.in-Ok-told.ensures).no_usage (sym same ∙ two)
+returns-in-Ok-told-clause-no_usage g c = let known = known_status _ _ _ _ _ _ c.in-Ok-told.ensures in λ two. elim c.write_reply-status.ensures.known [
+  | inl same ↦ known.no_usage (sym same ∙ two)
   | inr four ↦ omega (arith, four, two)
 ]
 
 pub returns-in-Ok-told-clause-known : goal.returns-in-Ok-told-clause-known
-returns-in-Ok-told-clause-known g c = elim c.write_reply-status.ensures.known [
-  | inl same ↦ subst (λ (k : ℕ). k ≤ 9) (sym same) (known_status _ _ _ _ _ _ c.in-Ok-told.ensures).few
+returns-in-Ok-told-clause-known g c = let known = known_status _ _ _ _ _ _ c.in-Ok-told.ensures in elim c.write_reply-status.ensures.known [
+  | inl same ↦ subst (λ (k : ℕ). k ≤ 9) (sym same) known.few
   | inr four ↦ omega (arith, four)
 ]
