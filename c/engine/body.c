@@ -3,6 +3,7 @@
    message that would goes by a parcel too. */
 #include "engine/body.h"
 #include "progress/progress.h"
+#include "search/search.h"
 #include <string.h>
 
 enum { REFERRING = sizeof(struct reference), AMBIGUOUS = REFERRING - 1 };
@@ -24,14 +25,16 @@ static int send_reference(struct parcel *parcel, int dest) {
 static int send_parcel(const struct parcel *like, int dest, struct parcel **waits) {
     struct parcel *parcel = um_new_parcel(like);
     if (!parcel) return MPI_ERR_NO_MEM;
-    if (waits) atomic_fetch_add(&um_ranks[parcel->to].shared.waited_for, 1);
+    bool is_known = waits && !um_is_played; /* else its receiver knows of it when it takes it */
+    if (is_known) atomic_fetch_add(&um_ranks[parcel->to].shared.waited_for, 1);
     int code = send_reference(parcel, dest);
     if (code != MPI_SUCCESS) {
-        if (waits) atomic_fetch_sub(&um_ranks[parcel->to].shared.waited_for, 1);
+        if (is_known) atomic_fetch_sub(&um_ranks[parcel->to].shared.waited_for, 1);
         parcel->users = 1;
         um_let_go(parcel);
         return code;
     }
+    if (waits && um_footprints) um_footprints[um_step].flags |= WAITED_FOR;
     if (waits) *waits = parcel;
     um_move_once();
     um_fill_parcel(parcel);
@@ -54,6 +57,10 @@ int um_send_body(uint32_t context, int dest, int world, int tag, const void *byt
     return code;
 }
 
+void um_note_taken_body(int rank, int from, const ulfm_next_item *item) {
+    if (item->kind == ULFM_MESSAGE && item->length == REFERRING) um_note_parcel(rank, from, item->comm, (int)item->tag);
+}
+
 static size_t length_in(const struct received *received) {
     return is_reference(received) ? received->body.reference.parcel->length : received->told.length - 1;
 }
@@ -74,6 +81,7 @@ void um_take_body(const struct received *received, void *buffer, size_t room, MP
     *code = whole > room ? MPI_ERR_TRUNCATE : MPI_SUCCESS;
     *status = (MPI_Status){.MPI_SOURCE = (int)received->told.source, .MPI_TAG = (int)received->told.tag, .bytes = length};
     if (!parcel) return;
+    if (um_footprints) um_note_match(parcel);
     atomic_store(&parcel->matched, 1);
     release(parcel);
 }

@@ -12,6 +12,7 @@ void um_free_parcels(void);
 void um_fill_parcel(struct parcel *parcel);
 void um_empty_parcel(struct parcel *parcel, void *buffer, size_t length);
 size_t um_length_of_first(uint32_t context, int from, int tag);
+void um_note_parcel(int to, int from, uint32_t context, int tag);
 
 /* answer.c */
 int um_class_of(uint32_t code);

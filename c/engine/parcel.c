@@ -1,6 +1,7 @@
 /* Parcels: messages that stand beside their bodies, since they are long, or since their senders wait for the match. A receiver reads the parcel in the
    memory that ranks share, and lets it go. */
 #include "engine/engine.h"
+#include "search/search.h"
 #include <sched.h>
 #include <stdlib.h>
 #include <string.h>
@@ -63,6 +64,18 @@ void um_empty_parcel(struct parcel *parcel, void *buffer, size_t length) {
     bool is_live = atomic_compare_exchange_strong(&parcel->filling, &live, CLAIMED);
     if (length) memcpy(buffer, is_live ? parcel->source : parcel->bytes, length);
     if (is_live) atomic_store(&parcel->filling, TAKEN);
+}
+
+/* A message came that was sent by a parcel: where its sender waits for the match, its receiver has to look for that from now on. */
+void um_note_parcel(int to, int from, uint32_t context, int tag) {
+    for (struct parcel *parcel = um_ranks[from].sent.first; parcel; parcel = parcel->next)
+        if (parcel->to == to && parcel->context == context && parcel->tag == tag && !parcel->has_come) {
+            parcel->has_come = true;
+            if (!parcel->is_waited_for) return;
+            atomic_fetch_add(&um_ranks[to].shared.waited_for, 1);
+            if (um_footprints) um_footprints[um_step].flags |= WAITED_FOR;
+            return;
+        }
 }
 
 /* How long the first message is that a rank sent here by a parcel with this tag, and that nobody took or set aside. */

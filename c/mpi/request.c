@@ -2,6 +2,7 @@
 #include "collective/collective.h"
 #include "collective/repeated.h"
 #include "engine/body.h"
+#include "play/play.h"
 #include "progress/progress.h"
 #include <stddef.h>
 #include <stdlib.h>
@@ -114,7 +115,8 @@ void um_start_receive(struct request *request, void *buffer, size_t room) {
     if (!comm->is_part || !um_is_revoked(comm)) code = ulfm_irecv(um_me->slot, request->context, source, tag, BODY, &request->id);
     link_open(request);
     if (code != ULFM_OK) um_end_request(request, um_class_of(code));
-    else if (atomic_load(&um_me->shared.waited_for) > 0) um_look_at(request);
+    else if (um_is_waited_for() && um_is_played) um_look_in_passing(request);
+    else if (um_is_waited_for()) um_look_at(request);
 }
 
 /* Sends a message of the program. Where `parcel` isn't null, it gets a parcel whose flag tells the match. */
@@ -137,7 +139,10 @@ void um_start_send(struct request *request, const void *buffer, size_t length, b
 
 /* Looks whether a synchronous send was matched, or never can be. */
 static int look_at_send(struct request *request) {
-    if (atomic_load(&request->parcel->matched)) um_end_request(request, MPI_SUCCESS);
+    if (um_is_played) {
+        uint32_t code = um_look_at_sent(request);
+        if (code != ULFM_NOT_YET) um_end_request(request, um_class_of(code));
+    } else if (atomic_load(&request->parcel->matched)) um_end_request(request, MPI_SUCCESS);
     else if (um_is_revoked(request->comm)) um_end_request(request, MPIX_ERR_REVOKED);
     else if (um_is_failed(request->comm, request->peer)) um_end_request(request, MPIX_ERR_PROC_FAILED);
     return MPI_SUCCESS;

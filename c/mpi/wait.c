@@ -3,6 +3,7 @@
    others from their end: a failure or a revocation. Those that aren't over then have MPI_ERR_PENDING. */
 #include "collective/collective.h"
 #include "progress/progress.h"
+#include "search/search.h"
 #include <stdlib.h>
 
 /* The status of no request (3.7.3), with its error. */
@@ -181,6 +182,17 @@ static int check_requests(int count, const MPI_Request handles[], bool writes) {
     return MPI_SUCCESS;
 }
 
+/* Waits for them. A look that is dear is made when all that came was taken. */
+static void wait_for(struct several *several, bool is_dear) {
+    if (um_footprints) um_begin_ends(several->wants_all);
+    for (int k = 0; um_footprints && k < several->count; k++) {
+        const struct request *request = um_active_at(several->handles[k]);
+        if (request && !request->over) um_add_end(request);
+    }
+    um_wait_until(are_done, several, is_dear);
+    if (um_footprints) um_finish_ends();
+}
+
 /* Tells how all requests ended, or stand, and releases those that are over. */
 static int release_all(struct several *several, MPI_Status statuses[]) {
     struct comm *comm = comm_of_error(several);
@@ -204,7 +216,7 @@ int MPI_Waitall(int count, MPI_Request handles[], MPI_Status statuses[]) {
     if (code != MPI_SUCCESS) return um_fail(0, code);
     for (int k = 0; k < count; k++)
         if (um_active_at(handles[k]) && !um_active_at(handles[k])->over) tell_place(um_active_at(handles[k]));
-    um_wait_until(are_done, &several, false);
+    wait_for(&several, false);
     return release_all(&several, statuses);
 }
 
@@ -236,7 +248,7 @@ int MPI_Waitany(int count, MPI_Request handles[], int *index, MPI_Status *status
     ENTER(0, MPI_UNDEFINED, MPI_UNDEFINED);
     int code = check_requests(count, handles, index);
     if (code != MPI_SUCCESS) return um_fail(0, code);
-    um_wait_until(are_done, &several, false);
+    wait_for(&several, false);
     return release_one(&several, index, status);
 }
 
@@ -273,7 +285,7 @@ int MPI_Waitsome(int incount, MPI_Request handles[], int *outcount, int indices[
     ENTER(0, MPI_UNDEFINED, MPI_UNDEFINED);
     int code = check_requests(incount, handles, outcount && (indices || incount == 0));
     if (code != MPI_SUCCESS) return um_fail(0, code);
-    um_wait_until(are_done, &several, true);
+    wait_for(&several, true);
     return release_some(&several, outcount, indices, statuses);
 }
 

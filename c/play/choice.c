@@ -130,6 +130,25 @@ uint32_t __wrap_ulfm_test(ulfm_slot *slot, uint64_t request, ulfm_status *status
     return code;
 }
 
+/* What a look at a send that waits would answer: it was matched, or why it never is, or neither. */
+static uint32_t state_of_sent(const struct request *request) {
+    const struct comm *comm = request->comm;
+    if (atomic_load(&request->parcel->matched)) return ULFM_OK;
+    if (comm->is_part ? atomic_load(comm->revoked) : um_is_known_revoked(um_me->number, comm->context)) return ULFM_REVOKED;
+    return um_knows_failed(um_me->number, comm->members[request->peer]) ? ULFM_PROC_FAILED : ULFM_NOT_YET;
+}
+
+/* Looks at it: the flag of its match is the receiver's to set, so it is looked at as what came is. */
+uint32_t um_look_at_sent(const struct request *request) {
+    const struct comm *comm = request->comm;
+    struct event call = event_of(LOOKS_AT_SEND, request->context, comm->engine_position[request->peer], (uint32_t)request->tag);
+    if (!before_look(call, (uint64_t)request->handle, state_of_sent(request) == ULFM_NOT_YET)) return ULFM_NOT_YET;
+    uint32_t code = state_of_sent(request);
+    if (um_footprints) um_end_sent(comm->members[request->peer], code, request->parcel->matched_at);
+    if (code != ULFM_NOT_YET) um_forget_looks(&um_players[um_me->number]);
+    return code;
+}
+
 REAL(cancel);
 uint32_t __wrap_ulfm_cancel(ulfm_slot *slot, uint64_t request, ulfm_status *status, uint8_t *body, size_t size) {
     if (um_is_played) before(event_of(CANCELS, 0, NOBODY, (uint32_t)request));

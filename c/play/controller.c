@@ -1,5 +1,7 @@
 /* The controller of a played run: what may happen next, and that it happens. */
 #define _GNU_SOURCE
+#include "engine/body.h"
+#include "mpi/calls.h"
 #include "progress/progress.h"
 #include "search/search.h"
 #include <setjmp.h>
@@ -10,20 +12,31 @@ enum { MOST_SPINS = 10000 };
 
 /* ---- What ranks do in place of threads: see progress.c ---- */
 
-/* Looks at what is open, where something came since the last time. A look that finds nothing is no event. */
-void um_look_as_played(void) {
+/* Looks in passing, at a request or, where there is none, at all that is open. A look that finds nothing is no event. */
+void um_look_in_passing(struct request *request) {
     struct player *own = &um_players[um_me->number];
-    if (own->taken == own->taken_before) return;
     bool was_in_wait = own->in_wait;
-    own->in_wait = true;
+    own->in_wait = own->is_passing = true;
     if (!was_in_wait) um_forget_silent(um_me->number);
     do {
         own->is_first = true;
         own->looks_anew = false;
+        if (request) {
+            um_look_at(request);
+            continue;
+        }
         own->taken_before = own->taken;
         um_look_at_open();
     } while (own->looks_anew);
+    own->is_passing = false;
     own->in_wait = was_in_wait;
+    if (!was_in_wait && um_footprints) um_keep_silent(um_me->number);
+}
+
+/* Looks at what is open, where something came since the last time. */
+void um_look_as_played(void) {
+    const struct player *own = &um_players[um_me->number];
+    if (own->taken != own->taken_before) um_look_in_passing(0);
 }
 
 /* The rank waits until something comes, or a mark changes. */
@@ -53,6 +66,7 @@ void um_wait_as_played(bool (*is_done)(void *, bool is_settled), void *of) {
     }
     own->in_wait = was_in_wait;
     own->is_granted = own->looks_anew = false;
+    if (um_footprints) um_keep_silent(um_me->number);
 }
 
 /* ---- What may happen next ---- */
@@ -124,6 +138,7 @@ static void take(const struct event *event) {
     struct rank *rank = &um_ranks[event->rank];
     uint32_t took = 0, moved;
     bool was_revoked = um_is_known_revoked(event->rank, event->comm);
+    um_note_taken_body(event->rank, event->peer, &um_heads[event->peer][event->rank]);
     um_note_item(event->rank, event->peer, &um_heads[event->peer][event->rank]);
     ulfm_take(&rank->home, event->peer, &took);
     if (um_footprints) um_note_taken(event, was_revoked);

@@ -7,10 +7,22 @@
 #include <string.h>
 
 enum { LINE = 160 };
-static const char *const words_of_calls[] = {
-    "sends to",          "posts a receive from",  "looks at receive",    "cancels receive",       "probes",
-    "revokes",           "asks for a revocation", "asks for failures",   "acknowledges failures", "duplicates",
-    "enters the shrink", "polls the shrink",      "enters an agreement", "polls the agreement",   "stops"};
+static const char *const words_of_calls[] = {"sends to",
+                                             "posts a receive from",
+                                             "looks at receive",
+                                             "cancels receive",
+                                             "probes",
+                                             "revokes",
+                                             "asks for a revocation",
+                                             "asks for failures",
+                                             "acknowledges failures",
+                                             "duplicates",
+                                             "enters the shrink",
+                                             "polls the shrink",
+                                             "enters an agreement",
+                                             "polls the agreement",
+                                             "looks at its send to",
+                                             "stops"};
 static const char *const words_of_items[] = {
     "nothing", "a message", "word of failure", "word of revocation", "an entry into the shrink", "an entry into agreement"};
 
@@ -22,7 +34,7 @@ void um_text_of_event(const struct event *event, char *text, size_t room) {
         return;
     }
     bool takes = event->kind == TAKES, is_look = event->kind == TESTS || event->kind == CANCELS;
-    bool is_message = event->kind == SENDS || event->kind == POSTS || event->kind == PROBES;
+    bool is_message = event->kind == SENDS || event->kind == POSTS || event->kind == PROBES || event->kind == LOOKS_AT_SEND;
     bool has_number = is_look || (takes && event->item == ULFM_AGREE_ENTRY);
     if (is_message && event->peer == NOBODY) strcpy(peer, " any");
     else if (is_message) snprintf(peer, sizeof peer, " %d", event->peer);

@@ -21,6 +21,7 @@ enum kind_of_event {
     POLLS_SHRINK,
     ENTERS_AGREE,
     POLLS_AGREE,
+    LOOKS_AT_SEND, /* whether a send that waits was matched */
     STOPS,
     TAKES,
     LOSES /* the last items of a rank that stopped never come */
@@ -45,6 +46,7 @@ struct player {
     struct event call; /* the call that it stands before */
     uint64_t look;     /* what tells the call from other looks */
     bool in_wait;      /* a look that finds nothing is no event */
+    bool is_passing;   /* it looks at what is open in passing, and waits for none of it */
     bool is_granted;   /* it may make its next call */
     bool is_first;     /* nothing was seen since the look of a wait began */
     bool looks_anew;   /* something came when it wanted to look: all that came is looked at */
@@ -67,6 +69,7 @@ void um_end_schedule(int status);
 /* controller.c */
 void um_wait_as_played(bool (*is_done)(void *, bool is_settled), void *of);
 void um_look_as_played(void);
+void um_look_in_passing(struct request *request);
 
 /* context.c */
 bool um_make_context(int rank);
@@ -77,6 +80,7 @@ bool um_has_valgrind(void);
 bool um_is_looked_at(void);
 
 /* choice.c */
+uint32_t um_look_at_sent(const struct request *request);
 bool um_looks_again(struct player *player);
 void um_forget_looks(struct player *player);
 
@@ -158,6 +162,8 @@ struct call_of {
 };
 bool um_begin_notes(void);
 void um_tell_unfollowed(const char *what, const void *from);
+void um_tell_left_out(const char *what, const void *from);
+bool um_is_left_out(void);
 void um_tell_left(const char *what, struct call_of call);
 void um_tell_notes(FILE *to);
 

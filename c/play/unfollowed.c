@@ -21,6 +21,7 @@ enum { MOST_NOTES = 32 };
 /* What was told, in memory that stays. */
 static struct notes {
     int count;
+    bool is_left_out;
     const char *what[MOST_NOTES];
     char text[MOST_NOTES][240];
 } * notes;
@@ -50,6 +51,17 @@ void um_tell_unfollowed(const char *what, const void *from) {
              what, um_line_before(from, line, sizeof line));
     if (!(um_options.seeds || um_options.limit)) fputs(text, stderr);
 }
+
+/* Of a search: a rank does what others see and no event tells. So orders of it with other events are left out. */
+void um_tell_left_out(const char *what, const void *from) {
+    char line[120], *text = um_options.limit && um_me ? new_note(what, from) : 0;
+    if (!text) return;
+    notes->is_left_out = true;
+    snprintf(text, sizeof *notes->text, "ulfm-mpirun: rank %d %s%s: the search doesn't follow that, so it may leave schedules out\n", um_me->number,
+             what, um_line_before(from, line, sizeof line));
+}
+
+bool um_is_left_out(void) { return notes->is_left_out; }
 
 /* It is what is left when a schedule of many is over. */
 void um_tell_left(const char *what, struct call_of call) {

@@ -7,6 +7,7 @@
 #include "mpi/calls.h"
 #include "play/play.h"
 #include "recovery/recovery.h"
+#include "search/search.h"
 #include <linux/futex.h>
 #include <sched.h>
 #include <sys/syscall.h>
@@ -62,10 +63,17 @@ static bool turn(void) {
     return true;
 }
 
+/* Whether a sender may wait for a match here. */
+bool um_is_waited_for(void) {
+    bool is = atomic_load(&um_me->shared.waited_for) > 0;
+    if (!is && um_footprints) um_note_unwaited();
+    return is;
+}
+
 /* Something came, perhaps: tells the senders that wait for a match, and looks at shrinks and agreements that are open. */
 void um_look_at_open(void) {
     if (um_me->life.has_stopped) return;
-    if (atomic_load(&um_me->shared.waited_for) > 0) um_look_at_all();
+    if (um_is_waited_for()) um_look_at_all();
     if (um_me->mpi.recoveries > 0) um_look_at_recoveries();
 }
 

@@ -39,6 +39,7 @@ bool um_move_once(void);
 void um_moved(void);
 void um_marked(void);
 uint64_t um_count_of_marks(void);
+bool um_is_waited_for(void);
 void um_look_at_open(void);
 void um_wait_until(bool (*is_done)(void *, bool is_settled), void *of, bool is_dear);
 bool um_all_are_gone(void *unused, bool is_settled);

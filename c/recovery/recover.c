@@ -2,6 +2,7 @@
    to call them, and none ends before that. */
 #include "engine/engine.h"
 #include "mpi/calls.h"
+#include "play/play.h"
 #include "progress/progress.h"
 #include "recovery/recovery.h"
 #include <stdlib.h>
@@ -11,7 +12,10 @@ int MPIX_Comm_revoke(MPI_Comm comm) {
     struct comm *of = um_comm_at(comm);
     ENTER(of, MPI_UNDEFINED, MPI_UNDEFINED);
     if (!of) return um_fail(0, MPI_ERR_COMM);
-    if (of->is_part) atomic_store(of->revoked, 1);
+    if (of->is_part) {
+        um_tell_left_out("revokes a communicator of a part of a group", __builtin_return_address(0));
+        atomic_store(of->revoked, 1);
+    }
     int code = of->is_part ? MPI_SUCCESS : um_class_of(ulfm_revoke(um_me->slot, of->context));
     um_marked();
     um_progress();

@@ -1,5 +1,5 @@
 /* Which events commute: neither changes what the other one sees or does, nor whether it can be. Events of different ranks do, but for two decisions of
-   one shrink or agreement that differ. */
+   one shrink or agreement that differ, and the match of a send that waits with its sender's looks at that. */
 #include "search/search.h"
 
 enum {
@@ -28,6 +28,7 @@ static bool covers(int named, int source) { return named == ANYBODY || named == 
 static bool has_tag(int asked, int tag) { return asked == -1 || asked == tag; }
 
 static bool reads_revocations(const struct footprint *e) {
+    if (e->kind == LOOKS_AT_SEND) return !(e->flags & FOUND);
     return e->kind == SENDS || e->kind == POSTS || e->kind == DUPLICATES || e->kind == ASKS_REVOKED || e->kind == PROBES;
 }
 
@@ -39,9 +40,9 @@ static int family(int comm) {
 
 static bool are_of_family(const struct footprint *a, const struct footprint *b) { return family(a->comm) == family(b->comm); }
 
-/* Whether the wait that a call ends looked in vain for a message of a communicator (-1: of any) and a source. */
+/* Whether the wait that a call ends, or one that looked and went on, looked in vain for a message of a communicator (-1: of any) and a source. */
 static bool has_silent(const struct footprint *e, int comm, int source) {
-    if (!is_call(e) || !e->silent_count) return false;
+    if (!e->silent_count) return false;
     if (e->silent_count == TOO_MANY) return true;
     for (int k = 0; k < e->silent_count; k++) {
         bool is_of = e->silent[k].is_message && (comm < 0 || e->silent[k].comm == comm);
@@ -50,9 +51,14 @@ static bool has_silent(const struct footprint *e, int comm, int source) {
     return false;
 }
 
+/* Whether it looked in vain at a send that waits, which an item ends otherwise. */
+static bool has_silent_send(const struct footprint *e, const struct footprint *item) {
+    return e->sends && (is_revoker(item) || (is_failure(item) && e->sends >> item->source & 1));
+}
+
 /* An item came, and then a wait ended that had looked for it in vain. */
 static bool is_silent_before(const struct footprint *a, const struct footprint *b) {
-    return (is_message(a) && has_silent(b, a->comm, a->source)) || (is_failure(a) && has_silent(b, -1, a->source)) ||
+    return has_silent_send(b, a) || (is_message(a) && has_silent(b, a->comm, a->source)) || (is_failure(a) && has_silent(b, -1, a->source)) ||
            (is_revocation(a) && has_silent(b, a->comm, OF_ANYBODY));
 }
 
@@ -60,7 +66,7 @@ static bool is_before_revocation(const struct footprint *a, const struct footpri
     if (!is_revoker(b)) return false;
     bool saw_none = a->flags & SAW_NO_REVOCATION;
     return (saw_none && is_call(a) && a->comm == b->comm) || (saw_none && is_message(a) && are_of_family(a, b)) || is_failure(a) ||
-           has_silent(a, b->comm, OF_ANYBODY);
+           has_silent(a, b->comm, OF_ANYBODY) || has_silent_send(a, b);
 }
 
 /* `at` is the number of a; BEFORE: that isn't known. */
@@ -73,7 +79,7 @@ static bool is_after_revocation(const struct footprint *a, int at, const struct 
 static bool is_before_failure(const struct footprint *a, const struct footprint *b) {
     if (!is_failure(b)) return false;
     bool pends = a->kind == TESTS && a->answer == ULFM_PENDING, has_found = a->kind == PROBES && !(a->flags & IN_VAIN);
-    return (is_call(a) && a->fails & b->fails && !pends && !has_found) || has_silent(a, -1, b->source);
+    return (is_call(a) && a->fails & b->fails && !pends && !has_found) || has_silent(a, -1, b->source) || has_silent_send(a, b);
 }
 
 static bool is_after_failure(const struct footprint *a, int at, const struct footprint *b) {
@@ -103,12 +109,23 @@ static bool are_entry_and_poll(const struct footprint *a, const struct footprint
     return a->topic == b->topic && ((is_entry(a) && is_poll(b)) || (is_entry(b) && is_poll(a)));
 }
 
+/* Whether an event of the sender looks whether its send to a rank was matched. */
+static bool looks_at_sent(const struct footprint *e, int to) { return (e->kind == LOOKS_AT_SEND && e->source == to) || e->sends >> to & 1; }
+
+static bool are_match_and_look(const struct footprint *a, const struct footprint *b) {
+    return (a->matches >> b->rank & 1 && looks_at_sent(b, a->rank)) || (b->matches >> a->rank & 1 && looks_at_sent(a, b->rank));
+}
+
+/* Whether an event may not commute with one of another rank. */
+bool um_is_across(const struct footprint *e) { return is_poll(e) || e->matches || e->kind == LOOKS_AT_SEND || e->sends; }
+
 /* Whether a, of the number `at`, and a later event of another process don't commute. */
 bool um_is_dependent(const struct footprint *a, int at, const struct footprint *b) {
     bool have_found = a->flags & b->flags & FOUND;
     if (a->kind == LOSES || b->kind == LOSES) return false; /* these are no races: see keep_nodes */
+    if ((a->matches | b->matches) && are_match_and_look(a, b)) return true;
     if (a->rank != b->rank) return is_poll(a) && is_poll(b) && a->topic == b->topic && have_found && a->proposal != b->proposal;
-    if (is_silent_before(a, b)) return true;
+    if (is_silent_before(a, b) || (a->flags & UNWAITED && is_message(b) && b->flags & WAITED_FOR)) return true;
     if (a->comm == b->comm && is_revoker(a) && is_revoker(b) && (is_revocation(a) || is_revocation(b))) return (a->flags | b->flags) & REVOKED_FIRST;
     return is_before_revocation(a, b) || is_after_revocation(a, at, b) || is_before_failure(a, b) || is_after_failure(a, at, b) ||
            is_before_message(a, b) || is_after_message(a, at, b) || are_entry_and_poll(a, b);

@@ -24,8 +24,7 @@ struct waiting {
 };
 static struct receive *receives[MAX_RANKS];
 static struct waiting *waiting[MAX_RANKS];
-static int receive_count[MAX_RANKS], waiting_count[MAX_RANKS], silent_count[MAX_RANKS];
-static struct silence silent[MAX_RANKS][SILENT];
+static int receive_count[MAX_RANKS], waiting_count[MAX_RANKS];
 
 static struct footprint *present(void) { return &um_footprints[um_step]; }
 static uint32_t members_of(int rank, uint32_t comm) {
@@ -37,15 +36,11 @@ static uint32_t members_of(int rank, uint32_t comm) {
 }
 
 /* The world rank of a position; ANYBODY where it has none. */
-static int member_at(int rank, uint32_t comm, uint32_t position) {
+int um_member_at(int rank, uint32_t comm, uint32_t position) {
     ulfm_group group;
     if (ulfm_group_of(&um_ranks[rank].home, comm, &group) != ULFM_OK || position >= group.size) return ANYBODY;
     return group.members[position];
 }
-
-/* ---- Looks in vain of a wait ---- */
-
-void um_forget_silent(int rank) { silent_count[rank] = 0; }
 
 static struct receive *receive_of(int rank, uint64_t id) {
     for (int k = 0; k < receive_count[rank]; k++)
@@ -53,14 +48,11 @@ static struct receive *receive_of(int rank, uint64_t id) {
     return 0;
 }
 
-void um_note_silent(const struct event *call) {
-    int rank = call->rank, count = silent_count[rank]++, comm = call->comm, source = -2;
-    bool is_message = call->kind == TESTS || call->kind == PROBES;
-    if (count >= SILENT) return;
-    const struct receive *receive = call->kind == TESTS ? receive_of(rank, (uint64_t)call->tag) : 0;
-    if (receive) comm = receive->comm, source = receive->source;
-    else if (is_message) source = call->peer == NOBODY ? ANYBODY : member_at(rank, call->comm, call->peer);
-    silent[rank][count] = (struct silence){(int8_t)comm, (int8_t)source, is_message};
+/* Of whom an open receive is, and on which communicator; false where there is none of this number. */
+bool um_find_receive(int rank, uint64_t id, int *comm, int *source) {
+    const struct receive *receive = receive_of(rank, id);
+    if (receive) *comm = receive->comm, *source = receive->source;
+    return receive != 0;
 }
 
 /* ---- Items ---- */
@@ -83,6 +75,7 @@ static bool end_receives(int rank) {
         if (ulfm_would(&um_ranks[rank].home, receive->id, &code) != ULFM_OK || code != ULFM_OK) continue;
         receive->is_open = false;
         receive->by = (int16_t)um_step;
+        present()->ended = (uint32_t)receive->id + 1;
         has_ended = true;
     }
     return has_ended;
@@ -118,7 +111,8 @@ void um_begin_footprint(const struct event *event) {
                               .tag = event->tag,
                               .pushed = NO_STEP,
                               .by = NO_STEP,
-                              .found = NO_STEP};
+                              .found = NO_STEP,
+                              .after = NO_STEP};
     if (!takes && event->kind != LOSES) return;
     own->pushed = takes ? um_pull(event->peer, event->rank) : um_lose(event->peer, event->rank);
     own->source = (int8_t)event->peer;
@@ -148,18 +142,17 @@ void um_begin_call(const struct event *call) {
     own->kind = call->kind;
     own->comm = (int8_t)call->comm;
     own->tag = call->tag;
-    own->waits = player->in_wait;
+    own->waits = player->in_wait && !player->is_passing;
     own->flags = um_is_known_revoked(call->rank, call->comm) ? 0 : SAW_NO_REVOCATION;
     if (call->kind == STOPS) own->flags = 0;
-    if (!player->in_wait) return;
-    int count = silent_count[call->rank];
-    own->silent_count = count > SILENT ? TOO_MANY : (uint8_t)count;
-    memcpy(own->silent, silent[call->rank], sizeof own->silent);
+    own->after = um_end_of_wait(call->rank);
+    um_note_ends();
+    if (player->in_wait) um_copy_silent(call->rank);
 }
 
 void um_end_send(uint32_t dest, uint32_t code) {
     struct footprint *own = present();
-    int to = member_at(own->rank, (uint32_t)own->comm, dest);
+    int to = um_member_at(own->rank, (uint32_t)own->comm, dest);
     own->answer = code;
     if (to == ANYBODY) return;
     own->fails = (uint8_t)(1u << to);
@@ -183,7 +176,7 @@ static void remove_waiting(int rank, int at) {
 
 void um_end_post(uint32_t source, uint64_t id, uint32_t code) {
     struct footprint *own = present();
-    int rank = own->rank, from = source == ULFM_ANY ? ANYBODY : member_at(rank, (uint32_t)own->comm, source);
+    int rank = own->rank, from = source == ULFM_ANY ? ANYBODY : um_member_at(rank, (uint32_t)own->comm, source);
     own->answer = code;
     if (code != ULFM_OK) return;
     own->source = (int8_t)from;
@@ -193,7 +186,11 @@ void um_end_post(uint32_t source, uint64_t id, uint32_t code) {
     uint32_t would = ULFM_NOT_YET;
     if (ulfm_would(&um_ranks[rank].home, id, &would) == ULFM_OK && would == ULFM_OK) {
         int at = waiting_for(rank, made.comm, from, made.tag);
-        if (at >= 0) made.by = waiting[rank][at].came, remove_waiting(rank, at);
+        if (at >= 0) {
+            made.by = waiting[rank][at].came;
+            um_footprints[made.by].ended = (uint32_t)id + 1;
+            remove_waiting(rank, at);
+        }
         made.is_open = false;
     }
     if (um_grow(&receives[rank], receive_count[rank], sizeof made)) receives[rank][receive_count[rank]++] = made;
@@ -224,14 +221,14 @@ void um_end_look(uint64_t id, uint32_t code, const ulfm_status *status) {
         own->by = receive->by;
         own->flags |= FOUND;
         own->answer = status->error ? 100 + status->error : 0;
-        if (!status->error) own->other = (uint8_t)member_at(own->rank, (uint32_t)receive->comm, status->source);
+        if (!status->error) own->other = (uint8_t)um_member_at(own->rank, (uint32_t)receive->comm, status->source);
     }
     if (code == ULFM_OK) remove_receive(own->rank, receive);
 }
 
 void um_end_probe(uint32_t source, uint32_t code, bool takes) {
     struct footprint *own = present();
-    int rank = own->rank, from = source == ULFM_ANY ? ANYBODY : member_at(rank, (uint32_t)own->comm, source);
+    int rank = own->rank, from = source == ULFM_ANY ? ANYBODY : um_member_at(rank, (uint32_t)own->comm, source);
     own->source = (int8_t)from;
     own->flags |= ASKED | (from == ANYBODY ? OF_ANY : 0);
     own->fails = (uint8_t)(from == ANYBODY ? members_of(rank, (uint32_t)own->comm) : 1u << from);

@@ -17,6 +17,18 @@ struct sleepers {
     struct sleeper at[PROCESSES];
 };
 
+/* What a wait for one of several requests may end by. */
+enum { MOST_ENDS = 8, UNKNOWN = -2 };
+struct ends {
+    uint8_t count; /* more than MOST_ENDS: by anything */
+    bool wants_all;
+    struct {
+        uint64_t id;
+        int8_t comm, source; /* comm UNKNOWN: by anything */
+        bool is_send;
+    } at[MOST_ENDS];
+};
+
 /* An event of the present schedule, and what is to be tried in its place. */
 struct node {
     struct footprint footprint;
@@ -35,9 +47,10 @@ extern struct search {
     struct sleepers sleepers; /* at the event that comes next */
     struct node nodes[MOST_STEPS];
     struct footprint footprints[MOST_STEPS];
+    struct ends ends[MOST_STEPS];       /* of the wait that an event is in */
     uint64_t before[MOST_STEPS][WORDS]; /* which events happen before each */
-    short of_rank[MAX_RANKS][MOST_STEPS], polls[MOST_STEPS];
-    int rank_count[MAX_RANKS], poll_count, last_of[PROCESSES];
+    short of_rank[MAX_RANKS][MOST_STEPS], across[MOST_STEPS];
+    int rank_count[MAX_RANKS], across_count, last_of[PROCESSES];
 } * um_search;
 
 static inline processes asleep(const struct sleepers *sleepers) {
@@ -53,6 +66,8 @@ static inline int lowest(processes set) {
 }
 
 /* races.c */
+bool um_is_before(int one, int other);
+void um_want(int i, int j, const int *needed, int needed_count);
 void um_find_races(int from);
 
 #endif

@@ -23,6 +23,13 @@ int um_count_at_stop(int from, int to, int *taken) {
     return rings[from][to].count_at_stop;
 }
 
+/* The events that sent what a rank never took from another one: how many, and from which place on. */
+const int16_t *um_left_in_ring(int from, int to, int *count) {
+    const struct ring *ring = &rings[from][to];
+    *count = ring->count - ring->first;
+    return ring->at + ring->first;
+}
+
 /* To all but those that are known to have failed. */
 void um_push_to_all(int from, uint32_t members) {
     for (int k = 0; k < um_options.ranks; k++)

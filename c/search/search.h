@@ -25,7 +25,9 @@ enum {
     ASKED = 4,             /* a look outside of a wait */
     IN_VAIN = 8,
     OF_ANY = 16, /* a receive or a probe from any source */
-    FOUND = 32
+    FOUND = 32,
+    UNWAITED = 64,   /* nothing had come whose sender waits for its match */
+    WAITED_FOR = 128 /* a message whose sender does */
 };
 
 /* A look in vain. */
@@ -43,9 +45,12 @@ struct footprint {
     int8_t comm, source;                  /* source: the named one, or the sender; ANYBODY */
     uint8_t silent_count;
     bool waits;                /* a look in a wait */
+    uint8_t matches, sends;    /* bits of ranks: whose sends that wait it matched; to whom such sends were looked at in vain */
     int16_t pushed, by, found; /* the events that pushed its item, that ended its request, by which the message came that its probe found */
+    int16_t after;             /* the event that ended the wait before it, where no look did */
     int32_t tag;
     struct silence silent[SILENT]; /* looks in vain of the wait that it ends */
+    uint32_t ended;                /* of a message: the receive that it ended, its number and 1; 0: none */
     uint32_t topic, answer;        /* topic: of shrinks and agreements */
     uint64_t proposal;             /* of a poll: what tells its own proposal from others */
 };
@@ -76,6 +81,7 @@ struct proposal um_proposal_of(int rank, uint32_t comm, bool agrees);
 
 /* rings.c */
 void um_note_push(int from, int to);
+const int16_t *um_left_in_ring(int from, int to, int *count);
 void um_push_to_all(int from, uint32_t members);
 int16_t um_pull(int from, int to);
 int16_t um_lose(int from, int to);
@@ -95,8 +101,8 @@ static inline int process_of(const struct event *event) {
 uint32_t um_topic_of(uint32_t comm, bool agrees, int round);
 void um_begin_footprint(const struct event *event);
 void um_note_taken(const struct event *event, bool was_revoked);
-void um_forget_silent(int rank);
-void um_note_silent(const struct event *call);
+int um_member_at(int rank, uint32_t comm, uint32_t position);
+bool um_find_receive(int rank, uint64_t id, int *comm, int *source);
 void um_begin_call(const struct event *call);
 void um_end_send(uint32_t dest, uint32_t code);
 void um_end_post(uint32_t source, uint64_t id, uint32_t code);
@@ -108,10 +114,28 @@ void um_end_entry(bool agrees, uint32_t flag, uint32_t code);
 void um_end_poll(bool agrees, const struct proposal *proposal, uint32_t answer);
 void um_end_stop(void);
 
+/* silent.c */
+void um_forget_silent(int rank);
+void um_note_silent(const struct event *call);
+void um_copy_silent(int rank);
+void um_keep_silent(int rank);
+int16_t um_end_of_wait(int rank);
+void um_note_unwaited(void);
+void um_note_match(struct parcel *parcel);
+void um_end_sent(int to, uint32_t code, int at);
+
+/* ends.c */
+void um_begin_ends(bool wants_all);
+void um_add_end(const struct request *request);
+void um_finish_ends(void);
+void um_note_ends(void);
+void um_want_other_ends(int from);
+
 /* commute.c */
 bool um_do_commute(const struct footprint *a, const struct footprint *b);
 bool um_is_dependent(const struct footprint *a, int at, const struct footprint *b);
 bool um_is_needed(const struct footprint *a, const struct footprint *b);
+bool um_is_across(const struct footprint *e);
 bool um_learn_wildcards(int count);
 bool um_begin_commute(void);
 

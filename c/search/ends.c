@@ -1,0 +1,78 @@
+/* Waits that may end by one of several things: by one of several requests; where a receive or a probe names no source, by a failure too; and where a send
+   waits for its match, by a revocation. What came later might have come in the place of what ended it. */
+#include "mpi/calls.h"
+#include "progress/progress.h"
+#include "search/nodes.h"
+
+/* Of the wait that each rank is in. */
+static struct ends ends[MAX_RANKS];
+
+void um_begin_ends(bool wants_all) { ends[um_me->number] = (struct ends){.wants_all = wants_all}; }
+
+void um_add_end(const struct request *request) {
+    struct ends *own = &ends[um_me->number];
+    if (own->count > MOST_ENDS || own->count++ == MOST_ENDS) return;
+    bool is_send = request->kind == SYNCHRONOUS, is_known = is_send || request->kind == RECEIVE;
+    int source = request->peer == MPI_ANY_SOURCE ? ANYBODY : is_known && request->peer >= 0 ? request->comm->members[request->peer] : ANYBODY;
+    own->at[own->count - 1].id = request->id;
+    own->at[own->count - 1].comm = (int8_t)(is_known ? (int)request->context : UNKNOWN);
+    own->at[own->count - 1].source = (int8_t)source;
+    own->at[own->count - 1].is_send = is_send;
+}
+
+/* The wait is over. */
+void um_finish_ends(void) { ends[um_me->number] = (struct ends){0}; }
+
+/* For the present event, a look. */
+void um_note_ends(void) {
+    const struct footprint *e = &um_footprints[um_step];
+    um_search->ends[um_step] = e->waits ? ends[e->rank] : (struct ends){0};
+}
+
+/* The event by which a look in a wait found what it did; NO_STEP: it found nothing. */
+static int end_of(const struct footprint *e) {
+    if (!e->waits) return NO_STEP;
+    return e->kind == TESTS && e->flags & FOUND ? e->by : e->kind == PROBES || e->kind == LOOKS_AT_SEND ? e->found : NO_STEP;
+}
+
+static bool is_of_any(const struct footprint *e) { return (e->kind == TESTS && e->source == ANYBODY) || (e->kind == PROBES && e->flags & OF_ANY); }
+
+/* Whether an event might have ended one of the requests. */
+static bool may_end_one(const struct ends *of, const struct footprint *e) {
+    bool takes = e->kind == TAKES, is_match = !takes && e->matches;
+    bool is_failure = takes && e->item == ULFM_STOP_NOTICE, is_message = takes && e->item == ULFM_MESSAGE;
+    if (of->wants_all && (is_message || is_match)) return false;
+    if (of->count > MOST_ENDS) return true;
+    for (int k = 0; k < of->count; k++) {
+        bool is_from = of->at[k].source == ANYBODY || of->at[k].source == (is_match ? e->rank : e->source);
+        if (of->at[k].comm == UNKNOWN) return true;
+        if (is_failure || (is_match && of->at[k].is_send)) {
+            if (is_from) return true;
+        } else if (is_message) {
+            if (!of->at[k].is_send && e->ended == of->at[k].id + 1) return true;
+        } else if (takes && e->item == ULFM_REVOCATION && e->flags & REVOKED_FIRST && of->at[k].comm == e->comm) return true;
+    }
+    return false;
+}
+
+/* Whether an event might have ended the wait that a look ended. */
+static bool may_end(const struct footprint *look, const struct ends *of, const struct footprint *e) {
+    bool is_match = e->matches >> look->rank & 1, is_taken = e->kind == TAKES && e->rank == look->rank;
+    if (is_taken && e->item == ULFM_STOP_NOTICE && is_of_any(look)) return true;
+    if (is_taken && e->item == ULFM_REVOCATION && e->flags & REVOKED_FIRST && look->kind == LOOKS_AT_SEND && look->comm == e->comm) return true;
+    return of->count > 1 && (is_taken || is_match) && may_end_one(of, e);
+}
+
+/* Of the events from one on. */
+void um_want_other_ends(int from) {
+    for (int look = 0; look < um_search->count; look++) {
+        const struct footprint *e = &um_footprints[look];
+        const struct ends *of = &um_search->ends[look];
+        int by = end_of(e);
+        if (by < 0 || by >= look || !(of->count > 1 || is_of_any(e) || e->kind == LOOKS_AT_SEND)) continue;
+        if (look >= from && of->count > 1 && !of->wants_all) um_want(by, look, 0, 0);
+        for (int other = by + 1; other < um_search->count; other++)
+            if ((look >= from || other >= from) && other != look && !um_is_before(by, other) && may_end(e, of, &um_footprints[other]))
+                um_want(by, other, 0, 0);
+    }
+}
