@@ -87,7 +87,7 @@ static int make_info(const struct info *like, MPI_Info *made) {
 #define NEEDS(pointer) \
     if (!(pointer)) return refuse(MPI_ERR_ARG)
 
-static int refuse(int code) { return um_me->life.has_begun && !um_me->life.has_finalized ? um_fail(0, code) : code; }
+static int refuse(int code) { return um_me->life.has_begun && !um_me->life.has_finalized ? um_answer(0, code) : code; }
 
 int MPI_Info_create(MPI_Info *made) {
     LOOK();

@@ -116,6 +116,10 @@ int main(int argc, char **argv) {
     MPI_Init(&argc, &argv);
     MPI_Comm_rank(MPI_COMM_WORLD, &rank);
     MPI_Comm_size(MPI_COMM_WORLD, &size);
+    MPI_Info made; /* where an error would end the run */
+    MPI_Info_create(&made);
+    MPI_Info_set(made, "key", "value");
+    MPI_Info_free(&made);
     MPI_Comm_set_errhandler(MPI_COMM_WORLD, MPI_ERRORS_RETURN);
     pairs();
     refused();
