@@ -8,6 +8,8 @@
 
 #define OWN __attribute__((weak, visibility("hidden")))
 
+int __posix_getopt(int count, char *const words[], const char *letters);
+
 OWN int optind = 1, opterr = 1, optopt;
 OWN char *optarg;
 static char *rest; /* of a word with several letters */
@@ -122,3 +124,10 @@ OWN int getopt_long(int count, char *const fixed[], const char *letters, const s
 }
 
 OWN int getopt(int count, char *const words[], const char *letters) { return getopt_long(count, words, letters, 0, 0); }
+
+/* `getopt` of a program that is compiled without the extensions of GNU: it ends at the first word that is no option. */
+OWN int __posix_getopt(int count, char *const words[], const char *letters) {
+    char all[300] = "+";
+    strncat(all, letters, sizeof all - 2);
+    return getopt_long(count, words, *letters == '+' ? letters : all, 0, 0);
+}

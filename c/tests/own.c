@@ -2,6 +2,8 @@
 #include "check.h"
 #include <getopt.h>
 
+int __posix_getopt(int count, char *const words[], const char *letters); /* what programs call that are compiled by -std=c99 */
+
 static const struct option longs[] = {{"size", required_argument, 0, 's'}, {"verbose", no_argument, 0, 'v'}, {0, 0, 0, 0}};
 
 /* A word with several letters behind one that is no option: the value is the word behind it. */
@@ -12,6 +14,9 @@ static void letters(void) {
     CHECK(getopt(5, words, "ab:") == -1 && optind == 3 && !strcmp(words[3], "in") && !strcmp(words[4], "out"));
     optind = 0;
     CHECK(getopt(5, words, "-ab:") == 'a' && getopt(5, words, "-ab:") == 'b' && getopt(5, words, "-ab:") == 1 && !strcmp(optarg, "in"));
+    char *plain[] = {"program", "-a", "in", "-b", 0};
+    optind = 0;
+    CHECK(__posix_getopt(4, plain, "ab") == 'a' && __posix_getopt(4, plain, "ab") == -1 && optind == 2 && !strcmp(plain[2], "in"));
 }
 
 int main(int argc, char **argv) {
