@@ -7,6 +7,8 @@ import pathlib
 import shutil
 import subprocess
 
+from . import holding
+
 FOLDER = pathlib.Path(__file__).resolve().parent
 PROGRAM = FOLDER / "out" / "explorer"
 LONGEST_KEPT = 1025
@@ -184,11 +186,16 @@ def numbered(job):
         counts[rank] += 1
 
 
-def steps(text):
-    """The rank, the number and the op of each step of a job's text."""
+def read(text):
+    """The job of a text."""
     import tomllib
 
-    return [(step["rank"], number, step["op"]) for step, number, _ in numbered(tomllib.loads(text))]
+    return tomllib.loads(text)
+
+
+def steps(text):
+    """The rank, the number and the op of each step of a job's text."""
+    return [(step["rank"], number, step["op"]) for step, number, _ in numbered(read(text))]
 
 
 def begins(answer, words):
@@ -196,11 +203,16 @@ def begins(answer, words):
     return answer == words or answer.startswith(words + " ")
 
 
-def expected(text):
-    """What each step of a job's text expects of its answer, where it expects anything, by rank and number."""
-    import tomllib
+def places_of_names(job):
+    """The rank, the number, the op and the name, if it has one, of each step of a job."""
+    return [(step["rank"], number, step["op"], step.get("name")) for step, number, _ in numbered(job)]
 
-    return {(step["rank"], number): step["expect"] for step, number, _ in numbered(tomllib.loads(text)) if "expect" in step}
+
+def expected(text, place="-"):
+    """What each step of a job's text expects of its answer at a place, where it expects anything, by rank and number."""
+    job = read(text)
+    steps = [((step["rank"], number), *holding.parts(step["expect"], "is")) for step, number, _ in numbered(job) if "expect" in step]
+    return {at: words for at, words, name in steps if holding.holds(places_of_names(job), place, name)}
 
 
 def over_ranks(row, ranks, named):
@@ -219,19 +231,28 @@ def over_ranks(row, ranks, named):
 
 def stands_for(row, text):
     """Whether a row over ranks stands for some of a job's text."""
-    import tomllib
-
-    job = tomllib.loads(text)
+    job = read(text)
     return over_ranks(row, job["ranks"], {(step["rank"], step["name"]) for step, _, _ in numbered(job) if "name" in step}) != [row]
 
 
-def rows(text):
-    """The rows of `never` of a job's text, written out for ranks, by the numbers of steps."""
-    import tomllib
+def rows_named(job):
+    """The rows of `never` of a job, written out for ranks, by the numbers of steps, each with the name before whose steps it holds alone."""
+    named = {(rank, name): number for rank, number, _, name in places_of_names(job) if name is not None}
+    for row in job.get("never", []):
+        texts, before = holding.parts(row, "row")
+        for one in over_ranks(texts, job["ranks"], named):
+            yield [by_number(answer, named) for answer in one], before
 
-    job = tomllib.loads(text)
-    named = {(step["rank"], step["name"]): number for step, number, _ in numbered(job) if "name" in step}
-    return [[by_number(answer, named) for answer in one] for row in job.get("never", []) for one in over_ranks(row, job["ranks"], named)]
+
+def rows(text):
+    """These rows of a job's text, without these names."""
+    return [row for row, _ in rows_named(read(text))]
+
+
+def rows_at(text, place):
+    """The numbers of those of these rows that hold at a place."""
+    job = read(text)
+    return [number for number, (_, before) in enumerate(rows_named(job)) if holding.holds(places_of_names(job), place, before)]
 
 
 def by_number(answer, named):
@@ -251,9 +272,7 @@ def is_met(expectations, head, answer):
 def plain(text, stops=None):
     """The plain form of a job's text. A job that the program refuses isn't to be handed in here. `stops` has for a rank the number of the
     step before which it stops, or how many steps it has: there is one more step, by whose number later ones are moved."""
-    import tomllib
-
-    job, stops = tomllib.loads(text), stops or {}
+    job, stops = read(text), stops or {}
     lines, lengths = [[job["ranks"], job["capacity"]]], collections.Counter()
     for step, number, number_of in numbered(job):
         rank = step["rank"]

@@ -73,7 +73,17 @@ class Reactions:
 def reacting(chance, steps):
     """The steps of a job, with reactions."""
     reactions = Reactions(chance)
-    return [reactions.react(*step) for step in steps]
+    found = [reactions.react(*step) for step in steps]
+    names = sorted({keys["name"] for _, _, keys in found if "name" in keys})
+    for _, _, keys in found:
+        if "expect" in keys:
+            keys["expect"] = by_place(chance, "is", keys["expect"], names)
+    return found
+
+
+def by_place(chance, key, asked, names):
+    """What is asked, every third time only before the steps of one of these names."""
+    return {key: asked, "before": chance.choice(names)} if names and chance.random() < 0.35 else asked
 
 
 def rows(chance, steps):
@@ -108,5 +118,5 @@ def rows_over(chance, text):
         names = chance.choices(sorted(named), k=2)
         row = [f"{word}.{name} {chance.choice([*WORDS[named[name]], 'skipped'])}" for word, name in zip(words, names)]
         if front.stands_for(row, text):
-            found.append(row)
+            found.append(by_place(chance, "row", row, sorted(steps_named(text))))
     return found

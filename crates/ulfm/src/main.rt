@@ -1,4 +1,7 @@
-//! The program: words and a job in, a trace out.
+//! The program's `main`: it hands the words of the command line and the streams to `run_each` of `ulfm_program`, with the search of
+//! `ulfm_outcomes`. Nothing else stands here, and nothing stands on it. If the words can't be had, `without_words` says why.
+//!
+//! What is written is what `run_each` promises. That it is this function which gets the words and the streams is read here, not proved.
 #![tactic(auto)]
 
 use std::env;

@@ -1,3 +1,4 @@
+pub mod ReadBack
 pub mod Crossing
 pub mod Following
 pub mod Positions

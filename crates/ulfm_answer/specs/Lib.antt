@@ -1,4 +1,5 @@
 pub mod Report
+pub mod Told
 pub mod Trace
 pub mod Reacting
 pub mod inside

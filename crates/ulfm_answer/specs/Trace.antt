@@ -6,8 +6,10 @@ use Rattle.hex.specs.Hex.{encode_lower}
 use Rattle.ulfm_base.specs.Error.{error_text}
 use Rattle.ulfm_log.specs.Facts.{is_stopped}
 use Rattle.ulfm_answer.specs.declared.answer.StepAnswer.{StepAnswer}
-use Rattle.ulfm_answer.specs.declared.answer.StepAnswer.TheVariants.{Sent, Posted, Done, Over, Pending, Found, Cancelled, Ranks, Acked, Revoked, Made, Shrunk, Agreed, Noted, Stopped, Unfinished, Skipped, Refused}
 use Rattle.ulfm_answer.specs.declared.answer.StepReport.{StepReport}
+use Rattle.ulfm_answer.specs.declared.told_answer.ToldAnswer.{ToldAnswer}
+use Rattle.ulfm_answer.specs.declared.told_answer.ToldAnswer.TheVariants.{Sent, Posted, Done, Over, Pending, Found, Cancelled, Ranks, Acked, Revoked, Made, Shrunk, Agreed, Noted, Stopped, Unfinished, Skipped, Refused}
+use Rattle.ulfm_answer.specs.Told.{told_of}
 use Rattle.ulfm_job.specs.Words.{step_text}
 use Rattle.ulfm_answer.specs.Report.{Report}
 
@@ -25,26 +27,30 @@ abbrev pub parted : List ℕ → List ℕ
 parted [] = []
 parted (n ∷ numbers) = decimal n ++ spaced numbers
 
--- the words of an answer
+-- the words of what is told of an answer
+abbrev pub told_text : ToldAnswer → List ℕ
+told_text Sent = codes "sent"
+told_text Posted = codes "posted"
+told_text (Done source tag body) = codes "done from " ++ decimal source ++ codes " tag " ++ decimal tag ++ codes " " ++ body_text body
+told_text (Over reason) = codes "over " ++ error_text reason
+told_text Pending = codes "pending"
+told_text (Found source tag length) = codes "found from " ++ decimal source ++ codes " tag " ++ decimal tag ++ codes " length " ++ decimal length
+told_text Cancelled = codes "cancelled"
+told_text (Ranks members) = codes "ranks [" ++ parted members ++ codes "]"
+told_text (Acked total) = codes "acked " ++ decimal total
+told_text Revoked = codes "revoked"
+told_text (Made comm) = codes "comm " ++ decimal comm
+told_text (Shrunk comm group me) = codes "comm " ++ decimal comm ++ codes " ranks [" ++ parted group ++ codes "] me " ++ decimal me
+told_text (Agreed value missing) = codes "agreed " ++ decimal value ++ codes " without [" ++ parted missing ++ codes "]"
+told_text Noted = codes "noted"
+told_text Stopped = codes "stopped"
+told_text Unfinished = codes "unfinished"
+told_text Skipped = codes "skipped"
+told_text (Refused e) = codes "refused " ++ error_text e
+
+-- the words of an answer: those of what is told of it
 abbrev pub answer_text : StepAnswer → List ℕ
-answer_text Sent = codes "sent"
-answer_text (Posted id) = codes "posted"
-answer_text (Done status body) = codes "done from " ++ decimal status.source ++ codes " tag " ++ decimal status.tag.number ++ codes " " ++ body_text body
-answer_text (Over reason) = codes "over " ++ error_text reason
-answer_text Pending = codes "pending"
-answer_text (Found id status) = codes "found from " ++ decimal status.source ++ codes " tag " ++ decimal status.tag.number ++ codes " length " ++ decimal status.length
-answer_text Cancelled = codes "cancelled"
-answer_text (Ranks members) = codes "ranks [" ++ parted members.items ++ codes "]"
-answer_text (Acked total) = codes "acked " ++ decimal total
-answer_text Revoked = codes "revoked"
-answer_text (Made child) = codes "comm " ++ decimal child.context.number
-answer_text (Shrunk child group me) = codes "comm " ++ decimal child.context.number ++ codes " ranks [" ++ parted group ++ codes "] me " ++ decimal me
-answer_text (Agreed value missing) = codes "agreed " ++ decimal value ++ codes " without [" ++ parted missing.items ++ codes "]"
-answer_text Noted = codes "noted"
-answer_text Stopped = codes "stopped"
-answer_text Unfinished = codes "unfinished"
-answer_text Skipped = codes "skipped"
-answer_text (Refused e) = codes "refused " ++ error_text e
+answer_text answer = told_text (told_of answer)
 
 -- the line of a rank's step of this number
 abbrev pub step_line : ℕ → ℕ → StepReport → List ℕ

@@ -1,1 +1,2 @@
 pub mod Follow
+pub mod Told

@@ -2,12 +2,13 @@
 ghost use Rattle.std.specs.Prelude.{◌≡◌, ◌++◌, ◌∷◌, List, ℕ, []};
 ghost use Rattle.hex.specs.Hex.{encode_lower};
 ghost use Rattle.ulfm_job.specs.Begins.{begins};
-ghost use Rattle.ulfm_answer.specs.Trace.{answer_text};
+ghost use Rattle.ulfm_answer.specs.Trace.{answer_text, told_text};
 ghost use Rattle.ulfm_answer.specs.inside.Follow.{goes_on};
 
 use crate::answer::StepAnswer;
-use crate::putting::put_answer;
+use crate::putting::{put_answer, put_told};
 use crate::sink::Sink;
+use crate::told_answer::ToldAnswer;
 use std::alloc::Global;
 use std::convert::Infallible;
 
@@ -100,6 +101,17 @@ pub(crate) fn begins(alloc: Global, answer: &StepAnswer, words: &[u8]) -> bool
 {
     let mut left = Words::Left(words);
     match put_answer(alloc, &mut left, answer) {
+        Ok(()) => at_end(left),
+        Err(never) => match never {},
+    }
+}
+
+/// Whether the text of what is told of an answer begins, by whole words, with these words. It never answers out of memory.
+pub fn begins_told(told: &ToldAnswer<'_>, words: &[u8]) -> bool
+    ensures { result ≡ begins (told_text told.now) words.now }
+{
+    let mut left = Words::Left(words);
+    match put_told(&mut left, told) {
         Ok(()) => at_end(left),
         Err(never) => match never {},
     }

@@ -4,19 +4,28 @@
 //!     push_answer(&mut text, &report.answer)?;
 //!
 //! A job's conditions and expectations compare the words of an answer with their own, without a text: [`fulfils`] and [`holds_of`]
-//! follow the words as they are put. Read specs/Trace.antt first (the words), then Reacting.antt (conditions and expectations).
+//! follow the words as they are put. Read specs/Told.antt first (what is told of an answer, and its code), then Trace.antt (the words) and
+//! Reacting.antt (conditions and expectations).
 #![tactic(auto)]
 
 mod answer;
+mod bytes;
 mod clauses;
+mod codes;
 mod conditions;
 mod follow;
 mod lines;
 mod putting;
+mod reading;
 mod sink;
+mod told_answer;
 
 pub use answer::{StepAnswer, StepReport};
+pub use bytes::Bytes;
 pub use clauses::{each_met, holds_of};
+pub use codes::push_code;
 pub use conditions::{fulfils, is_played};
-pub use lines::{push_answer, push_closing, push_steps};
+pub use follow::begins_told;
+pub use lines::{push_answer, push_closing, push_steps, push_told};
 pub use putting::numbers_of;
+pub use told_answer::ToldAnswer;

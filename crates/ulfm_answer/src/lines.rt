@@ -1,9 +1,10 @@
 //! The lines of a trace: what is printed of answered steps, and of how a rank ended.
 ghost use Rattle.std.specs.Prelude.{◌≡◌, ◌++◌, OnOk, string_bytes};
-ghost use Rattle.ulfm_answer.specs.Trace.{answer_text, step_line, step_lines, closing_line};
+ghost use Rattle.ulfm_answer.specs.Trace.{answer_text, step_line, step_lines, closing_line, told_text};
 
 use crate::answer::{StepAnswer, StepReport};
-use crate::putting::put_answer;
+use crate::putting::{put_answer, put_told};
+use crate::told_answer::ToldAnswer;
 use std::alloc::AllocError;
 
 /// Puts the text of an answer behind another text.
@@ -16,6 +17,17 @@ pub fn push_answer(text: &mut String, answer: &StepAnswer) -> Result<(), AllocEr
 {
     let alloc = *text.allocator();
     put_answer(alloc, text, answer)
+}
+
+/// Puts the text of what is told of an answer behind another text.
+///
+/// # Errors
+///
+/// A growth was refused: a part of it may stand in the text then.
+pub fn push_told(text: &mut String, told: &ToldAnswer<'_>) -> Result<(), AllocError>
+    ensures { OnOk result (string_bytes text.new ≡ string_bytes text.old ++ told_text told.now) }
+{
+    put_told(text, told)
 }
 
 fn push_step(text: &mut String, me: u8, k: usize, report: &StepReport) -> Result<(), AllocError>

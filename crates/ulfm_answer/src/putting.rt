@@ -1,15 +1,15 @@
 //! The text of an answer, put piece by piece.
 ghost use Rattle.std.specs.Prelude.{◌≡◌, ◌++◌, List, ℕ, OnOk, codes, decimal};
 ghost use Rattle.ulfm_base.specs.Error.{error_text};
-ghost use Rattle.ulfm_answer.specs.Trace.{answer_text, body_text, parted, spaced};
+ghost use Rattle.ulfm_answer.specs.Trace.{answer_text, body_text, parted, spaced, told_text};
 
 use crate::answer::StepAnswer;
 use crate::sink::Sink;
+use crate::told_answer::{ToldAnswer, members_of, told_of};
 use itoa::Buffer;
 use smallvec::SmallVec;
 use std::alloc::Global;
 use ulfm_base::{CallError, Group, RankNumbers};
-use ulfm_log::Status;
 
 /// The ranks of the world in a group, in order. It never answers out of memory.
 pub fn numbers_of(alloc: Global, group: &Group) -> RankNumbers
@@ -85,11 +85,11 @@ fn put_body<S: Sink>(sink: &mut S, body: &[u8]) -> Result<(), S::Error>
 }
 
 /// Puts words, and where a letter came from with its tag.
-fn put_status<S: Sink>(sink: &mut S, words: &str, status: &Status) -> Result<(), S::Error>
-    ensures { OnOk result ((rest : List ℕ) → S.with_rest sink.new rest ≡ S.with_rest sink.old (words.now ++ decimal status.now.source ++ codes " tag " ++ decimal status.now.tag.number ++ rest)) }
+fn put_letter<S: Sink>(sink: &mut S, words: &str, source: u8, tag: u16) -> Result<(), S::Error>
+    ensures { OnOk result ((rest : List ℕ) → S.with_rest sink.new rest ≡ S.with_rest sink.old (words.now ++ decimal source ++ codes " tag " ++ decimal tag ++ rest)) }
 {
-    put_both(sink, words, u64::from(status.source))?;
-    put_both(sink, " tag ", u64::from(status.tag.number))
+    put_both(sink, words, u64::from(source))?;
+    put_both(sink, " tag ", u64::from(tag))
 }
 
 /// Puts words, and a refusal behind them.
@@ -101,13 +101,55 @@ fn put_error<S: Sink>(sink: &mut S, words: &str, error: CallError) -> Result<(),
 }
 
 /// Puts the group of a shrink, and the position there.
-fn put_group<S: Sink>(alloc: Global, sink: &mut S, group: &Group, me: u8) -> Result<(), S::Error>
-    ensures { OnOk result ((rest : List ℕ) → S.with_rest sink.new rest ≡ S.with_rest sink.old (codes " ranks [" ++ parted group.now ++ codes "] me " ++ decimal me ++ rest)) }
+fn put_group<S: Sink>(sink: &mut S, members: &[u8], me: u8) -> Result<(), S::Error>
+    ensures { OnOk result ((rest : List ℕ) → S.with_rest sink.new rest ≡ S.with_rest sink.old (codes " ranks [" ++ parted members.now ++ codes "] me " ++ decimal me ++ rest)) }
 {
-    let members = numbers_of(alloc, group);
     sink.put(" ranks [")?;
-    put_parted(sink, members.as_slice())?;
+    put_parted(sink, members)?;
     put_both(sink, "] me ", u64::from(me))
+}
+
+/// Puts the text of what is told of an answer.
+///
+/// # Errors
+///
+/// The sink's own: a part of the text may be taken then.
+pub(crate) fn put_told<S: Sink>(sink: &mut S, told: &ToldAnswer<'_>) -> Result<(), S::Error>
+    ensures { OnOk result ((rest : List ℕ) → S.with_rest sink.new rest ≡ S.with_rest sink.old (told_text told.now ++ rest)) }
+{
+    match told {
+        ToldAnswer::Sent => sink.put("sent"),
+        ToldAnswer::Posted => sink.put("posted"),
+        ToldAnswer::Done(source, tag, body) => {
+            put_letter(sink, "done from ", *source, *tag)?;
+            sink.put(" ")?;
+            put_body(sink, body.as_slice())
+        }
+        ToldAnswer::Over(reason) => put_error(sink, "over ", *reason),
+        ToldAnswer::Pending => sink.put("pending"),
+        ToldAnswer::Found(source, tag, length) => {
+            put_letter(sink, "found from ", *source, *tag)?;
+            put_both(sink, " length ", *length as u64)
+        }
+        ToldAnswer::Cancelled => sink.put("cancelled"),
+        ToldAnswer::Ranks(members) => put_list(sink, "ranks [", members.as_slice()),
+        ToldAnswer::Acked(total) => put_both(sink, "acked ", u64::from(*total)),
+        ToldAnswer::Revoked => sink.put("revoked"),
+        ToldAnswer::Made(comm) => put_both(sink, "comm ", u64::from(*comm)),
+        ToldAnswer::Shrunk(comm, members, me) => {
+            put_both(sink, "comm ", u64::from(*comm))?;
+            put_group(sink, members.as_slice(), *me)
+        }
+        ToldAnswer::Agreed(value, missing) => {
+            put_both(sink, "agreed ", u64::from(*value))?;
+            put_list(sink, " without [", missing.as_slice())
+        }
+        ToldAnswer::Noted => sink.put("noted"),
+        ToldAnswer::Stopped => sink.put("stopped"),
+        ToldAnswer::Unfinished => sink.put("unfinished"),
+        ToldAnswer::Skipped => sink.put("skipped"),
+        ToldAnswer::Refused(error) => put_error(sink, "refused ", *error),
+    }
 }
 
 /// Puts the text of an answer.
@@ -122,37 +164,6 @@ pub(crate) fn put_answer<S: Sink>(
 ) -> Result<(), S::Error>
     ensures { OnOk result ((rest : List ℕ) → S.with_rest sink.new rest ≡ S.with_rest sink.old (answer_text answer.now ++ rest)) }
 {
-    match answer {
-        StepAnswer::Sent => sink.put("sent"),
-        StepAnswer::Posted(_) => sink.put("posted"),
-        StepAnswer::Done(status, body) => {
-            put_status(sink, "done from ", status)?;
-            sink.put(" ")?;
-            put_body(sink, body.as_bytes())
-        }
-        StepAnswer::Over(reason) => put_error(sink, "over ", *reason),
-        StepAnswer::Pending => sink.put("pending"),
-        StepAnswer::Found(_, status) => {
-            put_status(sink, "found from ", status)?;
-            put_both(sink, " length ", status.length as u64)
-        }
-        StepAnswer::Cancelled => sink.put("cancelled"),
-        StepAnswer::Ranks(members) => put_list(sink, "ranks [", members.as_slice()),
-        StepAnswer::Acked(total) => put_both(sink, "acked ", u64::from(*total)),
-        StepAnswer::Revoked => sink.put("revoked"),
-        StepAnswer::Made(comm) => put_both(sink, "comm ", u64::from(comm.context.number)),
-        StepAnswer::Shrunk(comm, group, me) => {
-            put_both(sink, "comm ", u64::from(comm.context.number))?;
-            put_group(alloc, sink, group, *me)
-        }
-        StepAnswer::Agreed(value, missing) => {
-            put_both(sink, "agreed ", u64::from(*value))?;
-            put_list(sink, " without [", missing.as_slice())
-        }
-        StepAnswer::Noted => sink.put("noted"),
-        StepAnswer::Stopped => sink.put("stopped"),
-        StepAnswer::Unfinished => sink.put("unfinished"),
-        StepAnswer::Skipped => sink.put("skipped"),
-        StepAnswer::Refused(error) => put_error(sink, "refused ", *error),
-    }
+    let members = members_of(alloc, answer);
+    put_told(sink, &told_of(answer, members.as_slice()))
 }

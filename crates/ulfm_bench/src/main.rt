@@ -1,9 +1,19 @@
-//! How fast letters go: on standard error, in nanoseconds a letter. Over the two carriers, beside the kit's rings and queues
-//! alone, each with letters that their sender makes, and that their receiver copies into a room and frees.
-//! The first word, if there is one, is the number of letters of each trip; the second the bytes of the letters, 8, 64 or 1024,
-//! where the trips of one size alone are made. Where a word `rank` stands before these, the letters are whole ones, of ranks with
-//! their matching, over both carriers between two threads, and in one thread by its processor time. Where the first word is
-//! `match`, the matcher is measured beside plain lists; the second is then the most letters that a case has.
+//! How fast messages go, in nanoseconds a message, on standard error. No contract says anything of a time.
+//!
+//!     ulfm_bench [COUNT [BYTES]]         over both carriers, and over the kit's rings and queues alone
+//!     ulfm_bench rank [COUNT [BYTES]]    whole messages of two ranks, with calls, turns and matching, in two threads and in one
+//!     ulfm_bench match [MOST]            the matcher beside plain lists, where it has to look far
+//!
+//! COUNT is how many messages a trip has. BYTES is 8, 64 or 1024; without it all three are measured. MOST is the most messages of a case. Of each
+//! message the sender makes the bytes, and the receiver copies them into a room and frees them. What happens in one thread is told by its
+//! processor time.
+//!
+//! - `telling.rt`: which trips are made, and their lines
+//! - `trip.rt`: a trip, and its time; `way.rt`: what items go over; `pairs.rt`: both ends of a way
+//! - `post.rt`: what sends and receives; `side.rt`: that of a rank; `both.rt`: two ranks in one thread
+//! - `matching.rt`: the cases of the matcher; `case.rt`: their messages and receives; `pairing.rt`: the matcher and the lists
+//!
+//! Not here: what the figures came to (docs/MEASURED.md), and what goes beside them (bench/). tools/by-hand/bench runs all of it.
 #![tactic(auto)]
 
 mod both;

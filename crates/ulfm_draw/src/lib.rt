@@ -1,9 +1,17 @@
 //! Pictures of what ranks did: a line for each of them, an arrow for each item that one took from another, and the answers in words.
 //!
-//!     let drawing = drawn(alloc, Style::Svg, &schedule, "")?;
+//!     let drawing = drawn(alloc, Style::Svg, Wording::Plain, &job, &schedule, "")?;
 //!
-//! A picture is a function of a schedule: of one that was shown, or of what a replay did. No contract says anything of it.
-//! Pictures are held byte for byte by `tools/check-pictures`.
+//! A picture is a function of a job and a schedule of it: of one that was shown, or of what a replay did. No contract says anything of it.
+//! Pictures are held byte for byte by tools/gate/check-pictures.
+//!
+//! - `making.rt`: from a schedule to a picture; `picture.rt`: what one has; `row.rt`, `arrow.rt`, `wait.rt`: moves, items on their way, open steps
+//! - `circles.rt`: what waits come to; `kind.rt`, `mark.rt`, `saying.rt`: what a move is, its mark and its words; `legend.rt`: what marks stand for
+//! - `columns.rt`: as text; `mermaid.rt`: as a Mermaid diagram; `svg.rt`: as a drawing
+//! - of drawings alone: `layout.rt`, `lanes.rt` (where things stand), `path.rt` (arrows), `ink.rt` (colours), `piece.rt`, `svg_text.rt`,
+//!   `wrapping.rt` (texts)
+//!
+//! Which message a receive got stands in the schedule: nothing is matched here.
 #![tactic(auto)]
 
 mod arrow;
@@ -28,10 +36,11 @@ mod wait;
 mod wrapping;
 
 use std::alloc::{AllocError, Global};
-use ulfm_json::Style;
+use ulfm_job::Job;
+use ulfm_json::{Style, Wording};
 use ulfm_moves::Schedule;
 
-/// The picture of a schedule, with a note on it, or none where that is empty.
+/// The picture of a schedule of a job, its calls and answers in these words, with a note on it, or none where that is empty.
 ///
 /// # Errors
 ///
@@ -39,10 +48,12 @@ use ulfm_moves::Schedule;
 pub fn drawn(
     alloc: Global,
     style: Style,
+    wording: Wording,
+    job: &Job,
     schedule: &Schedule,
     note: &str,
 ) -> Result<String, AllocError> {
-    let picture = making::picture_of(alloc, schedule, note)?;
+    let picture = making::picture_of(alloc, wording, job, schedule, note)?;
     match style {
         Style::Svg => svg::drawing(alloc, &picture),
         Style::Mermaid => mermaid::diagram(alloc, &picture),

@@ -7,17 +7,20 @@ use crate::picture::Picture;
 use crate::row::Row;
 use crate::wait::Wait;
 use std::alloc::{AllocError, Global};
-use ulfm_answer::{StepReport, push_answer};
-use ulfm_job::NotedStep;
+use ulfm_answer::StepReport;
+use ulfm_job::Job;
+use ulfm_json::{Wording, push_answer_in};
 use ulfm_moves::{Cargo, Deed, Move, Schedule, push_cargo};
 
-/// The picture of a schedule, with a note on it.
+/// The picture of a schedule of a job, in these words, with a note on it.
 pub(crate) fn picture_of<'a>(
     alloc: Global,
+    wording: Wording,
+    job: &'a Job,
     schedule: &Schedule,
     note: &'a str,
 ) -> Result<Picture<'a>, AllocError> {
-    let mut picture = Picture::new(alloc, note);
+    let mut picture = Picture::new(alloc, wording, job, note);
     for course in &schedule.courses {
         picture.ends.push(course.end)?;
     }
@@ -27,10 +30,9 @@ pub(crate) fn picture_of<'a>(
     for course in &schedule.courses {
         let rank = course.rank as usize;
         let step = course.steps.len();
-        if let Some(call) = &course.open {
-            if !picture.has_row(rank, step) {
-                picture.rows.push(opened(alloc, rank, step, call)?)?;
-            }
+        if course.open.is_some() && !picture.has_row(rank, step) {
+            let row = opened(alloc, &picture, course.rank, step)?;
+            picture.rows.push(row)?;
         }
     }
     if let Some(waits) = &schedule.waits {
@@ -51,8 +53,8 @@ fn add_move(picture: &mut Picture<'_>, moved: &Move) -> Result<(), AllocError> {
     let mut row = match &moved.deed {
         Deed::Left(_, _) => return Ok(()),
         Deed::Took(from, cargo) => taken(alloc, rank, *from, *cargo)?,
-        Deed::Opened(step, call) => opened(alloc, rank, *step, call)?,
-        Deed::Answered(step, report) => answered(alloc, rank, *step, report)?,
+        Deed::Opened(step, _) => opened(alloc, picture, moved.rank, *step)?,
+        Deed::Answered(step, report) => answered(alloc, picture, moved.rank, *step, report)?,
     };
     row.message = moved.message;
     picture.rows.push(row)?;
@@ -96,14 +98,14 @@ fn taken(alloc: Global, rank: usize, from: u8, cargo: Cargo) -> Result<Row, Allo
 }
 
 /// The row of a step that was opened.
-fn opened(alloc: Global, rank: usize, step: usize, call: &NotedStep) -> Result<Row, AllocError> {
+fn opened(alloc: Global, picture: &Picture<'_>, rank: u8, step: usize) -> Result<Row, AllocError> {
     Ok(Row {
-        rank,
+        rank: rank as usize,
         step,
         through: step,
         mark: Some(Mark::Open),
         taken: None,
-        words: format!(in alloc; "{call}")?,
+        words: picture.call(alloc, rank, step)?,
         answer: String::from_str(alloc, "open")?,
         message: None,
     })
@@ -112,19 +114,20 @@ fn opened(alloc: Global, rank: usize, step: usize, call: &NotedStep) -> Result<R
 /// The row of a step that has its answer.
 fn answered(
     alloc: Global,
-    rank: usize,
+    picture: &Picture<'_>,
+    rank: u8,
     step: usize,
     report: &StepReport,
 ) -> Result<Row, AllocError> {
     let mut answer = String::new(alloc);
-    push_answer(&mut answer, &report.answer)?;
+    push_answer_in(&mut answer, picture.wording, &report.answer)?;
     Ok(Row {
-        rank,
+        rank: rank as usize,
         step,
         through: step,
         mark: Some(mark_by(&report.answer)),
         taken: None,
-        words: format!(in alloc; "{}", report.step)?,
+        words: picture.call(alloc, rank, step)?,
         answer,
         message: None,
     })

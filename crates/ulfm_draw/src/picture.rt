@@ -4,7 +4,9 @@ use crate::arrow::Arrow;
 use crate::kind::{Kind, kind_of};
 use crate::row::Row;
 use crate::wait::Wait;
-use std::alloc::Global;
+use std::alloc::{AllocError, Global};
+use ulfm_job::{Job, Step};
+use ulfm_json::{Wording, push_call_in};
 use ulfm_moves::End;
 
 /// Moves in their order, items on their way, how ranks ended, and what they wait for.
@@ -17,17 +19,32 @@ pub(crate) struct Picture<'a> {
     pub(crate) waits: Vec<Wait>,
     /// A note on all of it, or nothing.
     pub(crate) note: &'a str,
+    /// Whose words calls and answers are in.
+    pub(crate) wording: Wording,
+    /// The job.
+    job: &'a Job,
 }
 
 impl<'a> Picture<'a> {
-    /// Of nothing, with a note.
-    pub(crate) fn new(alloc: Global, note: &'a str) -> Picture<'a> {
+    /// Of nothing that a job did, in these words, with a note.
+    pub(crate) fn new(alloc: Global, wording: Wording, job: &'a Job, note: &'a str) -> Picture<'a> {
         Picture {
             rows: Vec::new(alloc),
             arrows: Vec::new(alloc),
             ends: Vec::new(alloc),
             waits: Vec::new(alloc),
             note,
+            wording,
+            job,
+        }
+    }
+
+    /// The step of a rank in the picture's words.
+    pub(crate) fn call(&self, alloc: Global, rank: u8, step: usize) -> Result<String, AllocError> {
+        match (self.wording, self.job.step(rank, step)) {
+            (Wording::Plain, Some(step)) => plain_call(alloc, rank, step),
+            (Wording::Mpi, Some(step)) => mpi_call(alloc, step),
+            (_, None) => Ok(String::new(alloc)),
         }
     }
 
@@ -148,4 +165,25 @@ impl<'a> Picture<'a> {
     pub(crate) fn waits_somewhere(&self, rank: usize) -> bool {
         self.first_step(rank).is_some()
     }
+}
+
+/// A step of a rank in plain words. A bare number looks like that of a rank, so what it is stands before it.
+fn plain_call(alloc: Global, rank: u8, step: &Step) -> Result<String, AllocError> {
+    match step {
+        Step::Wait { req } => format!(in alloc; "wait for {rank}.{req}"),
+        Step::Mrecv { req, .. } => format!(in alloc; "mrecv of {rank}.{req}"),
+        Step::Cancel { req } => format!(in alloc; "cancel {rank}.{req}"),
+        Step::Ack { count, comm } => { format!(in alloc; "ack count {count} comm {}", comm.number) }
+        Step::Agree { flag, comm } => {
+            format!(in alloc; "agree flag {flag} comm {}", comm.number)
+        }
+        _ => format!(in alloc; "{step}"),
+    }
+}
+
+/// A step in MPI's words.
+fn mpi_call(alloc: Global, step: &Step) -> Result<String, AllocError> {
+    let mut text = String::new(alloc);
+    push_call_in(&mut text, Wording::Mpi, step)?;
+    Ok(text)
 }

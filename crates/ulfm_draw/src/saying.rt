@@ -17,25 +17,13 @@ pub(crate) fn subject(alloc: Global, row: &Row) -> Result<String, AllocError> {
     }
 }
 
-/// A step by its place and its words, or several that were skipped by their places. A bare number looks like that of a rank, so what it is
-/// stands before it.
+/// A step by its place and its words, or several that were skipped by their places.
 fn step(alloc: Global, row: &Row) -> Result<String, AllocError> {
     let (rank, step) = (row.rank, row.step);
     if row.through > step {
         return format!(in alloc; "{rank}.{step} to {rank}.{}", row.through);
     }
-    let (op, rest) = row
-        .words
-        .split_once(" ")
-        .unwrap_or((row.words.as_str(), ""));
-    match op {
-        "wait" => format!(in alloc; "{rank}.{step} wait for {rank}.{rest}"),
-        "mrecv" => format!(in alloc; "{rank}.{step} mrecv of {rank}.{rest}"),
-        "cancel" => format!(in alloc; "{rank}.{step} cancel {rank}.{rest}"),
-        "ack" => format!(in alloc; "{rank}.{step} ack count {rest}"),
-        "agree" => format!(in alloc; "{rank}.{step} agree flag {rest}"),
-        _ => format!(in alloc; "{rank}.{step} {}", row.words),
-    }
+    format!(in alloc; "{rank}.{step} {}", row.words)
 }
 
 /// What a row says then: the answer, the number of the message that it got, and whether what it sent was never taken.

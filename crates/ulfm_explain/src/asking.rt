@@ -4,9 +4,9 @@ use crate::answers::{is_of_wait, may_begin};
 use crate::cause::Cause;
 use crate::explanation::StepPlace;
 use crate::findings::Findings;
-use crate::keys::Sheet;
-use crate::rules::{Key, Rules, all_rules, condition_rules};
-use crate::script::{Script, op_of};
+use crate::keys::{Sheet, text_at};
+use crate::rules::{Key, Rules, all_rules, condition_rules, expect_rules};
+use crate::script::{Script, is_label, op_of};
 use crate::shown::{Shown, shown_value};
 use std::alloc::AllocError;
 use toml::{Table, Value};
@@ -121,14 +121,14 @@ impl Asker<'_> {
         Ok(())
     }
 
-    /// A table within its conditions, which may have these keys.
-    fn sheet_within<'a>(&'a self, table: &'a Table, rules: Rules) -> Sheet<'a> {
+    /// A table within a key of the step, which may have these keys.
+    fn sheet_within<'a>(&'a self, key: Key, table: &'a Table, rules: Rules) -> Sheet<'a> {
         Sheet {
             table,
             rules,
             step: Some(self.place),
             ranks: self.sheet.ranks,
-            within: Some(Key::If),
+            within: Some(key),
         }
     }
 
@@ -141,7 +141,7 @@ impl Asker<'_> {
         let Some(value) = table.get("all") else {
             return self.explain_condition(findings, table);
         };
-        let sheet = self.sheet_within(table, all_rules());
+        let sheet = self.sheet_within(Key::If, table, all_rules());
         sheet.explain_kinds(findings)?;
         sheet.explain_unknown(findings)?;
         let Some(items) = value.as_array() else {
@@ -184,7 +184,7 @@ impl Asker<'_> {
     ) -> Result<(), AllocError> {
         let is = table.get("is");
         let not = table.get("not");
-        let sheet = self.sheet_within(table, condition_rules(is.is_some(), not.is_some()));
+        let sheet = self.sheet_within(Key::If, table, condition_rules(is.is_some(), not.is_some()));
         sheet.explain_kinds(findings)?;
         sheet.explain_unknown(findings)?;
         let Some(value) = table.get("step") else {
@@ -218,12 +218,46 @@ impl Asker<'_> {
         let Some(value) = self.sheet.table.get("expect") else {
             return Ok(());
         };
-        if !value.is_array() {
-            return self.sheet.explain_kind(findings, Key::Expect, value);
-        }
         let sheet = self.sheet;
         let op = sheet.rules.owner;
+        if let Some(table) = value.as_table() {
+            return self.explain_expected(findings, op, table);
+        }
+        if !value.is_array() {
+            return sheet.explain_kind(findings, Key::Expect, value);
+        }
         self.explain_words(findings, Key::Expect, Key::Expect, op, value)
+    }
+
+    /// Tells of the keys of what it expects only before the steps of a name.
+    fn explain_expected_keys(
+        &self,
+        findings: &mut Findings<'_>,
+        table: &Table,
+    ) -> Result<(), AllocError> {
+        let sheet = self.sheet_within(Key::Expect, table, expect_rules());
+        sheet.explain_kinds(findings)?;
+        sheet.explain_unknown(findings)
+    }
+
+    /// Tells what is wrong with what it expects only before the steps of a name, of a step of this op.
+    fn explain_expected(
+        &self,
+        findings: &mut Findings<'_>,
+        op: &'static str,
+        table: &Table,
+    ) -> Result<(), AllocError> {
+        self.explain_expected_keys(findings, table)?;
+        if let Some(name) = text_at(table, Key::Before) {
+            if !is_label(name) {
+                let shown = Shown::new(findings.alloc, name)?;
+                self.tell(findings, Key::Expect, Cause::NotThere(shown))?;
+            }
+        }
+        match table.get("is") {
+            Some(words) => self.explain_words(findings, Key::Expect, Key::Expect, op, words),
+            None => Ok(()),
+        }
     }
 
     /// Tells of words with which no answer of an op begins.

@@ -59,6 +59,8 @@ pub enum Cause {
     NameTaken(Shown, usize),
     /// A name that no earlier step of its rank has.
     NotNamed(Key, Shown),
+    /// A name that no step has, where stops are to lie before the steps of that name.
+    NotThere(Shown),
     /// A number that is none of an earlier step of its rank.
     NotEarlier(i64),
     /// A list of so many, where 1 to 16 may be.
@@ -185,6 +187,10 @@ impl Cause {
             Cause::NotNamed(key, text) => Line::Two(
                 "key '{}' is '{}', and no earlier step of its rank has this name",
                 Part::Key(*key),
+                Part::Text(text.as_str()),
+            ),
+            Cause::NotThere(text) => Line::One(
+                "key 'before' is '{}', and no step has this name",
                 Part::Text(text.as_str()),
             ),
             Cause::NotEarlier(number) => Line::One(

@@ -190,19 +190,31 @@ fn is_of_kind(value: &Value, kind: Kind) -> bool {
         | Kind::Ranks(_, _)
         | Kind::Peer(_, _)
         | Kind::PeerOrAny(_, _) => value.is_integer(),
-        Kind::Text | Kind::Name | Kind::Label => value.is_str(),
+        Kind::Text | Kind::Name | Kind::Label | Kind::Called => value.is_str(),
         Kind::Reference(_, _) => value.is_integer() || value.is_str(),
-        Kind::Conditions => value.is_table() || value.is_array(),
+        Kind::Conditions | Kind::Expected => value.is_table() || value.is_array(),
+        Kind::Texts => are_texts(value),
         Kind::Words | Kind::Together => value.is_array(),
         Kind::Rows => are_rows(value),
         Kind::Tables => false,
     }
 }
 
-/// Whether a value is an array, each of whose values is a row of texts.
+/// Whether a value is an array of rows.
 fn are_rows(value: &Value) -> bool {
     match value.as_array() {
-        Some(rows) => rows.iter().all(|row| are_texts(row)),
+        Some(rows) => rows.iter().all(|row| is_row(row)),
+        None => false,
+    }
+}
+
+/// Whether a value is an array of texts, or a table with one and with a text `before`.
+fn is_row(value: &Value) -> bool {
+    let Some(table) = value.as_table() else {
+        return are_texts(value);
+    };
+    match table.get("row") {
+        Some(row) => are_texts(row) && text_at(table, Key::Before).is_some(),
         None => false,
     }
 }

@@ -32,7 +32,13 @@ pub enum Kind {
     Together,
     /// An array of 1 to 16 texts.
     Words,
-    /// An array of arrays of texts.
+    /// The same, or a table with one and with a name.
+    Expected,
+    /// A text that is the name of a step.
+    Called,
+    /// An array of texts.
+    Texts,
+    /// An array of arrays of texts, or of tables with one and with a name.
     Rows,
 }
 
@@ -79,7 +85,14 @@ impl Kind {
             }
             Kind::Together => "a list of 1 to 16 tables with 'step' and 'is' or 'not'",
             Kind::Words => "a list of 1 to 16 texts in quotes",
-            Kind::Rows => "a list of lists of texts in quotes",
+            Kind::Expected => {
+                "a list of 1 to 16 texts in quotes, or a table with such a list 'is' and with 'before'"
+            }
+            Kind::Called => "the name of a step in quotes",
+            Kind::Texts => "a list of texts in quotes",
+            Kind::Rows => {
+                "a list of lists of texts in quotes, or of tables with such a list 'row' and with 'before'"
+            }
         }
     }
 }

@@ -2,11 +2,22 @@
 //!
 //!     for explanation in explain(alloc, bytes)? { .. }
 //!
-//! [`explain`] tells why a job is refused, [`warnings`] what of a good one will be refused: ten of each at most.
+//! [`explain`] tells why a job is refused, [`warnings`] what of a good one will be refused. One thing is promised of both: there are ten at most
+//! (clause `few`). That a job is refused, and by which line, isn't decided here but by `ulfm_reader`; the words here come from a second look at
+//! the text, and no contract says that they are right. They are held by tools/gate/bad-jobs.
+//!
+//! - `check.rt`: [`explain`], in the order in which the reader looks for faults; `warning.rt`: [`warnings`]; `findings.rt`: the ten
+//! - `explanation.rt`, `place.rt`: what is wrong, and where; `marks.rt`, `walk.rt`: where keys and steps begin in a text
+//! - `cause.rt`: all that may be wrong; `doom.rt`: all that will be refused, `fate.rt`: which steps will be; `line.rt`: how both are put in words
+//! - `steps.rt`, `keys.rt`, `asking.rt`, `never.rt`, `before.rt`, `block.rt`, `claim.rt`: what is looked at, a subject a file
+//! - `ops.rt`, `rules.rt`, `kind.rt`, `answers.rt`: what may stand in a job, as docs/JOBS.md has it
+//! - `lines.rt`: steps written out, beside their places in the file; `script.rt`: those of one rank; `told.rt`, `shown.rt`: how they are named
+//! - `nearest.rt`, `mpi.rt`: what a misspelt word, or a word of MPI's, stands for
 #![tactic(auto)]
 
 mod answers;
 mod asking;
+mod before;
 mod block;
 mod cause;
 mod check;

@@ -29,15 +29,23 @@ pub fn explain_never(
         return tell(findings, Cause::ManyRows);
     };
     for (number, row) in rows.iter().enumerate() {
-        if let Some(texts) = row.as_array() {
-            explain_row(findings, steps, number, texts.as_slice())?;
+        if let Some(texts) = texts_of(row) {
+            explain_row(findings, steps, number, texts)?;
         }
     }
     Ok(())
 }
 
+/// The texts of a row.
+fn texts_of(row: &Value) -> Option<&[Value]> {
+    match row.as_table() {
+        Some(table) => list_at(table, "row"),
+        None => Some(row.as_array()?.as_slice()),
+    }
+}
+
 /// Tells a cause, at the key `never`.
-fn tell(findings: &mut Findings<'_>, cause: Cause) -> Result<(), AllocError> {
+pub(crate) fn tell(findings: &mut Findings<'_>, cause: Cause) -> Result<(), AllocError> {
     let at = findings.place_of(None, "never");
     findings.tell(at, None, cause)
 }

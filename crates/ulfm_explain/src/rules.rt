@@ -33,6 +33,10 @@ pub enum Key {
     Name,
     If,
     Expect,
+    /// The name before whose steps every stop has to lie.
+    Before,
+    /// The texts of a row of `never` that has a `before`.
+    Row,
     /// The step that a condition names.
     Earlier,
     Is,
@@ -64,6 +68,8 @@ impl Key {
             Key::Name => "name",
             Key::If => "if",
             Key::Expect => "expect",
+            Key::Before => "before",
+            Key::Row => "row",
             Key::Is => "is",
             Key::Not => "not",
             Key::All => "all",
@@ -93,7 +99,10 @@ impl Key {
             Key::Name => Kind::Name,
             Key::If => Kind::Conditions,
             Key::All => Kind::Together,
-            Key::Expect | Key::Is | Key::Not => Kind::Words,
+            Key::Expect => Kind::Expected,
+            Key::Before => Kind::Called,
+            Key::Row => Kind::Texts,
+            Key::Is | Key::Not => Kind::Words,
         }
     }
 }
@@ -145,6 +154,26 @@ pub fn all_rules() -> Rules {
     Rules {
         owner: "an if with 'all'",
         required: &[Key::All],
+        optional: &[],
+        asking: &[],
+    }
+}
+
+/// The keys of what a step expects only before the steps of a name.
+pub fn expect_rules() -> Rules {
+    Rules {
+        owner: "an expect with 'before'",
+        required: &[Key::Is, Key::Before],
+        optional: &[],
+        asking: &[],
+    }
+}
+
+/// The keys of a row of `never` that holds only before the steps of a name.
+pub fn row_rules() -> Rules {
+    Rules {
+        owner: "a row with 'before'",
+        required: &[Key::Row, Key::Before],
         optional: &[],
         asking: &[],
     }

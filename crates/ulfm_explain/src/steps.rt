@@ -1,6 +1,7 @@
 //! What is wrong with a job and with its steps.
 
 use crate::asking::explain_asking;
+use crate::before::{explain_befores, explain_row_tables};
 use crate::block::{explain_block, is_block};
 use crate::cause::Cause;
 use crate::explanation::StepPlace;
@@ -39,6 +40,8 @@ pub fn explain_job(findings: &mut Findings<'_>, table: &Table) -> Result<(), All
         return findings.tell(at, None, Cause::TooManyWritten);
     }
     explain_steps(findings, ranks, steps)?;
+    explain_row_tables(findings, table)?;
+    explain_befores(findings, ranks, steps, table)?;
     explain_never(findings, steps, table)
 }
 

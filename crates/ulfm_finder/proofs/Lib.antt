@@ -1,6 +1,4 @@
-pub mod Ascii
-pub mod Writable
-pub mod Worded
+pub mod Coded
 pub mod Judging
 pub mod Open
 pub mod Together

@@ -4,22 +4,23 @@ use Rattle.std.proofs.lemmas.Bool.{and_from, and_parts, eq-eqb, false≢true, ca
 use Rattle.std.proofs.lemmas.List.{get_or_past}
 use Rattle.std.proofs.lemmas.List.Folds.{list_any_at}
 use Rattle.std.specs.List.{list_all, list_any}
-use Rattle.ulfm_job.specs.Begins.{begins}
 use Rattle.ulfm_job.specs.Job.{JobView}
 use Rattle.ulfm_job.specs.declared.clause.Clause.{Clause}
 use Rattle.ulfm_late.specs.Obeying.{ComesTo}
 use Rattle.ulfm_late.specs.Late.{IsEnd}
 use Rattle.ulfm_script.specs.Player.{Player}
 use Rattle.ulfm_answer.specs.Reacting.{begins_in, holds_of}
-use Rattle.ulfm_answer.specs.Trace.{answer_text}
+use Rattle.ulfm_answer.proofs.ReadBack.{codes_are_read}
+use Rattle.ulfm_answer.specs.Told.{answer_code, read_code, told_of}
 use Rattle.ulfm_answer.specs.declared.answer.StepReport.{StepReport}
+use Rattle.ulfm_answer.specs.declared.told_answer.ToldAnswer.{ToldAnswer}
 use Rattle.ulfm_world.specs.World.{World, IsInside, no_player, player_at}
 use Rattle.ulfm_finder.specs.Goals.{IsPossible, StandsOpen, is_answered}
 use Rattle.ulfm_finder.specs.Outcomes.{IsWholeList}
 use Rattle.ulfm_found.specs.declared.goals.Goals.{Goals}
 use Rattle.ulfm_found.specs.declared.open_step.OpenStep.{OpenStep}
 use Rattle.ulfm_finder.proofs.Open.{some_there}
-use Rattle.ulfm_found.specs.Goals.{has_each, tells, tells_open}
+use Rattle.ulfm_found.specs.Goals.{begins_told, has_each, tells, tells_open}
 
 -- an answered step is that of a rank of the world
 inside : (w : World) (c : Clause) → is_answered w c ≡ true → IsInside w c.rank
@@ -44,9 +45,10 @@ module _ (j : JobView) (key : World → List ℕ) (limit : ℕ) (keys found : Li
       by : (o : Option StepReport) → slice_get (player_at w c.rank).done c.step ≡ o → begins_in o c.words ≡ true → list_any (tells c) found ≡ true
       by None at h = absurd (false≢true h)
       by (Some report) at h =
-          here (tells c) (c.rank ∷ c.step ∷ answer_text report.answer)
-          (whole.complete c.rank c.step (answer_text report.answer) (record { world = w; comes = comes; inside = inside w c is; report = report; answered = at; written = refl }))
-          (and_from ((c.rank == c.rank) && (c.step == c.step)) (begins (answer_text report.answer) c.words) (and_from (c.rank == c.rank) (c.step == c.step) (eq-eqb c.rank c.rank refl) (eq-eqb c.step c.step refl)) h)
+          here (tells c) (c.rank ∷ c.step ∷ answer_code report.answer)
+          (whole.complete c.rank c.step (told_of report.answer) (record { world = w; comes = comes; inside = inside w c is; report = report; answered = at; says = refl }))
+          (and_from ((c.rank == c.rank) && (c.step == c.step)) (begins_told (read_code (answer_code report.answer)) c.words) (and_from (c.rank == c.rank) (c.step == c.step) (eq-eqb c.rank c.rank refl) (eq-eqb c.step c.step refl))
+          (ap (λ (o : Option ToldAnswer). begins_told o c.words) (codes_are_read (told_of report.answer)) ∙ h))
 
   each_told : (cs : List Clause) → list_all (is_answered w) cs ≡ true → list_all (λ (c : Clause). list_any (tells c) found) cs ≡ true
   each_told [] all = refl

@@ -1,7 +1,10 @@
 -- What clauses ask a schedule to show.
-use Rattle.std.specs.Prelude.{◌≡◌, ◌==◌, ◌&&◌, ◌||◌, ℕ, Bool, false, not, List, [], ◌∷◌, codes, filter, map}
+use Rattle.std.specs.Prelude.{◌≡◌, ◌==◌, ◌&&◌, ◌||◌, ℕ, Bool, false, not, List, [], ◌∷◌, Option, Some, None, codes, filter, map}
 use Rattle.std.specs.List.{list_all, list_any}
 use Rattle.std.specs.Str.{bytes_eq}
+use Rattle.ulfm_answer.specs.Told.{read_code}
+use Rattle.ulfm_answer.specs.Trace.{told_text}
+use Rattle.ulfm_answer.specs.declared.told_answer.ToldAnswer.{ToldAnswer}
 use Rattle.ulfm_job.specs.Begins.{begins}
 use Rattle.ulfm_job.specs.Job.{JobView, may_leave}
 use Rattle.ulfm_job.specs.declared.clause.Clause.{Clause}
@@ -23,9 +26,14 @@ pub record AreOfClauses (j : JobView) (clauses : List Clause) (goals : Goals) : 
   pub others : goals.others.items ≡ []
   pub left : goals.left.items ≡ map step_of (filter (asks_open j) clauses)
 
+-- the words of an answer, if one is told, begin with these
+abbrev pub begins_told : Option ToldAnswer → List ℕ → Bool
+begins_told None words = false
+begins_told (Some told) words = begins (told_text told) words
+
 -- the row of a list tells of an answer that begins as the clause says
 abbrev pub tells : Clause → List ℕ → Bool
-tells c (rank ∷ step ∷ words) = (rank == c.rank) && (step == c.step) && begins words c.words
+tells c (rank ∷ step ∷ code) = (rank == c.rank) && (step == c.step) && begins_told (read_code code) c.words
 tells c _ = false
 
 -- the row of a list tells that the step never ends

@@ -1,4 +1,5 @@
-//! What a list comes to, in a word or two.
+//! What a list comes to, in a word or two: the first ones of the line on standard error. Which step or row it is, and where, stands in the other
+//! objects already.
 ghost use Rattle.std.specs.Prelude.{◌≡◌};
 ghost use Rattle.ulfm_found.specs.Judgement.{good_judgement, judgement_words, unmet_judgement};
 

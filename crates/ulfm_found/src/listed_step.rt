@@ -9,5 +9,5 @@ pub struct ListedStep<'a> {
     /// The step.
     pub at: JobStep<'a>,
     /// What is told of it.
-    pub told: Outcomes,
+    pub told: Outcomes<'a>,
 }

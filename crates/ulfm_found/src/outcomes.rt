@@ -5,9 +5,9 @@ use ulfm_stops::Place;
 
 /// What a list tells of a step.
 #[derive(Drop)]
-pub struct Outcomes {
-    /// Its answers, in rising order of their bytes, each once.
-    pub answers: Vec<Outcome>,
+pub struct Outcomes<'a> {
+    /// Its answers, in the order of their words' bytes, each once.
+    pub answers: Vec<Outcome<'a>>,
     /// Whether it never ends in some schedule.
     pub never_ends: bool,
     /// The places at which it never ends, in their order; none where a list isn't one of places.

@@ -26,7 +26,7 @@ pub fn push_list(
     ensures { OnOk result (string_bytes text.new ≡ string_bytes text.old ++ printed form names.now (list_view list.now)) }
 {
     match form {
-        Form::Words => push_words(text, list),
+        Form::Words(wording) => push_words(text, wording, list),
         Form::Json => push_objects(text, names, list),
     }
 }
@@ -40,7 +40,7 @@ pub fn more_in(alloc: Global, form: Form, limit: usize) -> Result<String, OutOfM
     ensures { IfOk result (λ text. string_bytes text ≡ more_in form limit) }
 {
     match form {
-        Form::Words => Ok(format!(in alloc; "more than {limit} states\n")?),
+        Form::Words(_) => Ok(format!(in alloc; "more than {limit} states\n")?),
         Form::Json => Ok(format!(in alloc; "{{\"more_states_than\":{limit}}}\n")?),
     }
 }

@@ -1,15 +1,16 @@
 //! Whether a list has what goals ask for.
 ghost use Rattle.std.specs.Prelude.{◌≡◌};
 ghost use Rattle.std.specs.List.{list_all, list_any};
+ghost use Rattle.ulfm_answer.specs.Told.{read_code};
 ghost use Rattle.ulfm_job.specs.declared.clause.Clause.{Clause as SeenClause};
 ghost use Rattle.ulfm_found.specs.declared.open_step.OpenStep.{OpenStep as SeenStep};
-ghost use Rattle.ulfm_found.specs.Goals.{has_each, tells, tells_open};
+ghost use Rattle.ulfm_found.specs.Goals.{begins_told, has_each, tells, tells_open};
 
 use crate::goals::Goals;
 use crate::open_step::OpenStep;
+use ulfm_answer::{ToldAnswer, begins_told};
 use ulfm_job::Clause;
 use ulfm_reach::Rows;
-use ulfm_reader::begins;
 
 /// Whether a list has each answer and each open step of these.
 pub fn has_each(found: &Rows, goals: &Goals) -> bool
@@ -69,12 +70,20 @@ fn tells(row: &[u8], clause: &Clause) -> bool
     ensures { result ≡ tells clause.now row.now }
 {
     match row {
-        [rank, step, words @ ..] => {
-            *rank == clause.rank
-                && u16::from(*step) == clause.step
-                && begins(words, clause.words.as_bytes())
+        [rank, step, code @ ..] => {
+            *rank == clause.rank && u16::from(*step) == clause.step && begins_so(code, clause)
         }
         _ => false,
+    }
+}
+
+/// Whether a code tells of an answer that begins as a clause says.
+fn begins_so(code: &[u8], clause: &Clause) -> bool
+    ensures { result ≡ begins_told (read_code code.now) clause.now.words }
+{
+    match ToldAnswer::read(code) {
+        Some(told) => begins_told(&told, clause.words.as_bytes()),
+        None => false,
     }
 }
 

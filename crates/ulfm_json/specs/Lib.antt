@@ -1,5 +1,9 @@
 pub mod Parts
 pub mod Call
 pub mod Answer
+pub mod MpiCall
+pub mod MpiAnswer
+pub mod Worded
+pub mod WordedTrace
 pub mod Trace
 pub mod Form

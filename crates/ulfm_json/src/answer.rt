@@ -46,7 +46,7 @@ fn push_status(text: &mut String, status: Status) -> Result<(), AllocError>
 }
 
 /// Two digits a byte.
-fn push_hex(text: &mut String, bytes: &[u8]) -> Result<(), AllocError>
+pub(crate) fn push_hex(text: &mut String, bytes: &[u8]) -> Result<(), AllocError>
     ensures { OnOk result (string_bytes text.new ≡ string_bytes text.old ++ encode_lower bytes.now) }
 {
     let alloc = *text.allocator();

@@ -1,21 +1,39 @@
-//! What came of a job as JSON: an object a line, for programs. Its keys are in `docs/JOBS.md` and in `jobs/output.schema.json`.
+//! What came of a job in the forms that are written: in plain words or MPI's, for people, and as JSON, an object a line, for programs. The keys
+//! of objects are in docs/JSON.md and in jobs/output.schema.json.
 //!
 //!     push_steps(&mut text, names, &job, rank, report.steps())?;
 //!
-//! A trace is `trace_json` of specs/Trace.antt, which has an object for each line of `trace_of` of `ulfm_answer`, with the names that were
-//! read of its steps. What lists and schedules share with traces stands here too: [`push_head`] begins the object of a step, and
-//! [`push_answered`] one with its answer.
+//! Each call says by its contract which text it adds. A trace is `trace_json` of specs/Trace.antt, which has an object for each line of `trace_of`
+//! of `ulfm_answer`, with the names that were read of its steps. What lists and schedules share with traces stands here too: [`push_head`] begins
+//! the object of a step, and [`push_answered`] one with its answer. [`push_call_in`] and [`push_told_in`] put a call and an answer in the words of
+//! a [`Wording`].
+//!
+//! - `trace.rt`: steps and the ends of ranks as objects; `call.rt`: what a step asks for; `answer.rt`: what it was answered; `parts.rt`: texts and
+//!   lists of objects
+//! - `worded.rt`, `worded_trace.rt`: calls, answers and traces in plain words or MPI's, of `mpi_call.rt` and `mpi_answer.rt`
+//! - `form.rt`: words or JSON; `wording.rt`: whose words; `style.rt`: the forms of a picture
+//!
+//! Not here: the objects of lists (`ulfm_found`, `ulfm_lists`) and of sweeps (`ulfm_played`). That the output is JSON by its schema isn't proved:
+//! tools/gate/check-json looks at it.
 #![tactic(auto)]
 
 mod answer;
 mod call;
 mod form;
+mod mpi_answer;
+mod mpi_call;
 mod parts;
 mod style;
 mod trace;
+mod worded;
+mod worded_trace;
+mod wording;
 
 pub use call::{push_comm, push_tag};
 pub use form::Form;
 pub use parts::{push_objects, push_texts};
 pub use style::Style;
 pub use trace::{push_answered, push_end, push_ended, push_head, push_steps};
+pub use worded::{push_answer_in, push_call_in, push_told_in};
+pub use worded_trace::{push_call_at, push_line_in, push_lines_in};
+pub use wording::Wording;

@@ -1,19 +1,16 @@
 -- What is found of a job at places.
-use Rattle.std.proofs.Common.{◌≡◌, ℕ, Bool, ap, List, [], ◌∷◌, ◌++◌, Option, None, Some, Ok, refl, sym, subst, ◌∙◌}
+use Rattle.std.proofs.Common.{◌≡◌, ℕ, Bool, ap, List, [], ◌∷◌, ◌++◌, Option, None, Some, Ok, sym, subst, ◌∙◌}
 use Rattle.std.proofs.lemmas.List.Elements.{All-cons, All-get_or, All-head, All-nil, All-tail}
 use Rattle.std.proofs.lemmas.Option.{get_or_from_slice_get, slice_get_within}
 use Rattle.std.specs.Prelude.{All}
 use Rattle.ulfm_reach.specs.declared.reach.Reach.TheVariants as reach
-use Rattle.ulfm_finder.proofs.Writable.{list-writable}
 use Rattle.ulfm_finder.specs.Outcomes.{IsList}
-use Rattle.ulfm_found.specs.Text.{AreAscii}
 use Rattle.ulfm_job.specs.Job.{JobView}
 use Rattle.ulfm_finder.specs.Unmet.{MeetsExpected}
 use Rattle.ulfm_stops.specs.Place.{IsPlaceOf, job_at}
 use Rattle.ulfm_stops.specs.declared.place.Place.{Place}
-use Rattle.ulfm_stops.specs.declared.place.Place.TheVariants.{Nowhere, One, Two}
-use Rattle.ulfm_judged.specs.Lists.{AreLists, IsListedAt}
-use Rattle.ulfm_lists.specs.Union.{AreAllAscii}
+use Rattle.ulfm_stops.specs.declared.place.Place.TheVariants.{Nowhere}
+use Rattle.ulfm_judged.specs.Lists.{AreLists, IsListedAt, job_asked_at}
 use Rattle.ulfm_lists.specs.declared.listed.Listed.{Listed}
 use Rattle.ulfm_job.specs.declared.clause.Clause.{Clause}
 use Rattle.ulfm_stops.specs.Places.{places_of}
@@ -38,20 +35,14 @@ use Rattle.ulfm_judged.specs.inside.Judging.{AreListedOf, IsFirstLook, IsInside,
 use Rattle.ulfm_finder.specs.Told.{IsLook}
 use Rattle.ulfm_judged.specs.inside.Looking.{IsFirstRow, IsLookText, look_status, row_judgement, row_status}
 
--- what is asked for at a place has the job of the place
-pub asked_at-job : (place : Place) (asked : Asked) → (asked_at place asked).job ≡ job_at place asked.job
-asked_at-job Nowhere asked = refl
-asked_at-job (One stop) asked = refl
-asked_at-job (Two first second) asked = refl
-
 -- the list of a place of the job
-listed_of : (asked : Asked) (limit : ℕ) (place : Place) (one : Listed) → IsPlaceOf asked.job place → IsListedAt asked.job limit place one → IsListedOf asked limit one
+listed_of : (asked : Asked) (limit : ℕ) (place : Place) (one : Listed) → IsPlaceOf asked.job place → IsListedAt asked limit place one → IsListedOf asked limit one
 listed_of asked limit place one inside at =
-    subst (λ (p : Place). IsPlaceOf asked.job p × HasList (job_at p asked.job) limit one.found) (sym at.at)
-    (inside, (at.reached.keys, subst (λ (found : List (List ℕ)). IsList (job_at place asked.job) limit (reach.All (record { keys = at.reached.keys; found = found }))) (sym at.found) at.whole))
+    subst (λ (p : Place). IsPlaceOf asked.job p × HasList (job_asked_at p asked) limit one.found) (sym at.at)
+    (inside, (at.reached.keys, subst (λ (found : List (List ℕ)). IsList (job_asked_at place asked) limit (reach.All (record { keys = at.reached.keys; found = found }))) (sym at.found) at.whole))
 
 -- those of some of its places
-pub lists_of : (asked : Asked) (limit : ℕ) (places : List Place) (listed : List Listed) (past : Option Place) → AreLists asked.job limit places listed past → All (IsPlaceOf asked.job) places → AreListedOf asked limit listed
+pub lists_of : (asked : Asked) (limit : ℕ) (places : List Place) (listed : List Listed) (past : Option Place) → AreLists asked limit places listed past → All (IsPlaceOf asked.job) places → AreListedOf asked limit listed
 lists_of asked limit places [] past lists inside = All-nil (IsListedOf asked limit)
 lists_of asked limit [] (one ∷ listed) past lists inside = absurd lists
 lists_of asked limit (place ∷ places) (one ∷ listed) past lists inside =
@@ -61,8 +52,7 @@ lists_of asked limit (place ∷ places) (one ∷ listed) past lists inside =
 -- the list of a place is one of what is asked for there
 pub list_there : (asked made : Asked) (limit : ℕ) (one : Listed) → IsListedOf asked limit one → made ≡ asked_at one.place asked → HasList made.job limit one.found
 list_there asked made limit one of is =
-    let job : made.job ≡ job_at one.place asked.job = ap (λ (a : Asked). a.job) is ∙ asked_at-job one.place asked in
-    subst (λ (j : JobView). HasList j limit one.found) (sym job) of.1
+    subst (λ (j : JobView). HasList j limit one.found) (sym (ap (λ (a : Asked). a.job) is)) of.1
 
 -- what is told of what is asked for there
 pub unwanted_there : (form : Form) (options : ListOptions) (one : Listed) (asked made : Asked) (told : Option Finding) → IsListedOf asked options.limit one → made ≡ asked_at one.place asked
@@ -105,25 +95,14 @@ show_each_as form options stops show bytes asked answers (Some look) text read n
         (subst (λ (n : ℕ). IsShowEachReply form options stops show bytes 7 (told_at_place form look.place asked (told.Many n))) (sym what.0)
         (too_many_at asked answers look.place read named place first.3.0 first.3.1 (sym what.0 ∙ what.0, what.1)))
 
--- what is found at a place can be written
-one-writable : (j : JobView) (limit : ℕ) (place : Place) (one : Listed) → IsListedAt j limit place one → AreAscii one.found
-one-writable j limit place one at = subst AreAscii (sym at.found) (list-writable _ (job_at place j) limit (reach.All at.reached) at.whole)
-
--- and so can all that is
-pub lists-writable : (j : JobView) (limit : ℕ) (places : List Place) (listed : List Listed) (past : Option Place) → AreLists j limit places listed past → AreAllAscii listed
-lists-writable j limit places [] past lists = All-nil (λ (one : Listed). AreAscii one.found)
-lists-writable j limit [] (one ∷ listed) past lists = absurd lists
-lists-writable j limit (place ∷ places) (one ∷ listed) past lists =
-    All-cons (λ (one : Listed). AreAscii one.found) one listed (one-writable j limit place one lists.0) (lists-writable j limit places listed past lists.1)
-
 -- the lists of all places with what is told below them
 pub each_as : (form : Form) (choice : ChoiceView) (options : ListOptions) (stops : ℕ) (bytes : List ℕ) (asked : Asked) (places : List Place) (listed : List Listed) (past : Option Place) (judgement : Judgement) (status : ℕ) (text words : List ℕ)
-    → IsAskedAt Nowhere bytes asked → unknown_part choice asked ≡ None → AreLists asked.job options.limit places listed past → places ≡ places_of stops asked.job → All (IsUndrawn options asked) listed
+    → IsAskedAt Nowhere bytes asked → unknown_part choice asked ≡ None → AreLists asked options.limit places listed past → places ≡ places_of stops asked.job → All (IsUndrawn options asked) listed
     → IsJudgedEach form options asked (places_in listed) (judgement_past options asked listed past) (status_past options listed past) judgement status words
     → text ≡ text_past form choice asked options listed past judgement ++ words → IsEachPlaceReply form choice options stops bytes status text
 each_as form choice options stops bytes asked places listed None judgement status text words read named are is none judged same =
     subst (λ (t : List ℕ). IsEachPlaceReply form choice options stops bytes status t) (sym same)
-    (listed_all asked listed judgement status words read named (subst (λ (ps : List Place). AreLists asked.job options.limit ps listed None) is are) none judged)
+    (listed_all asked listed judgement status words read named (subst (λ (ps : List Place). AreLists asked options.limit ps listed None) is are) none judged)
 each_as form choice options stops bytes asked places listed (Some place) judgement status text words read named are is none judged same =
     subst (λ (t : List ℕ). IsEachPlaceReply form choice options stops bytes status t) (sym same)
-    (past_limit_at asked listed place judgement status words read named (subst (λ (ps : List Place). AreLists asked.job options.limit ps listed (Some place)) is are) none judged)
+    (past_limit_at asked listed place judgement status words read named (subst (λ (ps : List Place). AreLists asked options.limit ps listed (Some place)) is are) none judged)

@@ -1,4 +1,3 @@
-pub mod Writable
 pub mod Looked
 pub mod Picture
 pub mod Judged

@@ -66,15 +66,15 @@ places_in listed = map (λ (one : Listed). one.place) listed
 -- that has no room for so many stops, or that it has no step of a name; with 3 the line that memory ran out. Where a picture is asked for and a
 -- step never ends at one of them, that alone, of the first such place.
 pub data IsEachPlaceReply (form : Form) (choice : ChoiceView) (options : ListOptions) (stops : ℕ) (bytes : List ℕ) : ℕ → List ℕ → Type 0 where
-  listed_all : (asked : Asked) (listed : List Listed) (judgement : Judgement) (status : ℕ) (text : List ℕ) → IsAskedAt Nowhere bytes asked → unknown_part choice asked ≡ None → AreLists asked.job options.limit (places_of stops asked.job) listed None → All (IsUndrawn options asked) listed
+  listed_all : (asked : Asked) (listed : List Listed) (judgement : Judgement) (status : ℕ) (text : List ℕ) → IsAskedAt Nowhere bytes asked → unknown_part choice asked ≡ None → AreLists asked options.limit (places_of stops asked.job) listed None → All (IsUndrawn options asked) listed
       → IsJudgedEach form options asked (places_in listed) (judgement_of_all options.is_strict asked listed) (list_status options.is_strict (some_never_ends listed)) judgement status text
       → IsEachPlaceReply form choice options stops bytes status (lists_in form choice asked judgement listed ++ text)
-  past_limit_at : (asked : Asked) (listed : List Listed) (place : Place) (judgement : Judgement) (status : ℕ) (text : List ℕ) → IsAskedAt Nowhere bytes asked → unknown_part choice asked ≡ None → AreLists asked.job options.limit (places_of stops asked.job) listed (Some place) → All (IsUndrawn options asked) listed
+  past_limit_at : (asked : Asked) (listed : List Listed) (place : Place) (judgement : Judgement) (status : ℕ) (text : List ℕ) → IsAskedAt Nowhere bytes asked → unknown_part choice asked ≡ None → AreLists asked options.limit (places_of stops asked.job) listed (Some place) → All (IsUndrawn options asked) listed
       → IsJudgedEach form options asked (places_in listed) NotKnown 7 judgement status text
       → IsEachPlaceReply form choice options stops bytes status (more_at form options.limit place ++ text)
   no_room_for_stops : (asked : Asked) → IsAskedAt Nowhere bytes asked → unknown_part choice asked ≡ None → 256 < step_count asked.job.scripts + stops → IsEachPlaceReply form choice options stops bytes 1 (refused_in form TooLarge)
   drawn_at_place : (asked : Asked) (listed : List Listed) (past : Option Place) (status : ℕ) (text : List ℕ) → IsAskedAt Nowhere bytes asked → unknown_part choice asked ≡ None
-      → AreLists asked.job options.limit (places_of stops asked.job) listed past → IsFirstPicture form options asked listed status text → IsEachPlaceReply form choice options stops bytes status text
+      → AreLists asked options.limit (places_of stops asked.job) listed past → IsFirstPicture form options asked listed status text → IsEachPlaceReply form choice options stops bytes status text
   misnamed_at_all : (asked : Asked) (part : List ℕ) → IsAskedAt Nowhere bytes asked → unknown_part choice asked ≡ Some part → IsEachPlaceReply form choice options stops bytes 1 (no_name part)
   not_listed_at_all : (status : ℕ) (text : List ℕ) → IsRefusal form Nowhere bytes status text → IsEachPlaceReply form choice options stops bytes status text
   no_memory_for_lists : IsEachPlaceReply form choice options stops bytes 3 (out_of_memory_in form)

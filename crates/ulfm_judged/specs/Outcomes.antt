@@ -29,7 +29,7 @@ use Rattle.ulfm_judged.specs.Wanted.{IsToldOf, IsWanted}
 
 -- what the words say that no schedule shows the answers, in this form
 abbrev pub nowhere_in : Form → List ℕ
-nowhere_in Words = codes "no schedule\n"
+nowhere_in (Words wording) = codes "no schedule\n"
 nowhere_in Json = codes "{\"schedule\":null}\n"
 
 -- the status of a list that has nothing else to tell: with `--strict` 6 where some step never ends

@@ -11,14 +11,14 @@ ghost use Rattle.ulfm_judged.specs.inside.Looking.{IsDrawnOf};
 use crate::onlooker::{Onlooker, Seen};
 use crate::search::Search;
 use crate::shown::told_reply;
-use crate::unwanted::{stopped, told_of};
+use crate::unwanted::told_of;
 use std::alloc::AllocError;
 use ulfm_finder::Finder;
 use ulfm_found::{JobStep, Unmet, is_stuck, steps_of};
 use ulfm_lists::Listed;
 use ulfm_reach::{Rows, Watch};
 use ulfm_reader::Reading;
-use ulfm_replies::{Place, Reply};
+use ulfm_replies::{Place, Reply, stopped_at};
 
 /// The picture at the first of these places where a step never ends, where one is asked for.
 pub(crate) fn first_drawn<F: Finder, L: Onlooker>(
@@ -53,10 +53,8 @@ fn drawn_there<F: Finder, L: Onlooker>(
         return Ok(None);
     }
     let watch = &mut Seen::of(onlooker, one.place);
-    match stopped(search.alloc, one.place, asked)? {
-        Some(made) => drawn(search, Some(one.place), &made, &one.found, watch),
-        None => drawn(search, Some(one.place), asked, &one.found, watch),
-    }
+    let made = stopped_at(search.alloc, one.place, asked)?;
+    drawn(search, Some(one.place), &made, &one.found, watch)
 }
 
 /// The picture of what was asked for, perhaps with the stops of a place, by the rows of its list, where one is asked for and a step never ends.

@@ -2,7 +2,6 @@
 //! place where it comes.
 ghost use Rattle.std.specs.Prelude.{◌≡◌, ◌<◌, ◌≤◌, ℕ, List, None, IfOk, string_bytes};
 ghost use Rattle.ulfm_lists.specs.Told.{more_at};
-ghost use Rattle.ulfm_lists.specs.Union.{AreAllAscii};
 ghost use Rattle.ulfm_stops.specs.declared.place.Place.TheVariants.{Nowhere};
 ghost use Rattle.ulfm_replies.specs.Stopped.{IsAskedAt, asked_view};
 ghost use Rattle.ulfm_replies.specs.Wish.{choice_view};
@@ -18,6 +17,7 @@ use crate::lists::Lists;
 use crate::onlooker::Onlooker;
 use crate::search::Search;
 use crate::threads::list_places;
+use crate::unheld::with_unheld;
 use crate::unwanted::first_unwanted;
 use crate::verdicts::lists_remarks;
 use std::alloc::AllocError;
@@ -91,7 +91,7 @@ where
     }
     let places = places(search.alloc, &asked.job, stops)?;
     let threads = threads_of(rt, search.options);
-    let lists = list_places(rt, search, &asked.job, places.as_slice(), threads, onlooker)?;
+    let lists = list_places(rt, search, asked, places.as_slice(), threads, onlooker)?;
     onlooker.see_listed(lists.listed.len(), places.len());
     match first_drawn(search, asked, lists.listed.as_slice(), onlooker)? {
         Some(reply) => Ok(reply),
@@ -130,14 +130,13 @@ fn judged<F: Finder, L: Onlooker>(
     onlooker: &L,
 ) -> Result<Reply, AllocError>
     requires listed { AreListedOf (asked_view asked.now) search.now.options.limit lists.now.listed.items }
-    requires ascii { AreAllAscii lists.now.listed.items }
     ensures { IfOk result (λ r. IsEachText search.now.form (choice_view search.now.choice) search.now.options (asked_view asked.now) lists.now r.status (string_bytes r.text)) }
 {
     let listed = lists.listed.as_slice();
     match first_unwanted(search, asked, listed, onlooker)? {
         Some(told) => {
             let text = text_of(search, asked, lists, told.judgement)?;
-            below(text, told.reply)
+            below(text, with_unheld(told.reply, asked, listed))
         }
         None => alone(search, asked, lists, onlooker),
     }
@@ -150,7 +149,6 @@ fn alone<F: Finder, L: Onlooker>(
     lists: &Lists,
     onlooker: &L,
 ) -> Result<Reply, AllocError>
-    requires ascii { AreAllAscii lists.now.listed.items }
     ensures { IfOk result (λ r. (r.status ≡ lists_status search.now.options lists.now) × (string_bytes r.text ≡ lists_text search.now.form (choice_view search.now.choice) (asked_view asked.now) search.now.options lists.now (lists_judgement search.now.options (asked_view asked.now) lists.now))) }
 {
     let judgement = judgement_of(search, asked, lists)?;
@@ -182,7 +180,6 @@ fn text_of<F: Finder>(
     lists: &Lists,
     judgement: Judgement,
 ) -> Result<String, AllocError>
-    requires ascii { AreAllAscii lists.now.listed.items }
     ensures { IfOk result (λ text. string_bytes text ≡ lists_text search.now.form (choice_view search.now.choice) (asked_view asked.now) search.now.options lists.now judgement) }
 {
     match lists.past_limit {

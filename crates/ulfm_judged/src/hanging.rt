@@ -5,8 +5,7 @@ use std::alloc::{AllocError, Global};
 use ulfm_finder::Finder;
 use ulfm_found::{Goals, OpenStep};
 use ulfm_job::Job;
-use ulfm_lists::Told;
-use ulfm_moves::push_schedule;
+use ulfm_lists::{Told, push_schedule_in};
 use ulfm_reach::Watch;
 use ulfm_replies::Remark;
 
@@ -21,7 +20,7 @@ pub(crate) fn hanging<F: Finder, W: Watch>(
     match search.show(job, &goals, watch)? {
         Some(Told::Schedule(schedule)) => {
             let mut text = String::new(search.alloc);
-            push_schedule(&mut text, &schedule)?;
+            push_schedule_in(&mut text, search.form.wording(), job, &schedule)?;
             Ok(Some(Remark::Hanging(text)))
         }
         _ => Ok(None),

@@ -5,7 +5,7 @@ ghost use Rattle.ulfm_replies.specs.Stopped.{IsAskedAt, asked_view};
 ghost use Rattle.ulfm_reach.specs.declared.reach.Reach.TheVariants.{All};
 ghost use Rattle.ulfm_finder.specs.Outcomes.{IsList};
 ghost use Rattle.ulfm_found.specs.Objects.{more_in};
-ghost use Rattle.ulfm_found.specs.Text.{AreAscii, some_never_ends};
+ghost use Rattle.ulfm_found.specs.Text.{some_never_ends};
 ghost use Rattle.ulfm_replies.specs.Wish.{choice_view};
 ghost use Rattle.ulfm_judged.specs.Chosen.{list_in, unknown_part};
 ghost use Rattle.ulfm_judged.specs.Drawn.{left_drawn};
@@ -167,7 +167,6 @@ fn good<F: Finder, W: Watch>(
     reached: &Reached,
     watch: &mut W,
 ) -> Result<Reply, AllocError>
-    requires { AreAscii reached.now.found }
     ensures { IfOk result (λ r. (r.status ≡ list_status search.now.options.is_strict (some_never_ends reached.now.found)) × (string_bytes r.text ≡ list_in search.now.form (choice_view search.now.choice) (asked_view asked.now) (judgement_alone search.now.options.is_strict (asked_view asked.now) reached.now.found) reached.now)) }
 {
     let is_open = some_never_end(&reached.found);
@@ -186,7 +185,6 @@ fn text_of<F>(
     reached: &Reached,
     judgement: Judgement,
 ) -> Result<String, AllocError>
-    requires { AreAscii reached.now.found }
     ensures { IfOk result (λ text. string_bytes text ≡ list_in search.now.form (choice_view search.now.choice) (asked_view asked.now) judgement reached.now) }
 {
     let steps = chosen(search, asked)?;

@@ -1,11 +1,12 @@
 //! Answers that are nearly always a mistake of the script, as lists have them: for people, and none of it is promised.
 
 use std::alloc::{AllocError, Global};
-use ulfm_found::words_at;
+use ulfm_answer::{ToldAnswer, begins_told};
+use ulfm_found::code_at;
 use ulfm_job::{Job, Step};
 use ulfm_lists::{Listed, number_at};
 use ulfm_reach::Rows;
-use ulfm_reader::{Reading, begins};
+use ulfm_reader::Reading;
 use ulfm_replies::{Place, Remark, StepTold};
 
 /// How such answers begin: a communicator, a rank, a tag or a request that isn't there, or one that the rank made before.
@@ -109,18 +110,26 @@ fn is_made(job: &Job, place: Place, found: &Rows, rank: u8, step: usize) -> bool
 
 /// Whether a step has an answer that begins so in a list.
 fn has_answer(found: &Rows, rank: u8, at: usize, beginning: &str) -> bool {
-    (0..found.len()).any(|row| match words_at(found, row, rank, at) {
-        Some(words) => begins(words, beginning.as_bytes()),
+    (0..found.len()).any(|row| match code_at(found, row, rank, at) {
+        Some(code) => begins_so(code, beginning),
         None => false,
     })
 }
 
 /// Whether it has one that begins as none of these, or never ends.
 fn has_other(found: &Rows, rank: u8, at: usize, beginnings: &[&str]) -> bool {
-    (0..found.len()).any(|row| match words_at(found, row, rank, at) {
-        Some(words) => !beginnings.iter().any(|one| begins(words, one.as_bytes())),
+    (0..found.len()).any(|row| match code_at(found, row, rank, at) {
+        Some(code) => !beginnings.iter().any(|one| begins_so(code, *one)),
         None => false,
     })
+}
+
+/// Whether a code tells of an answer that begins so.
+fn begins_so(code: &[u8], beginning: &str) -> bool {
+    match ToldAnswer::read(code) {
+        Some(told) => begins_told(&told, beginning.as_bytes()),
+        None => false,
+    }
 }
 
 /// That a step has an answer that begins so, at these places.

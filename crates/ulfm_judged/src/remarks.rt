@@ -1,17 +1,14 @@
 //! What standard error tells of a list, and of a schedule that isn't wanted: for people, and none of it is promised.
 
 use std::alloc::{AllocError, Global};
-use ulfm_answer::{StepAnswer, StepReport, holds_of};
-use ulfm_found::words_at;
+use ulfm_answer::{StepAnswer, StepReport, ToldAnswer, holds_of};
+use ulfm_found::code_at;
 use ulfm_job::{Clause, Job};
 use ulfm_lists::Told;
 use ulfm_moves::{Course, Schedule};
 use ulfm_reach::Rows;
 use ulfm_reader::Reading;
 use ulfm_replies::{Remark, StepTold, is_looked_at, push_unmet_answers};
-
-/// The answer of a step that a condition kept from being played.
-const SKIPPED: &str = "skipped";
 
 /// Which steps each schedule skips, by a list below which nothing stands.
 pub fn skipped_in(alloc: Global, asked: &Reading, found: &Rows) -> Result<Vec<Remark>, AllocError> {
@@ -30,8 +27,8 @@ pub fn skipped_in(alloc: Global, asked: &Reading, found: &Rows) -> Result<Vec<Re
 fn is_skipped(found: &Rows, rank: u8, at: usize) -> bool {
     let mut is_there = false;
     for place in 0..found.len() {
-        if let Some(words) = words_at(found, place, rank, at) {
-            if words != SKIPPED.as_bytes() {
+        if let Some(code) = code_at(found, place, rank, at) {
+            if !matches!(ToldAnswer::read(code), Some(ToldAnswer::Skipped)) {
                 return false;
             }
             is_there = true;

@@ -10,14 +10,13 @@ ghost use Rattle.ulfm_stops.specs.declared.place.Place.TheVariants.{Nowhere};
 use crate::onlooker::{Onlooker, Seen};
 use crate::search::Search;
 use crate::shown::{no_goal, nowhere_reply, told_reply};
-use crate::unwanted::stopped;
 use std::alloc::{AllocError, Global};
 use ulfm_finder::Finder;
 use ulfm_found::Goals;
 use ulfm_job::{Clause, Job, JobFault, MOST_STEPS};
 use ulfm_lists::Told;
 use ulfm_reader::Reading;
-use ulfm_replies::{Place, Reply, asked_at, refusal};
+use ulfm_replies::{Place, Reply, asked_at, refusal, stopped_at};
 use ulfm_stops::{Stop, places};
 
 /// The reply of `outcomes --stops --show` by this search, with these answers. The onlooker is told how far the searches are.
@@ -171,8 +170,6 @@ fn look_at_reply<F>(
     requires { IsPlaceOf asked.now.job look.now.place }
     ensures { IfOk result (λ r. (r.status ≡ look_status (Some look.now.told)) × IsLookText search.now.form search.now.options.drawn (Some look.now.place) (asked_at look.now.place (asked_view asked.now)) (Some look.now.told) (string_bytes r.text)) }
 {
-    match stopped(search.alloc, look.place, asked)? {
-        Some(made) => told_reply(search, Some(look.place), &made, &look.told),
-        None => told_reply(search, Some(look.place), asked, &look.told),
-    }
+    let made = stopped_at(search.alloc, look.place, asked)?;
+    told_reply(search, Some(look.place), &made, &look.told)
 }

@@ -91,7 +91,7 @@ fn nowhere(form: Form) -> &'static str
     ensures { result.now ≡ nowhere_in form }
 {
     match form {
-        Form::Words => "no schedule\n",
+        Form::Words(_) => "no schedule\n",
         Form::Json => "{\"schedule\":null}\n",
     }
 }
@@ -110,7 +110,14 @@ pub(crate) fn told_reply<F>(
         let note = note_of(search.alloc, at)?;
         return Ok(Reply {
             status: DONE,
-            text: drawn(search.alloc, style, schedule, note.as_str())?,
+            text: drawn(
+                search.alloc,
+                style,
+                search.form.wording(),
+                &asked.job,
+                schedule,
+                note.as_str(),
+            )?,
             remarks: None,
         });
     }

@@ -3,6 +3,7 @@ ghost use Rattle.std.specs.Prelude.{◌≡◌, ◌<◌, All, IfOk, max};
 ghost use Rattle.std.specs.Int.{div_ceil};
 ghost use Rattle.ulfm_stops.specs.Place.{IsPlaceOf};
 ghost use Rattle.ulfm_judged.specs.Lists.{AreLists};
+ghost use Rattle.ulfm_replies.specs.Stopped.{asked_view};
 ghost use Rattle.ulfm_judged.specs.inside.Parts.{AreJoined, AreParts, IsPart};
 
 use crate::listing::list_part;
@@ -14,10 +15,10 @@ use std::thread;
 use std::thread::Threads;
 use ulfm_base::OutOfMemory;
 use ulfm_finder::Finder;
-use ulfm_job::Job;
+use ulfm_reader::Reading;
 use ulfm_stops::Place;
 
-/// The lists of all outcomes of a job at these places, in their order, up to the first where the job has more states than the limit. So
+/// The lists of all outcomes of what was asked for at these places, in their order, up to the first where the job has more states than the limit. So
 /// many threads share the places. The onlooker is told how far they are.
 ///
 /// # Errors
@@ -26,7 +27,7 @@ use ulfm_stops::Place;
 pub fn list_places<R, F, L>(
     rt: &R,
     search: &Search<'_, F>,
-    job: &Job,
+    asked: &Reading,
     places: &[Place],
     threads: u8,
     onlooker: &L,
@@ -35,12 +36,12 @@ where
     R: Threads + Sync,
     F: Finder + Sync,
     L: Onlooker + Sync,
-    requires inside { All (IsPlaceOf job.now) places.now }
+    requires inside { All (IsPlaceOf asked.now.job) places.now }
     requires threads { 0 < threads }
-    ensures { IfOk result (λ lists. AreLists job.now search.now.options.limit places.now lists.listed.items lists.past_limit) }
+    ensures { IfOk result (λ lists. AreLists (asked_view asked.now) search.now.options.limit places.now lists.listed.items lists.past_limit) }
 {
     let size = part_size(places.len(), threads);
-    let parts = list_parts(rt, search, job, places, size, onlooker)?;
+    let parts = list_parts(rt, search, asked, places, size, onlooker)?;
     joined(search.alloc, parts)
 }
 
@@ -57,7 +58,7 @@ fn part_size(places: usize, threads: u8) -> usize
 fn list_parts<R, F, L>(
     rt: &R,
     search: &Search<'_, F>,
-    job: &Job,
+    asked: &Reading,
     places: &[Place],
     size: usize,
     onlooker: &L,
@@ -66,14 +67,14 @@ where
     R: Threads + Sync,
     F: Finder + Sync,
     L: Onlooker + Sync,
-    requires inside { All (IsPlaceOf job.now) places.now }
+    requires inside { All (IsPlaceOf asked.now.job) places.now }
     requires some { 0 < size }
-    ensures { IfOk result (λ parts. AreParts job.now search.now.options.limit places.now parts.items) }
+    ensures { IfOk result (λ parts. AreParts (asked_view asked.now) search.now.options.limit places.now parts.items) }
 {
     let list = |_start: usize, part: &[Place]| -> Result<Lists, OutOfMemory>
-        requires { All (IsPlaceOf job.now) part.now }
-        ensures { IsPart job.entry.now search.entry.now.options.limit part.entry.now result }
-    { list_part(search, job, part, onlooker) };
+        requires { All (IsPlaceOf asked.now.job) part.now }
+        ensures { IsPart (asked_view asked.entry.now) search.entry.now.options.limit part.entry.now result }
+    { list_part(search, asked, part, onlooker) };
     let parts = thread::map_chunks(rt, search.alloc, places, size, &list)?;
     Ok(parts)
 }

@@ -5,29 +5,26 @@ ghost use Rattle.ulfm_finder.specs.Goals.{IsPossible};
 ghost use Rattle.ulfm_finder.specs.Told.{IsTold};
 ghost use Rattle.ulfm_finder.specs.Unmet.{Judges};
 ghost use Rattle.ulfm_found.specs.Unmet.{first_unmet};
-ghost use Rattle.ulfm_stops.specs.Place.{IsPlaceOf};
-ghost use Rattle.ulfm_stops.specs.declared.place.Place.TheVariants.{Two};
 ghost use Rattle.ulfm_replies.specs.Stopped.{asked_at, asked_view};
 ghost use Rattle.ulfm_judged.specs.EachPlace.{places_in};
 ghost use Rattle.ulfm_judged.specs.Wanted.{HasList, IsToldOf, filed};
 ghost use Rattle.ulfm_lists.specs.Told.{row_in, unmet_in};
-ghost use Rattle.ulfm_judged.specs.inside.Judging.{AreListedOf, IsFirstUnwanted, IsListedOf, IsStopped, IsUnwanted, IsUnwantedAt, is_found};
 ghost use Rattle.ulfm_judged.specs.inside.Looking.{row_judgement, row_status};
+ghost use Rattle.ulfm_judged.specs.inside.Judging.{AreListedOf, IsFirstUnwanted, IsListedOf, IsUnwanted, IsUnwantedAt, is_found};
 
 use crate::finding::Finding;
 use crate::looking::{FirstRow, first_row, row_judgement, row_status};
 use crate::onlooker::{Onlooker, Seen};
 use crate::search::Search;
 use crate::verdicts::{row_remarks, unmet_remarks, where_of};
-use std::alloc::{AllocError, Global};
+use std::alloc::AllocError;
 use ulfm_finder::{Finder, first_unmet};
 use ulfm_found::{Goals, Judgement, Unmet};
 use ulfm_job::Job;
 use ulfm_lists::{Listed, Told, filed_number, push_row, push_unmet};
 use ulfm_reach::{Rows, Watch};
 use ulfm_reader::Reading;
-use ulfm_replies::{NOT_EXPECTED, Place, Reply, asked_beside};
-use ulfm_stops::Stop;
+use ulfm_replies::{NOT_EXPECTED, Place, Reply, stopped_at};
 
 /// What is told of the first of these places where a schedule is found that isn't wanted. Where none is found, of the first with a row of
 /// `never` that can't be looked for within the limit, if there is one.
@@ -79,40 +76,8 @@ fn unwanted_at<F: Finder, L: Onlooker>(
     ensures { IfOk result (IsUnwantedAt search.now.form search.now.options one.now.place (asked_at one.now.place (asked_view asked.now))) }
 {
     let watch = &mut Seen::of(onlooker, one.place);
-    match stopped(search.alloc, one.place, asked)? {
-        Some(made) => unwanted(search, Some(one.place), &made, &one.found, watch),
-        None => unwanted(search, Some(one.place), asked, &one.found, watch),
-    }
-}
-
-/// What was asked for with the stops of a place, if there are some.
-///
-/// # Errors
-///
-/// `AllocError` where a growth was refused.
-pub fn stopped(alloc: Global, place: Place, asked: &Reading) -> Result<Option<Reading>, AllocError>
-    requires { IsPlaceOf asked.now.job place }
-    ensures { IfOk result (IsStopped place (asked_view asked.now)) }
-{
-    match place {
-        Place::Nowhere => Ok(None),
-        Place::One(stop) => Ok(Some(asked_beside(alloc, stop, asked)?)),
-        Place::Two(first, second) => Ok(Some(asked_beside_two(alloc, first, second, asked)?)),
-    }
-}
-
-/// What was asked for with a stop of each of two ranks.
-fn asked_beside_two(
-    alloc: Global,
-    first: Stop,
-    second: Stop,
-    asked: &Reading,
-) -> Result<Reading, AllocError>
-    requires { IsPlaceOf asked.now.job (Two first second) }
-    ensures { IfOk result (λ made. asked_view made ≡ asked_at (Two first second) (asked_view asked.now)) }
-{
-    let half = asked_beside(alloc, first, asked)?;
-    asked_beside(alloc, second, &half)
+    let made = stopped_at(search.alloc, one.place, asked)?;
+    unwanted(search, Some(one.place), &made, &one.found, watch)
 }
 
 /// What is told of what was asked for, perhaps with the stops of a place, if it isn't as it is wanted, by the rows of a list.

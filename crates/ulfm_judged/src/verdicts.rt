@@ -9,14 +9,15 @@ use crate::mistakes::{push_mistakes, push_mistakes_at};
 use crate::onlooker::{Onlooker, Seen};
 use crate::remarks::{remarks_on, skipped_in};
 use crate::search::Search;
-use crate::unwanted::{filed, stopped};
+use crate::unheld::push_unheld;
+use crate::unwanted::filed;
 use std::alloc::{AllocError, Global};
 use ulfm_finder::Finder;
 use ulfm_found::{Judgement, Unmet};
 use ulfm_lists::{Listed, Told};
 use ulfm_reach::{Rows, Watch};
 use ulfm_reader::Reading;
-use ulfm_replies::{Extent, Place, Remark, StepTold, Verdict, Where};
+use ulfm_replies::{Extent, Place, Remark, StepTold, Verdict, Where, stopped_at};
 
 /// What is told of the list of a job below which nothing stands: what it comes to, which steps each schedule skips, which answers are mistakes of
 /// the script, and by `--strict` how a step never ends. Nothing where a growth was refused.
@@ -27,7 +28,7 @@ pub(crate) fn list_remarks<F: Finder, W: Watch>(
     watch: &mut W,
 ) -> Option<Vec<Remark>> {
     let mut remarks = skipped_in(search.alloc, asked, found).ok()?;
-    let hang = Hang::first(search, &asked.job, Place::Nowhere, found);
+    let hang = Hang::first(search, asked, Place::Nowhere, found);
     let at = where_of(search, None);
     remarks
         .push(verdict_on(search.alloc, asked, at, hang, Extent::Alone).ok()?)
@@ -51,7 +52,7 @@ pub(crate) fn lists_remarks<F: Finder, L: Onlooker>(
         return None;
     }
     let listed = lists.listed.as_slice();
-    let hang = Hang::first_of(search, &asked.job, listed);
+    let hang = Hang::first_of(search, asked, listed);
     let mut remarks = Vec::new(search.alloc);
     let at = one_of_some(hang.map_or(Place::Nowhere, |hang| hang.place));
     let extent = Extent::Places(listed.len());
@@ -59,6 +60,7 @@ pub(crate) fn lists_remarks<F: Finder, L: Onlooker>(
         .push(verdict_on(search.alloc, asked, at, hang, extent).ok()?)
         .ok()?;
     push_mistakes_at(&mut remarks, asked, listed).ok()?;
+    push_unheld(&mut remarks, asked, listed).ok()?;
     if let (Some(hang), true) = (hang, search.options.is_strict) {
         let shown = hanging_at(search, asked, hang, onlooker).ok()?;
         add(&mut remarks, shown).ok()?;
@@ -77,10 +79,8 @@ fn hanging_at<F: Finder, L: Onlooker>(
         return Ok(None);
     }
     let watch = &mut Seen::of(onlooker, hang.place);
-    match stopped(search.alloc, hang.place, asked)? {
-        Some(made) => hanging(search, &made.job, hang.left, watch),
-        None => hanging(search, &asked.job, hang.left, watch),
-    }
+    let made = stopped_at(search.alloc, hang.place, asked)?;
+    hanging(search, &made.job, hang.left, watch)
 }
 
 /// What is told of a step that isn't answered as it expects, and of what a search came to that shows it.

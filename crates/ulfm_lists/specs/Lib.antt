@@ -4,4 +4,5 @@ pub mod List
 pub mod Events
 pub mod Waits
 pub mod Scheduled
+pub mod Worded
 pub mod Told

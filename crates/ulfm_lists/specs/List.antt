@@ -1,5 +1,7 @@
 -- The lists of places as one list.
 use Rattle.std.specs.Prelude.{ℕ, ◌==◌, List, [], Some, length, map, not, sum_by}
+use Rattle.ulfm_answer.specs.Told.{code_of}
+use Rattle.ulfm_answer.specs.declared.told_answer.ToldAnswer.{ToldAnswer}
 use Rattle.ulfm_found.specs.Listed.{ListView, ListedView, OutcomeView, OutcomesView, StepView}
 use Rattle.ulfm_found.specs.declared.judgement.Judgement.{Judgement}
 use Rattle.ulfm_job.specs.Job.{JobView}
@@ -7,8 +9,8 @@ use Rattle.ulfm_lists.specs.Union.{answers_of, places_with, some_never_ends}
 use Rattle.ulfm_lists.specs.declared.listed.Listed.{Listed}
 
 -- an answer of the step k of the rank r, with its places
-abbrev pub placed : JobView → List Listed → ℕ → ℕ → List ℕ → OutcomeView
-placed j listed r k words = record { words = words; places = places_with j listed r k words }
+abbrev pub placed : JobView → List Listed → ℕ → ℕ → ToldAnswer → OutcomeView
+placed j listed r k told = record { told = told; places = places_with j listed r k (code_of told) }
 
 -- what the lists tell of the step
 abbrev pub told_of : JobView → List Listed → ℕ → ℕ → OutcomesView

@@ -5,19 +5,20 @@ use Rattle.ulfm_found.specs.declared.unmet.Unmet.{Unmet}
 use Rattle.ulfm_job.specs.Job.{JobView}
 use Rattle.ulfm_json.specs.declared.form.Form.{Form}
 use Rattle.ulfm_json.specs.declared.form.Form.TheVariants.{Words, Json}
-use Rattle.ulfm_moves.specs.Words.{schedule_text}
+use Rattle.ulfm_json.specs.declared.wording.Wording.{Wording}
 use Rattle.ulfm_moves.specs.declared.schedule.Schedule.{Schedule as Scheduled}
 use Rattle.ulfm_reader.specs.declared.name.Name.{Name}
 use Rattle.ulfm_stops.specs.Text.{place_text}
 use Rattle.ulfm_stops.specs.declared.place.Place.{Place}
 use Rattle.ulfm_lists.specs.Scheduled.{schedule_json}
+use Rattle.ulfm_lists.specs.Worded.{schedule_in}
 use Rattle.ulfm_lists.specs.declared.told.Told.{Told}
 use Rattle.ulfm_lists.specs.declared.told.Told.TheVariants.{Schedule, Many}
 
--- that in words
-abbrev pub told_words : Told → List ℕ
-told_words (Schedule schedule) = schedule_text schedule
-told_words (Many limit) = codes "more than " ++ decimal limit ++ codes " states\n"
+-- that in these words, of this job
+abbrev pub told_words : Wording → JobView → Told → List ℕ
+told_words wording job (Schedule schedule) = schedule_in wording job schedule
+told_words wording job (Many limit) = codes "more than " ++ decimal limit ++ codes " states\n"
 
 -- the key of the schedule of a job whose steps have these names
 abbrev pub schedule_key : List Name → JobView → Scheduled → List ℕ
@@ -56,7 +57,7 @@ unmet_json unmet = codes "{\"not_as_expected\":" ++ place_json unmet
 
 -- such a step, and what was told of it
 abbrev pub unmet_in : Form → Option Place → List Name → JobView → Unmet → Told → List ℕ
-unmet_in Words at names job unmet told = unmet_words at unmet ++ told_words told
+unmet_in (Words wording) at names job unmet told = unmet_words at unmet ++ told_words wording job told
 unmet_in Json at names job unmet told = unmet_json unmet ++ rest_json at names job told
 
 -- what is said of a row of `never`: that all its answers come together, or that it isn't known whether they do
@@ -79,22 +80,22 @@ row_words at number told = row_head number told ++ at_words at
 
 -- such a row, and what was told of it
 abbrev pub row_in : Form → Option Place → List Name → JobView → ℕ → Told → List ℕ
-row_in Words at names job number told = row_words at number told ++ told_words told
+row_in (Words wording) at names job number told = row_words at number told ++ told_words wording job told
 row_in Json at names job number told = row_key told ++ decimal number ++ codes "," ++ rest_json at names job told
 
 -- the line that there are more states than the limit at a place
 abbrev pub more_at : Form → ℕ → Place → List ℕ
-more_at Words limit place = codes "more than " ++ decimal limit ++ codes " states at " ++ place_text place ++ codes "\n"
+more_at (Words wording) limit place = codes "more than " ++ decimal limit ++ codes " states at " ++ place_text place ++ codes "\n"
 more_at Json limit place = codes "{\"more_states_than\":" ++ decimal limit ++ codes ",\"at\":\"" ++ place_text place ++ codes "\"}\n"
 
 -- what was told, alone
 abbrev pub alone_in : Form → List Name → JobView → Told → List ℕ
-alone_in Words names job told = told_words told
+alone_in (Words wording) names job told = told_words wording job told
 alone_in Json names job told = codes "{" ++ rest_json None names job told
 
 -- a schedule at a place, below the line of the place
 abbrev pub schedule_at : Form → Place → List Name → JobView → Told → List ℕ
-schedule_at Words place names job told = codes "at " ++ place_text place ++ codes "\n" ++ told_words told
+schedule_at (Words wording) place names job told = codes "at " ++ place_text place ++ codes "\n" ++ told_words wording job told
 schedule_at Json place names job told = codes "{" ++ rest_json (Some place) names job told
 
 -- what was told at a place

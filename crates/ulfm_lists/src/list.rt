@@ -1,14 +1,13 @@
 //! The lists of places as one list.
-ghost use Rattle.std.specs.Prelude.{◌≡◌, map, IfOk, string_bytes};
+ghost use Rattle.std.specs.Prelude.{◌≡◌, map, IfOk};
 ghost use Rattle.ulfm_found.specs.Listed.{list_view, listed_view, outcome_view, outcomes_view, step_view};
 ghost use Rattle.ulfm_lists.specs.List.{list_at, listed_at, placed, states_of, told_of};
-ghost use Rattle.ulfm_lists.specs.Union.{AreAllAscii};
 
 use crate::listed::Listed;
 use crate::union::{answers_of, places_with, some_never_ends};
 use std::alloc::{AllocError, Global};
 use ulfm_base::OutOfMemory;
-use ulfm_found::{JobStep, Judgement, ListedStep, Outcome, Outcomes, StepList};
+use ulfm_found::{JobStep, Judgement, ListedStep, Outcome, Outcomes, StepList, Worded};
 use ulfm_job::Job;
 
 /// The lists of places as one list: what each of these steps of the file may be answered, and at which of them. That of all steps comes to
@@ -22,9 +21,8 @@ pub fn lists_of<'a>(
     job: &Job,
     steps: &[JobStep<'a>],
     judgement: Judgement,
-    listed: &[Listed],
+    listed: &'a [Listed],
 ) -> Result<StepList<'a>, OutOfMemory>
-    requires ascii { AreAllAscii listed.now }
     ensures { IfOk result (λ list. list_view list ≡ list_at job.now (map step_view steps.now) judgement listed.now) }
 {
     Ok(StepList {
@@ -54,10 +52,9 @@ fn states_of(listed: &[Listed]) -> Result<usize, OutOfMemory>
 fn listed_steps<'a>(
     alloc: Global,
     job: &Job,
-    listed: &[Listed],
+    listed: &'a [Listed],
     steps: &[JobStep<'a>],
 ) -> Result<Vec<ListedStep<'a>>, OutOfMemory>
-    requires ascii { AreAllAscii listed.now }
     ensures { IfOk result (λ list. map listed_view list.items ≡ map (listed_at job.now listed.now) (map step_view steps.now)) }
 {
     let mut list = Vec::new(alloc);
@@ -69,42 +66,40 @@ fn listed_steps<'a>(
 }
 
 /// What the lists tell of a step.
-fn told_of(
+fn told_of<'a>(
     alloc: Global,
     job: &Job,
-    listed: &[Listed],
+    listed: &'a [Listed],
     rank: u8,
     k: usize,
-) -> Result<Outcomes, OutOfMemory>
-    requires ascii { AreAllAscii listed.now }
+) -> Result<Outcomes<'a>, OutOfMemory>
     ensures { IfOk result (λ told. outcomes_view told ≡ told_of job.now listed.now rank k) }
 {
     let answers = answers_of(alloc, job, listed, rank, k)?;
     let never_ends_at = places_with(alloc, job, listed, rank, k, &[])?;
     Ok(Outcomes {
-        answers: placed_answers(alloc, job, listed, rank, k, answers.as_slice())?,
+        answers: placed_answers(alloc, job, listed, rank, k, answers)?,
         never_ends: !never_ends_at.is_empty(),
         never_ends_at,
     })
 }
 
 /// These answers of a step, each with its places.
-fn placed_answers(
+fn placed_answers<'a>(
     alloc: Global,
     job: &Job,
     listed: &[Listed],
     rank: u8,
     k: usize,
-    answers: &[String],
-) -> Result<Vec<Outcome>, OutOfMemory>
-    ensures { IfOk result (λ placeds. map outcome_view placeds.items ≡ map (placed job.now listed.now rank k) (map string_bytes answers.now)) }
+    answers: Vec<Worded<'a>>,
+) -> Result<Vec<Outcome<'a>>, OutOfMemory>
+    ensures { IfOk result (λ placeds. map outcome_view placeds.items ≡ map (placed job.now listed.now rank k) answers.entry.items) }
 {
     let mut placeds = Vec::new(alloc);
-    for words in answers {
-        placeds.push(Outcome {
-            words: words.clone()?,
-            places: places_with(alloc, job, listed, rank, k, words.as_bytes())?,
-        })?;
+    for told in answers {
+        let code = told.told().code(alloc)?;
+        let places = places_with(alloc, job, listed, rank, k, code.as_slice())?;
+        placeds.push(Outcome { told, places })?;
     }
     Ok(placeds)
 }

@@ -4,10 +4,11 @@ ghost use Rattle.std.specs.Fmt.{decimal};
 ghost use Rattle.ulfm_lists.specs.Told.{alone_in, at_json, at_words, more_at, place_json, rest_json, row_head, row_in, row_key, row_saying, row_words, schedule_at, schedule_key, told_at, told_in, told_json, told_words, unmet_in, unmet_json, unmet_words};
 
 use crate::scheduled::push_schedule_json;
+use crate::worded::push_schedule_in;
 use std::alloc::AllocError;
 use ulfm_found::Unmet;
-use ulfm_json::Form;
-use ulfm_moves::{Schedule, push_schedule};
+use ulfm_json::{Form, Wording};
+use ulfm_moves::Schedule;
 use ulfm_reader::Reading;
 use ulfm_stops::Place;
 
@@ -41,7 +42,7 @@ fn push_alone(text: &mut String, form: Form, asked: &Reading, told: &Told) -> Re
     ensures { OnOk result (string_bytes text.new ≡ string_bytes text.old ++ alone_in form asked.now.names.items asked.now.job told.now) }
 {
     match form {
-        Form::Words => push_words(text, told),
+        Form::Words(wording) => push_words(text, wording, asked, told),
         Form::Json => {
             text.push_str("{")?;
             push_rest(text, None, asked, told)
@@ -76,9 +77,9 @@ fn push_schedule_at(
     ensures { OnOk result (string_bytes text.new ≡ string_bytes text.old ++ schedule_at form place asked.now.names.items asked.now.job told.now) }
 {
     match form {
-        Form::Words => {
+        Form::Words(wording) => {
             write!(text, "at {place}\n")?;
-            push_words(text, told)
+            push_words(text, wording, asked, told)
         }
         Form::Json => {
             text.push_str("{")?;
@@ -97,7 +98,7 @@ pub fn push_more_at(
     ensures { OnOk result (string_bytes text.new ≡ string_bytes text.old ++ more_at form limit place) }
 {
     match form {
-        Form::Words => write!(text, "more than {limit} states at {place}\n"),
+        Form::Words(_) => write!(text, "more than {limit} states at {place}\n"),
         Form::Json => write!(
             text,
             "{{\"more_states_than\":{limit},\"at\":\"{place}\"}}\n"
@@ -117,9 +118,9 @@ pub fn push_unmet(
     ensures { OnOk result (string_bytes text.new ≡ string_bytes text.old ++ unmet_in form at asked.now.names.items asked.now.job unmet told.now) }
 {
     match form {
-        Form::Words => {
+        Form::Words(wording) => {
             push_unmet_words(text, at, unmet)?;
-            push_words(text, told)
+            push_words(text, wording, asked, told)
         }
         Form::Json => {
             push_unmet_json(text, unmet)?;
@@ -168,9 +169,9 @@ pub fn push_row(
     ensures { OnOk result (string_bytes text.new ≡ string_bytes text.old ++ row_in form at asked.now.names.items asked.now.job number told.now) }
 {
     match form {
-        Form::Words => {
+        Form::Words(wording) => {
             push_row_words(text, at, number, told)?;
-            push_words(text, told)
+            push_words(text, wording, asked, told)
         }
         Form::Json => {
             push_row_key(text, number, told)?;
@@ -263,12 +264,17 @@ fn push_rest(
     text.push_str("}\n")
 }
 
-/// What was told, in words.
-fn push_words(text: &mut String, told: &Told) -> Result<(), AllocError>
-    ensures { OnOk result (string_bytes text.new ≡ string_bytes text.old ++ told_words told.now) }
+/// What was told, in these words.
+fn push_words(
+    text: &mut String,
+    wording: Wording,
+    asked: &Reading,
+    told: &Told,
+) -> Result<(), AllocError>
+    ensures { OnOk result (string_bytes text.new ≡ string_bytes text.old ++ told_words wording asked.now.job told.now) }
 {
     match told {
-        Told::Schedule(schedule) => push_schedule(text, schedule),
+        Told::Schedule(schedule) => push_schedule_in(text, wording, &asked.job, schedule),
         Told::Many(limit) => write!(text, "more than {limit} states\n"),
     }
 }

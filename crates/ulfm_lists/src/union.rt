@@ -1,6 +1,5 @@
 //! What all lists tell of a step, and at which places.
-ghost use Rattle.std.specs.Prelude.{◌≡◌, IfOk, map, string_bytes};
-ghost use Rattle.ulfm_lists.specs.Union.{AreAllAscii};
+ghost use Rattle.std.specs.Prelude.{◌≡◌, IfOk};
 ghost use Rattle.ulfm_lists.specs.Union.{answers_of, is_row, is_told, is_told_at, places_with, some_never_ends};
 
 use crate::listed::Listed;
@@ -8,21 +7,20 @@ use crate::numbers::number_at;
 use std::alloc::Global;
 use std::collections::BTreeSet;
 use ulfm_base::OutOfMemory;
-use ulfm_found::{add_answers, in_order, some_never_end};
+use ulfm_found::{Worded, add_answers, in_order, some_never_end};
 use ulfm_job::Job;
 use ulfm_reach::Rows;
 use ulfm_stops::Place;
 
 /// The answers that these lists have for a step of the file, each once.
-fn answer_set(
+fn answer_set<'a>(
     alloc: Global,
     job: &Job,
-    listed: &[Listed],
+    listed: &'a [Listed],
     rank: u8,
     k: usize,
-) -> Result<BTreeSet<String>, OutOfMemory>
-    requires ascii { AreAllAscii listed.now }
-    ensures { IfOk result (λ answers. map string_bytes answers.keys ≡ answers_of job.now listed.now rank k) }
+) -> Result<BTreeSet<Worded<'a>>, OutOfMemory>
+    ensures { IfOk result (λ answers. answers.keys ≡ answers_of job.now listed.now rank k) }
 {
     let mut answers = BTreeSet::new(alloc);
     for one in listed {
@@ -32,27 +30,26 @@ fn answer_set(
     Ok(answers)
 }
 
-/// The answers that these lists have for a step of the file, in rising order of their bytes, each once.
-pub(crate) fn answers_of(
+/// The answers that these lists have for a step of the file, in the order of their words' bytes, each once.
+pub(crate) fn answers_of<'a>(
     alloc: Global,
     job: &Job,
-    listed: &[Listed],
+    listed: &'a [Listed],
     rank: u8,
     k: usize,
-) -> Result<Vec<String>, OutOfMemory>
-    requires ascii { AreAllAscii listed.now }
-    ensures { IfOk result (λ answers. map string_bytes answers.items ≡ answers_of job.now listed.now rank k) }
+) -> Result<Vec<Worded<'a>>, OutOfMemory>
+    ensures { IfOk result (λ answers. answers.items ≡ answers_of job.now listed.now rank k) }
 {
     Ok(in_order(alloc, answer_set(alloc, job, listed, rank, k)?)?)
 }
 
 /// Whether a row tells this of the step `k` of a rank.
-fn is_row(row: &[u8], rank: u8, k: usize, words: &[u8]) -> bool
-    ensures { result ≡ is_row rank k words.now row.now }
+fn is_row(row: &[u8], rank: u8, k: usize, code: &[u8]) -> bool
+    ensures { result ≡ is_row rank k code.now row.now }
 {
     match row {
         [row_rank, row_step, told @ ..] => {
-            *row_rank == rank && *row_step as usize == k && told == words
+            *row_rank == rank && *row_step as usize == k && told == code
         }
         _ => false,
     }
@@ -60,14 +57,14 @@ fn is_row(row: &[u8], rank: u8, k: usize, words: &[u8]) -> bool
 
 /// Whether a list tells this of the step `k` of its own job.
 #[tactic(auto, using(ulfm_found::proofs::Any::any_here, ulfm_found::proofs::Any::any_on))]
-fn is_told(found: &Rows, rank: u8, k: usize, words: &[u8]) -> bool
-    ensures { result ≡ is_told found.now rank k words.now }
+fn is_told(found: &Rows, rank: u8, k: usize, code: &[u8]) -> bool
+    ensures { result ≡ is_told found.now rank k code.now }
 {
     for place in 0..found.len() {
         let Some(row) = found.row(place) else {
             continue;
         };
-        if is_row(row, rank, k, words) {
+        if is_row(row, rank, k, code) {
             return true;
         }
     }
@@ -75,27 +72,27 @@ fn is_told(found: &Rows, rank: u8, k: usize, words: &[u8]) -> bool
 }
 
 /// Whether the list of a place tells this of a step of the file.
-fn is_told_at(job: &Job, rank: u8, k: usize, words: &[u8], one: &Listed) -> bool
-    ensures { result ≡ is_told_at job.now rank k words.now one.now }
+fn is_told_at(job: &Job, rank: u8, k: usize, code: &[u8], one: &Listed) -> bool
+    ensures { result ≡ is_told_at job.now rank k code.now one.now }
 {
     let number = number_at(one.place, job, rank, k);
-    is_told(&one.found, rank, number, words)
+    is_told(&one.found, rank, number, code)
 }
 
-/// The places at which that is told: an answer by its words, or that the step never ends by none.
+/// The places at which that is told: an answer by its code, or that the step never ends by no bytes.
 pub(crate) fn places_with(
     alloc: Global,
     job: &Job,
     listed: &[Listed],
     rank: u8,
     k: usize,
-    words: &[u8],
+    code: &[u8],
 ) -> Result<Vec<Place>, OutOfMemory>
-    ensures { IfOk result (λ places. places.items ≡ places_with job.now listed.now rank k words.now) }
+    ensures { IfOk result (λ places. places.items ≡ places_with job.now listed.now rank k code.now) }
 {
     let mut places = Vec::new(alloc);
     for one in listed {
-        if !is_told_at(job, rank, k, words, one) {
+        if !is_told_at(job, rank, k, code, one) {
             continue;
         }
         places.push(one.place)?;

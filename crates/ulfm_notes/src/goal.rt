@@ -3,7 +3,7 @@
 use crate::misplaced::place_of;
 use std::alloc::{AllocError, Global};
 use ulfm_reader::{Reading, name_at};
-use ulfm_replies::{Form, Wanted, asked_at};
+use ulfm_replies::{Form, Wanted, Wording, asked_at};
 
 /// How an answer is named.
 const NAMED: &str =
@@ -19,7 +19,7 @@ pub(crate) fn goal_reason(
     bytes: &[u8],
     goal: &str,
 ) -> Result<String, AllocError> {
-    match asked_at(alloc, Form::Words, place_of(wanted), bytes)? {
+    match asked_at(alloc, Form::Words(Wording::Plain), place_of(wanted), bytes)? {
         Ok(asked) => reason(alloc, &asked, goal),
         Err(_) => Ok(String::new(alloc)),
     }
@@ -60,7 +60,7 @@ fn reason_at(
 }
 
 /// Whether a text is digits alone, of which there are some.
-fn is_number(text: &str) -> bool {
+pub(crate) fn is_number(text: &str) -> bool {
     !text.is_empty() && text.bytes().all(|byte| byte.is_ascii_digit())
 }
 
@@ -75,7 +75,12 @@ fn at_of(asked: &Reading, rank: u8, step: &str) -> Option<usize> {
 }
 
 /// That a rank has no such step, and which it has.
-fn no_step(alloc: Global, asked: &Reading, rank: u8, step: &str) -> Result<String, AllocError> {
+pub(crate) fn no_step(
+    alloc: Global,
+    asked: &Reading,
+    rank: u8,
+    step: &str,
+) -> Result<String, AllocError> {
     let steps = asked.job.script_len(rank);
     if steps == 0 {
         return format!(in alloc; "rank {rank} has no steps");

@@ -3,8 +3,8 @@
 use crate::misplaced::place_of;
 use std::alloc::{AllocError, Global};
 use strsim::osa_distance;
-use ulfm_reader::Reading;
-use ulfm_replies::{Form, Wanted, asked_at};
+use ulfm_reader::Name;
+use ulfm_replies::{Form, Wanted, Wording, asked_at};
 
 /// The most edits to a name that is told as the nearest.
 const MOST_EDITS: usize = 2;
@@ -17,8 +17,8 @@ pub(crate) fn name_line(
     text: &str,
 ) -> Result<String, AllocError> {
     let mut line = format!(in alloc; "ulfm: name refused: {text}: no step is called so")?;
-    if let Ok(asked) = asked_at(alloc, Form::Words, place_of(wanted), bytes)? {
-        match nearest(alloc, &asked, text)? {
+    if let Ok(asked) = asked_at(alloc, Form::Words(Wording::Plain), place_of(wanted), bytes)? {
+        match nearest_of(alloc, asked.names.as_slice(), None, text)? {
             Some(name) => write!(line, "; did you mean '{name}'?")?,
             None => line.push_str(
                 "; steps are called by the names that the job gives them, or as 1.5",
@@ -29,20 +29,23 @@ pub(crate) fn name_line(
     Ok(line)
 }
 
-/// The name of a step that is nearest to a text, where it is near.
-fn nearest<'a>(
+/// The name of a step, of each rank or of one, that is nearest to a text, where it is near.
+pub(crate) fn nearest_of<'a>(
     alloc: Global,
-    asked: &'a Reading,
+    names: &'a [Name],
+    rank: Option<u8>,
     text: &str,
 ) -> Result<Option<&'a str>, AllocError> {
     let mut nearest = None;
     let mut least = MOST_EDITS + 1;
-    for name in &asked.names {
-        let name = name.text.as_str();
-        let edits = osa_distance(alloc, text, name)?;
-        if edits < least && edits < name.len() {
-            least = edits;
-            nearest = Some(name);
+    for name in names {
+        if rank.map_or(true, |rank| rank == name.rank) {
+            let name = name.text.as_str();
+            let edits = osa_distance(alloc, text, name)?;
+            if edits < least && edits < name.len() {
+                least = edits;
+                nearest = Some(name);
+            }
         }
     }
     Ok(nearest)

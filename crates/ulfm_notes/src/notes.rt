@@ -4,6 +4,7 @@ use crate::goal::goal_reason;
 use crate::misplaced::{misplaced_line, place_of};
 use crate::naming::name_line;
 use crate::told::{remarks_told, verdict_line};
+use crate::unnamed::unnamed_line;
 use std::alloc::{AllocError, Global};
 use std::io::Write;
 use ulfm_explain::{Explanation, explain, warnings};
@@ -108,6 +109,7 @@ fn notes_on(
             return goal_line(alloc, wanted, bytes, reply.text.as_str(), goal.as_str())
         }
         Some(Remark::NoName(name)) => return name_line(alloc, wanted, bytes, name.as_str()),
+        Some(Remark::NoPlace(text)) => return unnamed_line(alloc, bytes, text.as_str()),
         _ => {}
     }
     match (reply.status, wanted) {
@@ -122,10 +124,15 @@ fn notes_on(
     }
 }
 
-/// The remark on a goal that names no answer of the job, or on a name that no step has, if there is one.
+/// The remark on a goal that names no answer of the job, on a name that no step has, or on a place, if there is one.
 fn refused_text(reply: &Reply) -> Option<&Remark> {
     let remarks = reply.remarks.as_ref()?;
-    remarks.iter().find(|remark| matches!(remark, Remark::NoGoal(_) | Remark::NoName(_)))
+    remarks.iter().find(|remark| {
+        matches!(
+            remark,
+            Remark::NoGoal(_) | Remark::NoName(_) | Remark::NoPlace(_)
+        )
+    })
 }
 
 /// Why a job is refused, and which stop put into it has no place there.

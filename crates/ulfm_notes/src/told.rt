@@ -7,7 +7,7 @@ use ulfm_replies::{Remark, Verdict};
 use ulfm_stops::Place;
 
 /// What stands above the lines of each kind, in their order.
-const HEADS: [&str; 5] = [UNMET, CAME, UNFINISHED, MISTAKEN, SKIPPED];
+const HEADS: [&str; 6] = [UNMET, CAME, UNFINISHED, MISTAKEN, SKIPPED, UNHELD];
 
 const UNMET: &str = "answers that their steps don't expect";
 
@@ -20,6 +20,9 @@ const HANGING: &str = "a schedule in which it never ends";
 const MISTAKEN: &str = "answers that are nearly always a mistake of the script";
 
 const SKIPPED: &str = "steps that every schedule skips, so that their conditions never hold";
+
+const UNHELD: &str =
+    "what is asked at no place, since at none all stops lie before the steps of its name";
 
 /// The lines on these, each once, kind by kind below its head.
 pub(crate) fn remarks_told(alloc: Global, remarks: &[Remark]) -> Result<String, AllocError> {
@@ -76,8 +79,9 @@ fn head_of(remark: &Remark) -> Option<&'static str> {
         Remark::Unfinished(_) => Some(UNFINISHED),
         Remark::Mistaken(..) => Some(MISTAKEN),
         Remark::Skipped(_) => Some(SKIPPED),
+        Remark::UnheldStep(..) | Remark::UnheldRow(..) => Some(UNHELD),
         // (it is told in place of all others)
-        Remark::NoGoal(_) | Remark::NoName(_) => None,
+        Remark::NoGoal(_) | Remark::NoName(_) | Remark::NoPlace(_) => None,
         Remark::Verdict(_) | Remark::Hanging(_) => None,
     }
 }
@@ -100,8 +104,18 @@ fn line_of(alloc: Global, remark: &Remark) -> Result<String, AllocError> {
             write!(line, "never[{number}]:")?;
             push_texts(&mut line, texts.as_slice(), " and")?;
         }
+        Remark::UnheldStep(step, name) => {
+            let name = name.as_str();
+            write!(line, "{step}: before '{name}'")?;
+        }
+        Remark::UnheldRow(number, name) => {
+            let name = name.as_str();
+            write!(line, "never[{number}]: before '{name}'")?;
+        }
         Remark::Verdict(_) | Remark::Hanging(_) => {}
-        Remark::NoGoal(text) | Remark::NoName(text) => line.push_str(text.as_str())?,
+        Remark::NoGoal(text) | Remark::NoName(text) | Remark::NoPlace(text) => {
+            line.push_str(text.as_str())?;
+        }
     }
     line.push_str("\n")?;
     Ok(line)

@@ -1,7 +1,8 @@
 //! What a step comes to at a place.
 
 use std::alloc::{AllocError, Global};
-use ulfm_found::{is_expected, words_at};
+use ulfm_answer::{ToldAnswer, push_told};
+use ulfm_found::{code_at, is_expected};
 use ulfm_job::Job;
 use ulfm_reach::Rows;
 
@@ -42,35 +43,40 @@ impl Cell {
             words: String::new(alloc),
         };
         for place in 0..found.len() {
-            if let Some(words) = words_at(found, place, rank, at) {
-                cell.add(job, rank, at, str::from_utf8(words).unwrap_or(""))?;
+            if let Some(code) = code_at(found, place, rank, at) {
+                cell.add(job, rank, at, ToldAnswer::read(code))?;
             }
         }
         Ok(cell)
     }
 
-    /// Adds an answer; no words are that it never ends.
-    fn add(&mut self, job: &Job, rank: u8, at: usize, words: &str) -> Result<(), AllocError> {
+    /// Adds an answer; none is that it never ends.
+    fn add(
+        &mut self,
+        job: &Job,
+        rank: u8,
+        at: usize,
+        told: Option<ToldAnswer<'_>>,
+    ) -> Result<(), AllocError> {
         if !self.words.is_empty() {
             self.words.push_str(" | ")?;
         }
-        self.kind = worse(self.kind, kind_of(job, rank, at, words));
-        self.words.push_str(if words.is_empty() {
-            "never ends"
-        } else {
-            words
-        })
+        self.kind = worse(self.kind, kind_of(job, rank, at, &told));
+        match &told {
+            Some(told) => push_told(&mut self.words, told),
+            None => self.words.push_str("never ends"),
+        }
     }
 }
 
-/// What an answer of a step makes of it; no words are that it never ends.
-fn kind_of(job: &Job, rank: u8, at: usize, words: &str) -> Kind {
-    match words {
-        "" if expects(job, rank, at) && !is_unmet(job, rank, at, "unfinished") => Kind::Good,
-        "" => Kind::Hangs,
-        "skipped" => Kind::Skipped,
-        _ if is_unmet(job, rank, at, words) => Kind::Unmet,
-        _ => Kind::Good,
+/// What an answer of a step makes of it; none is that it never ends.
+fn kind_of(job: &Job, rank: u8, at: usize, told: &Option<ToldAnswer<'_>>) -> Kind {
+    match told {
+        None if expects_unfinished(job, rank, at) => Kind::Good,
+        None => Kind::Hangs,
+        Some(ToldAnswer::Skipped) => Kind::Skipped,
+        Some(told) if is_unmet(job, rank, at, told) => Kind::Unmet,
+        Some(_) => Kind::Good,
     }
 }
 
@@ -101,10 +107,15 @@ fn expects(job: &Job, rank: u8, at: usize) -> bool {
         .any(|clause| clause.rank == rank && clause.at as usize == at)
 }
 
+/// Whether a step expects answers, and to be unfinished is one of them.
+fn expects_unfinished(job: &Job, rank: u8, at: usize) -> bool {
+    expects(job, rank, at) && !is_unmet(job, rank, at, &ToldAnswer::Unfinished)
+}
+
 /// Whether a step expects other answers than this one.
-fn is_unmet(job: &Job, rank: u8, at: usize, words: &str) -> bool {
+fn is_unmet(job: &Job, rank: u8, at: usize, told: &ToldAnswer<'_>) -> bool {
     match u16::try_from(at) {
-        Ok(at) => !is_expected(job, rank, at, words.as_bytes()),
+        Ok(at) => !is_expected(job, rank, at, told),
         Err(_) => false,
     }
 }

@@ -6,11 +6,11 @@ use crate::wanted::{Unwanted, unwanted_at};
 use std::alloc::{AllocError, Global};
 use ulfm_finder::Finder;
 use ulfm_job::Job;
-use ulfm_judged::{Search, stopped};
+use ulfm_judged::Search;
 use ulfm_lists::number_at;
 use ulfm_reach::{Reach, Reached};
 use ulfm_reader::Reading;
-use ulfm_replies::Place;
+use ulfm_replies::{Place, stopped_at};
 
 /// The steps at a place, rank by rank.
 #[derive(Drop)]
@@ -39,11 +39,7 @@ impl Column {
         if !place.is_inside(&read.job) {
             return Ok(column);
         }
-        let made = stopped(search.alloc, place, read)?;
-        let asked = match &made {
-            Some(made) => made,
-            None => read,
-        };
+        let asked = &stopped_at(search.alloc, place, read)?;
         let reach = search.outcomes(&asked.job, &mut Nobody)?;
         if let Reach::All(reached) = &reach {
             column.fill(search.alloc, &read.job, asked, reached)?;

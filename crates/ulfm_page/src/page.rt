@@ -1,4 +1,7 @@
 //! The page.
+//!
+//! It looks at each place once more, by one thread: the list and the page know nothing of one another. Pictures that nobody asked for have no
+//! height, and aren't without display: all drawings take the heads of their arrows from the first one.
 
 use crate::cell::{Cell, Kind};
 use crate::column::Column;

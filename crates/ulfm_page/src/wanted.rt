@@ -84,7 +84,14 @@ fn row_at<F: Finder>(
     match search.show(&asked.job, &goals, &mut Nobody)? {
         Some(Told::Schedule(schedule)) => Ok(Some(Unwanted {
             title: format!(in search.alloc; "all answers of never[{number}] come")?,
-            picture: Some(drawn(search.alloc, Style::Svg, &schedule, "")?),
+            picture: Some(drawn(
+                search.alloc,
+                Style::Svg,
+                search.form.wording(),
+                &asked.job,
+                &schedule,
+                "",
+            )?),
             is_known: true,
         })),
         Some(Told::Many(states)) => Ok(Some(Unwanted {
@@ -106,7 +113,14 @@ fn drawn_by<F: Finder>(
     title: String,
 ) -> Result<Unwanted, AllocError> {
     let picture = match search.show(&asked.job, goals, &mut Nobody)? {
-        Some(Told::Schedule(schedule)) => Some(drawn(search.alloc, Style::Svg, &schedule, "")?),
+        Some(Told::Schedule(schedule)) => Some(drawn(
+            search.alloc,
+            Style::Svg,
+            search.form.wording(),
+            &asked.job,
+            &schedule,
+            "",
+        )?),
         _ => None,
     };
     Ok(Unwanted {

@@ -10,12 +10,12 @@ use Rattle.ulfm_played.specs.Tally.{Row, counted, row_in, row_json, tally_in}
 
 -- how the line of a rank's step of this number begins
 abbrev pub step_begin : Form → ℕ → ℕ → List ℕ
-step_begin Words rank step = decimal rank ++ codes " " ++ decimal step ++ codes " "
+step_begin (Words wording) rank step = decimal rank ++ codes " " ++ decimal step ++ codes " "
 step_begin Json rank step = codes "{\"rank\":" ++ decimal rank ++ codes ",\"step\":" ++ decimal step ++ codes ","
 
 -- how the closing line of a rank begins
 abbrev pub end_begin : Form → ℕ → List ℕ
-end_begin Words rank = decimal rank ++ codes " end"
+end_begin (Words wording) rank = decimal rank ++ codes " end"
 end_begin Json rank = codes "{\"rank\":" ++ decimal rank ++ codes ",\"end\""
 
 -- how the lines of a rank begin, in the order of its script
@@ -61,7 +61,7 @@ mark_text hangs = if hangs then codes " runs hang: " else codes " runs: "
 
 -- a line behind its count, in this form
 abbrev pub counted_line : Form → ℕ → Row → List ℕ
-counted_line Words times line = decimal line.1 ++ codes " of " ++ decimal times ++ mark_text (is_hang line.0) ++ line.0 ++ codes "\n"
+counted_line (Words wording) times line = decimal line.1 ++ codes " of " ++ decimal times ++ mark_text (is_hang line.0) ++ line.0 ++ codes "\n"
 counted_line Json times line = row_json times (line.0 ++ codes "\n", line.1)
 
 -- a line that some of so many runs lack, behind its count, and nothing of the others

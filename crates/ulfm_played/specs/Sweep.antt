@@ -26,7 +26,7 @@ sweep_json line = codes "{\"stop\":" ++ decimal line.rank ++ codes ",\"at\":" ++
 
 -- a line in this form
 abbrev pub sweep_line_in : Form → SweepLine → List ℕ
-sweep_line_in Words line = sweep_line line
+sweep_line_in (Words wording) line = sweep_line line
 sweep_line_in Json line = sweep_json line
 
 -- all lines, in their order

@@ -33,7 +33,7 @@ row_json times row = codes "{\"count\":" ++ decimal row.1 ++ codes ",\"runs\":" 
 
 -- either, in this form
 abbrev pub row_in : Form → ℕ → Row → List ℕ
-row_in Words times row = row_text times row
+row_in (Words wording) times row = row_text times row
 row_in Json times row = row_json times row
 
 -- all counts with their traces

@@ -74,7 +74,7 @@ fn step_begin(alloc: Global, form: Form, rank: u8, step: usize) -> Result<String
     ensures { IfOk result (λ text. string_bytes text ≡ step_begin form rank step) }
 {
     match form {
-        Form::Words => format!(in alloc; "{rank} {step} "),
+        Form::Words(_) => format!(in alloc; "{rank} {step} "),
         Form::Json => format!(in alloc; "{{\"rank\":{rank},\"step\":{step},"),
     }
 }
@@ -84,7 +84,7 @@ fn end_begin(alloc: Global, form: Form, rank: u8) -> Result<String, AllocError>
     ensures { IfOk result (λ text. string_bytes text ≡ end_begin form rank) }
 {
     match form {
-        Form::Words => format!(in alloc; "{rank} end"),
+        Form::Words(_) => format!(in alloc; "{rank} end"),
         Form::Json => format!(in alloc; "{{\"rank\":{rank},\"end\""),
     }
 }
@@ -184,7 +184,7 @@ fn push_counted(text: &mut String, form: Form, times: u32, line: &Counted) -> Re
 {
     let Counted { text: words, count } = line;
     match form {
-        Form::Words => {
+        Form::Words(_) => {
             let mark = mark(is_hang(words.as_str()));
             write!(text, "{count} of {times}{mark}{words}\n")
         }

@@ -5,7 +5,8 @@ ghost use Rattle.ulfm_played.specs.Failing.{failure_of};
 use ulfm_replies::Failure;
 use ulfm_script::RunFault;
 
-/// The failure that a run's fault is. Ends that don't fit the job are none.
+/// The failure that a run's fault is. Ends that don't fit the job are none: the program makes ends and deciders that fit, so that fault never
+/// comes here, which is proved.
 pub fn failure_of(fault: RunFault) -> Option<Failure>
     ensures { result ≡ failure_of fault }
 {

@@ -7,7 +7,7 @@ use crate::turns::given_turns;
 use std::alloc::{AllocError, Global};
 use ulfm_draw::drawn;
 use ulfm_job::Job;
-use ulfm_json::{Form, Style};
+use ulfm_json::{Form, Style, Wording};
 use ulfm_moves::replayed;
 use ulfm_replay::{Played, replay_in_order};
 use ulfm_replies::{DONE, Place, Reply, asked_at};
@@ -30,17 +30,23 @@ pub fn draw_reply(
         Err(reply) => return Ok(reply),
     };
     match replay_in_order(alloc, &asked.job) {
-        Ok(played) => picture_of(alloc, style, &asked.job, played),
+        Ok(played) => picture_of(alloc, style, form.wording(), &asked.job, played),
         Err(_) => Err(AllocError),
     }
 }
 
 /// The picture of a replay.
-fn picture_of(alloc: Global, style: Style, job: &Job, played: Played) -> Result<Reply, AllocError>
+fn picture_of(
+    alloc: Global,
+    style: Style,
+    wording: Wording,
+    job: &Job,
+    played: Played,
+) -> Result<Reply, AllocError>
     ensures { IfOk result (λ r. r.status ≡ 0) }
 {
     let schedule = replayed(alloc, job, played.moves, played.reports.as_slice())?;
-    let text = drawn(alloc, style, &schedule, "")?;
+    let text = drawn(alloc, style, wording, job, &schedule, "")?;
     Ok(Reply {
         status: DONE,
         text,

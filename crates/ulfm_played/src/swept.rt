@@ -44,7 +44,7 @@ fn push_line(text: &mut String, form: Form, line: &SweepLine) -> Result<(), Allo
     ensures { OnOk result (string_bytes text.new ≡ string_bytes text.old ++ sweep_line_in form line.now) }
 {
     match form {
-        Form::Words => push_words(text, line),
+        Form::Words(_) => push_words(text, line),
         Form::Json => push_object(text, line),
     }
 }

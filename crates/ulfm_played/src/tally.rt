@@ -188,7 +188,7 @@ pub fn push_row(text: &mut String, form: Form, times: u32, row: &Counted) -> Res
     ensures { OnOk result (string_bytes text.new ≡ string_bytes text.old ++ row_in form times (row_of row.now)) }
 {
     match form {
-        Form::Words => push_words(text, times, row),
+        Form::Words(_) => push_words(text, times, row),
         Form::Json => push_object(text, times, row),
     }
 }

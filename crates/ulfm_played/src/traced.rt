@@ -1,12 +1,16 @@
-//! The trace in either form.
+//! The trace in each form.
 ghost use Rattle.std.specs.Prelude.{◌≡◌, ◌++◌, IfOk, OnOk, string_bytes};
 ghost use Rattle.ulfm_json.specs.Form.{trace_in};
 ghost use Rattle.ulfm_json.specs.Trace.{rank_json, trace_json};
+ghost use Rattle.ulfm_json.specs.WordedTrace.{rank_in, words_of};
+ghost use Rattle.ulfm_json.specs.declared.wording.Wording.TheVariants.{Mpi};
+ghost use Rattle.std.specs.List.{flat_map};
 
 use std::alloc::{AllocError, Global};
+use ulfm_answer::push_closing;
 use ulfm_base::OutOfMemory;
 use ulfm_job::Job;
-use ulfm_json::{Form, push_end, push_steps};
+use ulfm_json::{Form, Wording, push_end, push_lines_in, push_steps};
 use ulfm_reader::Name;
 use ulfm_script::{RankReport, trace_text};
 
@@ -25,12 +29,47 @@ pub fn trace_in(
     ensures { IfOk result (λ text. string_bytes text ≡ trace_in form names.now job.now reports.now) }
 {
     match form {
-        Form::Words => trace_text(alloc, reports),
+        Form::Words(wording) => trace_words(alloc, wording, job, reports),
         Form::Json => trace_json(alloc, names, job, reports),
     }
 }
 
-/// The lines of a rank.
+/// The trace in these words.
+fn trace_words(
+    alloc: Global,
+    wording: Wording,
+    job: &Job,
+    reports: &[RankReport],
+) -> Result<String, OutOfMemory>
+    ensures { IfOk result (λ text. string_bytes text ≡ words_of wording job.now reports.now) }
+{
+    match wording {
+        Wording::Plain => trace_text(alloc, reports),
+        Wording::Mpi => mpi_trace(alloc, job, reports),
+    }
+}
+
+/// The trace in MPI's words.
+fn mpi_trace(alloc: Global, job: &Job, reports: &[RankReport]) -> Result<String, OutOfMemory>
+    ensures { IfOk result (λ text. string_bytes text ≡ flat_map (rank_in Mpi job.now) reports.now) }
+{
+    let mut text = String::new(alloc);
+    for report in reports {
+        push_mpi_rank(&mut text, job, report)?;
+    }
+    Ok(text)
+}
+
+/// The lines of a rank in MPI's words.
+fn push_mpi_rank(text: &mut String, job: &Job, report: &RankReport) -> Result<(), AllocError>
+    ensures { OnOk result (string_bytes text.new ≡ string_bytes text.old ++ rank_in Mpi job.now report.now) }
+{
+    let rank = report.me().number;
+    push_lines_in(text, Wording::Mpi, job, rank, report.steps())?;
+    push_closing(text, rank, report.stopped(), report.starved())
+}
+
+/// The lines of a rank as objects.
 fn push_rank(
     text: &mut String,
     names: &[Name],

@@ -18,6 +18,7 @@ pub fn given_turns(asked: Reading, turns: Option<u32>) -> Reading
                 texts,
                 names,
                 filed,
+                provisos,
             } = asked;
             let job = job.with_turns(turns);
             Reading {
@@ -26,6 +27,7 @@ pub fn given_turns(asked: Reading, turns: Option<u32>) -> Reading
                 texts,
                 names,
                 filed,
+                provisos,
             }
         }
         None => asked,

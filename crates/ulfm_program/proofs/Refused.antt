@@ -6,24 +6,34 @@ use Rattle.ulfm_replies.specs.declared.command.Wanted.{Wanted}
 use Rattle.ulfm_replies.specs.declared.command.Wanted.TheVariants.{Check, Replay, Run, Sweep, Outcomes, Places, Expand, Draw}
 use Rattle.ulfm_replies.specs.Failure.{out_of_memory_in}
 use Rattle.ulfm_replies.specs.Expanded as expanded
+use Rattle.ulfm_replies.specs.Named as named
 use Rattle.ulfm_replies.specs.Places as places
 use Rattle.ulfm_replies.specs.Replies.{starved}
 use Rattle.ulfm_replies.specs.Wish.{WishView}
 use Rattle.ulfm_judged.proofs.Statuses.{starved_list}
-use Rattle.ulfm_program.specs.Replies.{AreRead, IsReplyIn, IsWhole, GetsReply, GetsBeginning, GetsFrontOf}
+use Rattle.ulfm_program.specs.Replies.{AreRead, IsReplyBy, IsReplyIn, IsReplyStopped, IsWhole, GetsReply, GetsBeginning, GetsFrontOf, unsettled}
 use Rattle.ulfm_played.specs.Played.{failed, undrawn, fell}
 use Rattle.ulfm_played.specs.Sweep.{unswept}
 
--- out of memory is a reply to any words, in the form that they ask for
+-- out of memory is a reply in each form, with ranks stopped by the numbers of steps
+starved_by : (form : Form) (wish : WishView) (wanted : Wanted) (bytes : List ℕ) → IsReplyBy form wish wanted bytes 3 (out_of_memory_in form)
+starved_by form wish Check bytes = starved
+starved_by form wish (Replay is_strict turns place) bytes = failed
+starved_by form wish (Run options) bytes = fell
+starved_by form wish Sweep bytes = unswept
+starved_by form wish (Outcomes options) bytes = starved_list form wish.show wish.choice options bytes
+starved_by form wish (Places stops) bytes = places.starved
+starved_by form wish Expand bytes = expanded.starved
+starved_by form wish (Draw style turns place) bytes = undrawn
+
+-- and with ranks stopped by names
+starved_stopped : (stop : Option (List ℕ)) (form : Form) (wish : WishView) (wanted : Wanted) (bytes : List ℕ) → IsReplyStopped stop form wish wanted bytes 3 (out_of_memory_in form)
+starved_stopped None form wish wanted bytes = starved_by form wish wanted bytes
+starved_stopped (Some stop) form wish wanted bytes = unsettled 3 (out_of_memory_in form) named.starved
+
+-- so it is one to any words, in the form that they ask for
 pub starved_reply : (form : Form) (wish : WishView) (wanted : Wanted) (bytes : List ℕ) → IsReplyIn form wish wanted bytes 3 (out_of_memory_in form)
-starved_reply form wish Check bytes = starved
-starved_reply form wish (Replay is_strict turns place) bytes = failed
-starved_reply form wish (Run options) bytes = fell
-starved_reply form wish Sweep bytes = unswept
-starved_reply form wish (Outcomes options) bytes = starved_list form wish.show wish.choice options bytes
-starved_reply form wish (Places stops) bytes = places.starved
-starved_reply form wish Expand bytes = expanded.starved
-starved_reply form wish (Draw style turns place) bytes = undrawn
+starved_reply form wish wanted bytes = starved_stopped wish.stop form wish wanted bytes
 
 -- bytes that may have been read
 bytes_of : (input : Option (List ℕ)) → (bytes : List ℕ) × AreRead input bytes

@@ -1,5 +1,5 @@
 -- What the program writes for a job.
-use Rattle.std.specs.Prelude.{◌≡◌, ◌≢◌, ◌⊎◌, ℕ, List, take, Option, IfSome, codes}
+use Rattle.std.specs.Prelude.{◌≡◌, ◌≢◌, ◌⊎◌, ℕ, List, take, Option, Some, None, IfSome, codes}
 use Rattle.std.specs.Io.KnownBytes.{Appends}
 use Rattle.ulfm_json.specs.declared.form.Form.{Form}
 use Rattle.ulfm_judged.specs.ListReply.{IsListReply}
@@ -8,21 +8,37 @@ use Rattle.ulfm_replies.specs.declared.command.Wanted.{Wanted}
 use Rattle.ulfm_replies.specs.declared.command.Wanted.TheVariants.{Check, Replay, Run, Sweep, Outcomes, Places, Expand, Draw}
 use Rattle.ulfm_replies.specs.Expanded.{IsExpandReply}
 use Rattle.ulfm_replies.specs.Failure.{out_of_memory_text}
+use Rattle.ulfm_replies.specs.Named.{IsNamed, IsUnnamed, wanted_at}
 use Rattle.ulfm_replies.specs.Places.{IsPlacesReply}
 use Rattle.ulfm_replies.specs.Replies.{IsCheckReply}
 use Rattle.ulfm_replies.specs.Wish.{WishView}
+use Rattle.ulfm_stops.specs.declared.place.Place.{Place}
 use Rattle.ulfm_played.specs.Played.{IsDrawReply, IsReplayReply, IsRunReply}
 
--- the reply in this form to what the words ask for, with what of outcomes is told
+-- the reply in this form to what is asked for, with ranks stopped by the numbers of steps, and with what of outcomes is told
+abbrev pub IsReplyBy : Form → WishView → Wanted → List ℕ → ℕ → List ℕ → Type 0
+IsReplyBy form wish Check bytes status text = IsCheckReply form bytes status text
+IsReplyBy form wish (Replay is_strict turns place) bytes status text = IsReplayReply form is_strict turns place bytes status text
+IsReplyBy form wish (Run options) bytes status text = IsRunReply form options bytes status text
+IsReplyBy form wish Sweep bytes status text = IsSweepReply form bytes status text
+IsReplyBy form wish (Outcomes options) bytes status text = IsListReply form wish.show wish.choice options bytes status text
+IsReplyBy form wish (Places stops) bytes status text = IsPlacesReply form stops bytes status text
+IsReplyBy form wish Expand bytes status text = IsExpandReply form bytes status text
+IsReplyBy form wish (Draw style turns place) bytes status text = IsDrawReply form turns place bytes status text
+
+-- the reply where ranks stop by a text that names steps: with the stops of the place that it comes to, or that it comes to none
+pub data IsReplyNaming (form : Form) (wish : WishView) (wanted : Wanted) (stop bytes : List ℕ) : ℕ → List ℕ → Type 0 where
+  settled : (place : Place) (status : ℕ) (text : List ℕ) → IsNamed stop bytes place → IsReplyBy form wish (wanted_at place wanted) bytes status text → IsReplyNaming form wish wanted stop bytes status text
+  unsettled : (status : ℕ) (text : List ℕ) → IsUnnamed form stop bytes status text → IsReplyNaming form wish wanted stop bytes status text
+
+-- either, where ranks stop by the numbers of steps, or by such a text
+abbrev pub IsReplyStopped : Option (List ℕ) → Form → WishView → Wanted → List ℕ → ℕ → List ℕ → Type 0
+IsReplyStopped None form wish wanted bytes status text = IsReplyBy form wish wanted bytes status text
+IsReplyStopped (Some stop) form wish wanted bytes status text = IsReplyNaming form wish wanted stop bytes status text
+
+-- the reply in this form to what the words ask for, with what they say in names of steps
 abbrev pub IsReplyIn : Form → WishView → Wanted → List ℕ → ℕ → List ℕ → Type 0
-IsReplyIn form wish Check bytes status text = IsCheckReply form bytes status text
-IsReplyIn form wish (Replay is_strict turns place) bytes status text = IsReplayReply form is_strict turns place bytes status text
-IsReplyIn form wish (Run options) bytes status text = IsRunReply form options bytes status text
-IsReplyIn form wish Sweep bytes status text = IsSweepReply form bytes status text
-IsReplyIn form wish (Outcomes options) bytes status text = IsListReply form wish.show wish.choice options bytes status text
-IsReplyIn form wish (Places stops) bytes status text = IsPlacesReply form stops bytes status text
-IsReplyIn form wish Expand bytes status text = IsExpandReply form bytes status text
-IsReplyIn form wish (Draw style turns place) bytes status text = IsDrawReply form turns place bytes status text
+IsReplyIn form wish wanted bytes status text = IsReplyStopped wish.stop form wish wanted bytes status text
 
 -- the reply in the form that the words ask for; or, where memory runs out before they are followed, the line in words that says so
 pub data IsReplyTo (form : Form) (wish : WishView) (wanted : Wanted) (bytes : List ℕ) : ℕ → List ℕ → Type 0 where

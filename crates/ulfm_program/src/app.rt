@@ -9,7 +9,7 @@ ghost use Rattle.ulfm_replies.specs.Wish.{wish_asked, wish_view};
 
 use crate::far::Far;
 use crate::progress::Progress;
-use crate::reply::reply_to;
+use crate::reply::{reply_to, settled};
 use std::alloc::Global;
 use std::convert::AsStr;
 use std::io::{Read, Write};
@@ -18,11 +18,11 @@ use std::thread::Threads;
 use std::time::Clock;
 use ulfm_finder::Finder;
 use ulfm_findings::{InputFault, read_front, write_whole};
-use ulfm_json::Form;
+use ulfm_json::{Form, Wording};
 use ulfm_notes::{write_fault, write_notes, write_verdict};
 use ulfm_replies::{
     Asked, DONE, Failure, INPUT_FAILED, OUTPUT_FAILED, PAST_LIMIT, RUN_FAILED, Reply, USAGE,
-    Unfollowed, Wanted, asked_for, failed_line,
+    Unfollowed, asked_for, failed_line,
 };
 
 /// What is written where a word can't be read.
@@ -30,7 +30,7 @@ const NOT_TEXT: &str = "a word of the command line isn't UTF-8\n";
 
 /// Follows the words: looks at them first, then reads the input whole, then its job, then runs it, and writes the whole
 /// reply. Standard error gets how far a list of outcomes is, where that is asked for, and then what a person wants to know beside
-/// the reply. Answers the status (docs/JOBS.md). With 2 the words were looked at alone.
+/// the reply. Answers the status (docs/JSON.md). With 2 the words were looked at alone.
 pub fn run_on<T, F, S, R, W, E>(
     rt: &T,
     finder: &F,
@@ -67,7 +67,7 @@ where
             write_fault(alloc, text.as_str(), errors);
             status
         }
-        Err(Unfollowed::OutOfMemory) => write_starved(output, Form::Words),
+        Err(Unfollowed::OutOfMemory) => write_starved(output, Form::Words(Wording::Plain)),
     }
 }
 
@@ -85,7 +85,7 @@ pub fn without_words<W: Write, E: Write>(
     ensures known { result ≤ 4 }
 {
     if is_starved {
-        return write_starved(output, Form::Words);
+        return write_starved(output, Form::Words(Wording::Plain));
     }
     let status = write_reply(output, USAGE, NOT_TEXT.as_bytes());
     write_fault(alloc, NOT_TEXT, errors);
@@ -117,20 +117,19 @@ where
     ensures known { result ≤ 9 }
 {
     let form = asked.form;
-    let wanted = asked.wanted;
     let bytes = match read_front(alloc, input) {
         Ok(bytes) => bytes,
         Err(InputFault::Failed) => return INPUT_FAILED,
         Err(InputFault::OutOfMemory) => return write_starved(output, form),
     };
-    let mut progress = Progress::new(rt, alloc, &mut *errors, wanted);
+    let mut progress = Progress::new(rt, alloc, &mut *errors, asked.wanted);
     let told = reply_to(rt, finder, alloc, asked, bytes.as_slice(), &mut progress);
     let far = progress.end();
     match told {
         Ok(reply) => {
             write_verdict(alloc, asked.has_colour, &reply, errors);
             let status = write_reply(output, reply.status, reply.text.as_bytes());
-            write_remarks(alloc, wanted, bytes.as_slice(), &reply, far, errors);
+            write_remarks(alloc, asked, bytes.as_slice(), &reply, far, errors);
             status
         }
         Err(_) => write_starved(output, form),
@@ -140,7 +139,7 @@ where
 /// Writes the notes on a reply, and before them how far a search came that met its limit.
 fn write_remarks<E: Write>(
     alloc: Global,
-    wanted: Wanted,
+    asked: &Asked<'_>,
     bytes: &[u8],
     reply: &Reply,
     far: Far,
@@ -149,7 +148,7 @@ fn write_remarks<E: Write>(
     if reply.status == PAST_LIMIT {
         far.tell(alloc, errors);
     }
-    write_notes(alloc, wanted, bytes, reply, errors);
+    write_notes(alloc, settled(alloc, asked, bytes), bytes, reply, errors);
 }
 
 /// Writes that memory ran out, in this form, and answers the status of that, or of output that failed.

@@ -20,12 +20,12 @@ use std::thread::Threads;
 use std::time::Clock;
 use ulfm_finder::Finder;
 use ulfm_findings::write_whole;
-use ulfm_json::Form;
+use ulfm_json::{Form, Wording};
 use ulfm_replies::{Asked, DONE, INPUT_FAILED, OUTPUT_FAILED, Unfollowed, asked_for};
 
 /// Follows the words for each file that they name, in turn, as `run_on` follows them with that file's bytes as its input, or for `input`
 /// where they name none. Above the answers of several files stands a line with each one's name. A file that can't be read has the status
-/// of an input that fails, and standard error names it. Answers the greatest status (docs/JOBS.md). Where the words name files, the input
+/// of an input that fails, and standard error names it. Answers the greatest status (docs/JSON.md). Where the words name files, the input
 /// isn't read.
 pub fn run_each<T, F, S, R, W, E>(
     rt: &T,
@@ -67,7 +67,7 @@ where
                 run_files(rt, finder, alloc, &asked, output, errors)
             }
         }
-        Err(Unfollowed::OutOfMemory) => write_starved(output, Form::Words),
+        Err(Unfollowed::OutOfMemory) => write_starved(output, Form::Words(Wording::Plain)),
         Err(_) => run_on(rt, finder, alloc, words, input, output, errors),
     }
 }

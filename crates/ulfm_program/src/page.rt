@@ -6,7 +6,7 @@ use std::io::Write;
 use std::rt::Files;
 use ulfm_finder::Finder;
 use ulfm_findings::{read_front, write_whole};
-use ulfm_json::Form;
+use ulfm_json::{Form, Wording};
 use ulfm_judged::Search;
 use ulfm_page::page_of;
 use ulfm_replies::{Asked, JOB_REFUSED, ListOptions, Wanted};
@@ -45,7 +45,7 @@ pub(crate) fn write_page<T: Files, F: Finder, E: Write>(
     let search = Search {
         finder,
         alloc,
-        form: Form::Words,
+        form: Form::Words(Wording::Plain),
         options: ListOptions {
             is_brief: true,
             ..options

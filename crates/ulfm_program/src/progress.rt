@@ -1,4 +1,6 @@
 //! How far a list of outcomes is, for who looks on: none of it is promised.
+//!
+//! It asks for a flag, since the kit's program can't ask whether standard error is a terminal: `./ulfm` asks, and adds it.
 
 use crate::far::Far;
 use std::alloc::{AllocError, Global};

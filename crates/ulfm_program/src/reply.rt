@@ -1,6 +1,6 @@
 //! The reply to a job's bytes.
 ghost use Rattle.std.specs.Prelude.{◌≡◌, false, IfOk, string_bytes};
-ghost use Rattle.ulfm_program.specs.Replies.{IsReplyIn};
+ghost use Rattle.ulfm_program.specs.Replies.{IsReplyBy, IsReplyIn, IsReplyNaming};
 ghost use Rattle.ulfm_program.specs.inside.Threads.{needs_threads};
 ghost use Rattle.ulfm_replies.specs.CommandLine.{HasRanges};
 ghost use Rattle.ulfm_replies.specs.Wish.{WishView, wish_view};
@@ -13,7 +13,7 @@ use ulfm_json::Form;
 use ulfm_judged::{Onlooker, Search, list_reply};
 use ulfm_played::{draw_reply, replay_reply, run_reply, sweep_reply};
 use ulfm_reach::Watch;
-use ulfm_replies::{Asked, Reply, Wanted, check_reply, expand_reply, places_reply};
+use ulfm_replies::{Asked, Reply, Wanted, check_reply, expand_reply, places_reply, settled_place};
 
 /// The reply to what the words ask for. `watch` is told how far a list of outcomes is.
 pub fn reply_to<R, F, P>(
@@ -31,8 +31,69 @@ where
     requires { HasRanges asked.now.wanted }
     ensures { IfOk result (λ r. IsReplyIn asked.now.form (wish_view asked.now.wish) asked.now.wanted bytes.now r.status (string_bytes r.text)) }
 {
+    match asked.wish.stop {
+        Some(text) => naming_reply(rt, finder, alloc, asked, text, bytes, watch),
+        None => settled_reply(rt, finder, alloc, asked, asked.wanted, bytes, watch),
+    }
+}
+
+/// The reply where ranks stop by a text that names steps.
+fn naming_reply<R, F, P>(
+    rt: &R,
+    finder: &F,
+    alloc: Global,
+    asked: &Asked<'_>,
+    text: &str,
+    bytes: &[u8],
+    watch: &mut P,
+) -> Result<Reply, AllocError>
+where
+    R: Threads + Wait + Sync,
+    F: Finder + Sync,
+    P: Watch + Onlooker + Sync,
+    requires { HasRanges asked.now.wanted }
+    ensures { IfOk result (λ r. IsReplyNaming asked.now.form (wish_view asked.now.wish) asked.now.wanted text.now bytes.now r.status (string_bytes r.text)) }
+{
+    let settled = settled_place(alloc, asked.form, text, bytes)?;
+    match settled {
+        Ok(place) => {
+            let wanted = asked.wanted.at(place);
+            settled_reply(rt, finder, alloc, asked, wanted, bytes, watch)
+        }
+        Err(reply) => Ok(reply),
+    }
+}
+
+/// What the words ask for, with the stops that names of steps come to.
+pub(crate) fn settled(alloc: Global, asked: &Asked<'_>, bytes: &[u8]) -> Wanted {
+    let Some(text) = asked.wish.stop else {
+        return asked.wanted;
+    };
+    match settled_place(alloc, asked.form, text, bytes) {
+        Ok(Ok(place)) => asked.wanted.at(place),
+        _ => asked.wanted,
+    }
+}
+
+/// The reply to this in place of what the words ask for: with ranks stopped by the numbers of steps.
+fn settled_reply<R, F, P>(
+    rt: &R,
+    finder: &F,
+    alloc: Global,
+    asked: &Asked<'_>,
+    wanted: Wanted,
+    bytes: &[u8],
+    watch: &mut P,
+) -> Result<Reply, AllocError>
+where
+    R: Threads + Wait + Sync,
+    F: Finder + Sync,
+    P: Watch + Onlooker + Sync,
+    requires { HasRanges wanted }
+    ensures { IfOk result (λ r. IsReplyBy asked.now.form (wish_view asked.now.wish) wanted bytes.now r.status (string_bytes r.text)) }
+{
     let form = asked.form;
-    match asked.wanted {
+    match wanted {
         Wanted::Run(options) => run_reply(rt, alloc, form, options, bytes),
         Wanted::Outcomes(options) => {
             let search = Search {
@@ -44,7 +105,7 @@ where
             };
             list_reply(rt, &search, asked.wish.show, bytes, watch)
         }
-        _ => plain_reply(alloc, form, asked.wanted, bytes),
+        _ => plain_reply(alloc, form, wanted, bytes),
     }
 }
 
@@ -52,7 +113,7 @@ where
 fn plain_reply(alloc: Global, form: Form, wanted: Wanted, bytes: &[u8]) -> Result<Reply, AllocError>
     requires ranges { HasRanges wanted }
     requires plain { needs_threads wanted ≡ false }
-    ensures { IfOk result (λ r. (wish : WishView) → IsReplyIn form wish wanted bytes.now r.status (string_bytes r.text)) }
+    ensures { IfOk result (λ r. (wish : WishView) → IsReplyBy form wish wanted bytes.now r.status (string_bytes r.text)) }
 {
     match wanted {
         Wanted::Check => check_reply(alloc, form, bytes),

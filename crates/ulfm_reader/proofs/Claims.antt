@@ -3,11 +3,12 @@ use Rattle.std.proofs.Common.{◌≡◌, ℕ, ◌+◌, ◌<◌, ◌≤◌, ◌==
 use Rattle.std.proofs.lemmas.Bool.{and_parts, leb-true, ltb-true}
 use Rattle.std.proofs.lemmas.List.{drop_all, map_push}
 use Rattle.std.proofs.lemmas.Str.Parse.{IsNumeralModel, numerals_by_value, parse_digits, tells_all_ascii_digits}
+use Rattle.std.specs.Prelude.{codes}
 use Rattle.std.specs.List.{before_first, after_first, position_or_len}
 use Rattle.std.specs.Char.{is_ascii_digit}
 use Rattle.std.specs.Str.{all_ascii_digits}
 use Rattle.std.specs.Str.Parse.{IsNumeral, digits_value, without_leading_plus}
-use Rattle.toml.specs.Data.{Data, Items, as_array, as_str}
+use Rattle.toml.specs.Data.{Data, as_array, as_str}
 use Rattle.toml.proofs.Views.{items_view-drop}
 use Rattle.ulfm_expand.proofs.Blocks.{items_of-view}
 use Rattle.ulfm_expand.proofs.Values.{listed-view}
@@ -18,6 +19,7 @@ use Rattle.ulfm_job.specs.declared.fault.JobFault.TheVariants.{InJob}
 use Rattle.ulfm_job.specs.declared.fault.Fault.TheVariants.{BadKey, OutOfRange}
 use Rattle.ulfm_reader.proofs.Common.{Clause, JobFault, Name, Order, Step, Value, view, order_of, items_view, list_all, nat_tests, ◌>>=◌}
 use Rattle.ulfm_reader.specs.JobText.{in_job, rows_of}
+use Rattle.ulfm_reader.specs.Provisos.{items_by}
 use Rattle.ulfm_reader.specs.Never.{all_items, are_texts, claim_at, claims_onto, is_number, is_row, is_text, never_items_in, never_out, number_in, order_at, parted, row_in, rows_onto}
 
 -- a text in two parts
@@ -87,15 +89,15 @@ module _ (scripts : List (List Order)) (names : List Name) where
 
   -- the rows that follow one give what they give after it
   rows-one : (before : List (List Clause)) (vs : List Value) (v : Value) (i : ℕ) → i < length vs → v ≡ get_or vs i v
-      → rows_onto scripts names before (items_view (drop i vs)) ≡ (row_in scripts names (as_array (view v)) >>= (λ row. rows_onto scripts names (before ++ row ∷ []) (items_view (drop (i + 1) vs))))
+      → rows_onto scripts names before (items_view (drop i vs)) ≡ (row_in scripts names (items_by (codes "row") (view v)) >>= (λ row. rows_onto scripts names (before ++ row ∷ []) (items_view (drop (i + 1) vs))))
   unfolding rows_onto
   rows-one before vs v i lt here = rw (items_view-drop vs i v lt, ← here) refl
 
-  pub rows-on : (before : List (List Clause)) (vs : List Value) (v : Value) (row : List Clause) (i : ℕ) → i < length vs → v ≡ get_or vs i v → in_job (row_in scripts names (as_array (view v))) ≡ Ok row
+  pub rows-on : (before : List (List Clause)) (vs : List Value) (v : Value) (row : List Clause) (i : ℕ) → i < length vs → v ≡ get_or vs i v → in_job (row_in scripts names (items_by (codes "row") (view v))) ≡ Ok row
       → rows_onto scripts names before (items_view (drop i vs)) ≡ rows_onto scripts names (before ++ row ∷ []) (items_view (drop (i + 1) vs))
   rows-on before vs v row i lt here read = rows-one before vs v i lt here ∙ ap (λ (r : Result (List Clause) Fault). r >>= (λ row. rows_onto scripts names (before ++ row ∷ []) (items_view (drop (i + 1) vs)))) (in_job-ok _ row read)
 
-  pub rows-end : (before : List (List Clause)) (vs : List Value) (v : Value) (e : JobFault) (i : ℕ) → i < length vs → v ≡ get_or vs i v → in_job (row_in scripts names (as_array (view v))) ≡ Err e
+  pub rows-end : (before : List (List Clause)) (vs : List Value) (v : Value) (e : JobFault) (i : ℕ) → i < length vs → v ≡ get_or vs i v → in_job (row_in scripts names (items_by (codes "row") (view v))) ≡ Err e
       → in_job (rows_onto scripts names before (items_view (drop i vs))) ≡ Err e
   rows-end before vs v e i lt here read = ap in_job (rows-one before vs v i lt here) ∙ in_job-err _ _ e read
 
@@ -131,8 +133,9 @@ pub step-at : (scripts : List (List Step)) (r k : ℕ) (o : Option (Bor Step)) �
     → option_map (λ (s : Bor Step). order_of s.now) o ≡ order_at (map (map order_of) scripts) r k
 step-at scripts r k o found = seen o ∙ ap (option_map order_of) found ∙ sym (order_in (slice_index_or scripts r []) k) ∙ sym (ap (λ xs. slice_get xs k) (script-at scripts r))
 
-pub row_found : (vs : List Value) (found : Option Items) (good : Bool) → Some (items_view vs) ≡ found → good ≡ list_all (λ v. is_text (view v)) vs → good ≡ are_texts found
-row_found vs found good a b = rw (← a) (b ∙ all-items is_text vs)
+-- texts alone
+pub texts_found : (vs : List Value) (good : Bool) → good ≡ list_all (λ v. is_text (view v)) vs → good ≡ are_texts (Some (items_view vs))
+texts_found vs good b = b ∙ all-items is_text vs
 
 -- a number within its bounds, and one below them
 pub within : (least most n m : ℕ) → m ≡ n → least ≤ n → leb n most ≡ (leb least m && leb m most)

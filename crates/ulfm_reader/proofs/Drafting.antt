@@ -8,7 +8,9 @@ use Rattle.ulfm_reader.proofs.Common.{Clause, Condition, JobFault, Name, Order, 
 use Rattle.ulfm_job.proofs.Rounds.{one_of_all}
 use Rattle.ulfm_reader.proofs.Scripts.{orders-put}
 use Rattle.ulfm_reader.specs.JobText.{drafted, filed_at, in_step}
+use Rattle.ulfm_reader.specs.Provisos.{step_provisos}
 use Rattle.ulfm_reader.specs.Reacting.{conditions_in, expected_in, names_in}
+use Rattle.ulfm_reader.specs.declared.proviso.Proviso.{Proviso}
 use Rattle.ulfm_reader.specs.declared.draft.Draft.{Draft as CodedDraft}
 use Rattle.ulfm_reader.specs.inside.Reading.{draft_view}
 
@@ -46,27 +48,38 @@ pub conditions-fault : (d : CodedDraft) (r at k : ℕ) (script : List Step) (nam
 unfolding drafted
 conditions-fault d r at k script names more o ms e h named read = rw (h.orders, length-map script order_of, ← h.number, ← h.known, ← named) (in_step-err k _ _ e read)
 
--- the fault of what is expected
-pub expected-fault : (d : CodedDraft) (r at k : ℕ) (script : List Step) (names more : List Name) (conditions : List Condition) (o : Order) (ms : Members) (e : JobFault) → IsFront d r at script names
+-- the fault of a proviso
+pub proviso-fault : (d : CodedDraft) (r at k : ℕ) (script : List Step) (names more : List Name) (conditions : List Condition) (o : Order) (ms : Members) (e : JobFault) → IsFront d r at script names
     → Ok more ≡ names_in names r at (get_member (codes "name") ms)
     → conditions_in (record { rank = r; at = at; script = map order_of script; names = names }) d.conditions.items (get_member (codes "if") ms) ≡ Ok conditions
+    → in_step k (step_provisos r at d.provisos.items (get_member (codes "expect") ms)) ≡ Err e
+    → in_step k (drafted k (draft_view d) ms (record { rank = r; order = o })) ≡ Err e
+unfolding drafted
+proviso-fault d r at k script names more conditions o ms e h named asked read = rw (h.orders, length-map script order_of, ← h.number, ← h.known, ← named, asked) (in_step-err k _ _ e read)
+
+-- the fault of what is expected
+pub expected-fault : (d : CodedDraft) (r at k : ℕ) (script : List Step) (names more : List Name) (conditions : List Condition) (provisos : List Proviso) (o : Order) (ms : Members) (e : JobFault) → IsFront d r at script names
+    → Ok more ≡ names_in names r at (get_member (codes "name") ms)
+    → conditions_in (record { rank = r; at = at; script = map order_of script; names = names }) d.conditions.items (get_member (codes "if") ms) ≡ Ok conditions
+    → step_provisos r at d.provisos.items (get_member (codes "expect") ms) ≡ Ok provisos
     → in_step k (expected_in r at o d.expected.items (get_member (codes "expect") ms)) ≡ Err e
     → in_step k (drafted k (draft_view d) ms (record { rank = r; order = o })) ≡ Err e
 unfolding drafted
-expected-fault d r at k script names more conditions o ms e h named asked read = rw (h.orders, length-map script order_of, ← h.number, ← h.known, ← named, asked) (in_step-err k _ _ e read)
+expected-fault d r at k script names more conditions provisos o ms e h named asked given read = rw (h.orders, length-map script order_of, ← h.number, ← h.known, ← named, asked, given) (in_step-err k _ _ e read)
 
 -- one more step
-pub one-more : (d new : CodedDraft) (r at k : ℕ) (script : List Step) (names more : List Name) (conditions : List Condition) (expected : List Clause) (x : Step) (ms : Members) → IsFront d r at script names
+pub one-more : (d new : CodedDraft) (r at k : ℕ) (script : List Step) (names more : List Name) (conditions : List Condition) (provisos : List Proviso) (expected : List Clause) (x : Step) (ms : Members) → IsFront d r at script names
     → r < length d.scripts.items
     → Ok more ≡ names_in names r at (get_member (codes "name") ms)
     → conditions_in (record { rank = r; at = at; script = map order_of script; names = names }) d.conditions.items (get_member (codes "if") ms) ≡ Ok conditions
+    → step_provisos r at d.provisos.items (get_member (codes "expect") ms) ≡ Ok provisos
     → expected_in r at (order_of x) d.expected.items (get_member (codes "expect") ms) ≡ Ok expected
     → lists_of new.scripts.items ≡ set (lists_of d.scripts.items) r (slice_index_or (lists_of d.scripts.items) r [] ++ x ∷ [])
-    → new.names.items ≡ more → new.filed.items ≡ d.filed.items ++ filed_at k r at ∷ [] → new.conditions.items ≡ conditions → new.expected.items ≡ expected
+    → new.names.items ≡ more → new.filed.items ≡ d.filed.items ++ filed_at k r at ∷ [] → new.conditions.items ≡ conditions → new.provisos.items ≡ provisos → new.expected.items ≡ expected
     → drafted k (draft_view d) ms (record { rank = r; order = order_of x }) ≡ Ok (draft_view new)
 unfolding drafted
-one-more d new r at k script names more conditions expected x ms h inside named asked wanted grown n f c e =
+one-more d new r at k script names more conditions provisos expected x ms h inside named asked given wanted grown n f c p e =
     let long : length (lists_of d.scripts.items) ≡ length d.scripts.items = length-map d.scripts.items (λ (v : Vec Step Global). v.items) in
     let put : map (map order_of) (lists_of new.scripts.items) ≡ set (map (map order_of) (lists_of d.scripts.items)) r (slice_index_or (map (map order_of) (lists_of d.scripts.items)) r [] ++ order_of x ∷ []) =
     ap (map (map order_of)) grown ∙ orders-put (lists_of d.scripts.items) r x (omega (arith, inside, long)) in
-    rw (put, n, f, c, e, h.orders, length-map script order_of, ← h.number, ← h.known, ← named, asked, wanted) refl
+    rw (put, n, f, c, p, e, h.orders, length-map script order_of, ← h.number, ← h.known, ← named, asked, given, wanted) refl

@@ -6,6 +6,8 @@ use Rattle.std.proofs.lemmas.Bool.{false_from_ne_true}
 use Rattle.toml.specs.Data.{Items, Members}
 use Rattle.ulfm_job.specs.declared.fault.JobFault.TheVariants as refused
 use Rattle.ulfm_reader.specs.Never.{never_out, rows_in}
+use Rattle.ulfm_reader.specs.Provisos.{provisos_in}
+use Rattle.ulfm_reader.specs.declared.proviso.Proviso.{Proviso}
 use Rattle.ulfm_reader.specs.JobText.{Head, blank, head_of, in_job, lines_of, never_of, read_as, rest_of, steps_of, reading_of, reading_of_document, reading_of_bytes}
 
 pub too_many : (ms : Members) (h : Head) → Ok h ≡ head_of ms → 256 < length (lines_of h) → reading_of ms ≡ Err refused.TooLarge
@@ -19,8 +21,12 @@ steps_read ms h r read few steps =
     let test : ltb 256 (length (lines_of h)) ≡ false = grind (arith, nat_tests) in
     rw (← read, test) (ap (λ (s : Result Draft JobFault). s >>= rest_of h) steps)
 
-pub rows_read : (h : Head) (never : Option Items) (draft : Draft) (r : Result (List (List Clause)) JobFault) → in_job (rows_in draft.scripts draft.names never) ≡ r → never_of h never draft ≡ (r >>= (λ rows. Ok (read_as h draft rows)))
-rows_read h never draft r rows = ap (λ (s : Result (List (List Clause)) JobFault). s >>= (λ rows. Ok (read_as h draft rows))) rows
+pub provisos_fault : (h : Head) (never : Option Items) (draft : Draft) (e : JobFault) → in_job (provisos_in draft.names draft.provisos never) ≡ Err e → never_of h never draft ≡ Err e
+provisos_fault h never draft e fault = rw fault refl
+
+pub rows_read : (h : Head) (never : Option Items) (draft : Draft) (provisos : List Proviso) (r : Result (List (List Clause)) JobFault) → in_job (provisos_in draft.names draft.provisos never) ≡ Ok provisos
+    → in_job (rows_in draft.scripts draft.names never) ≡ r → never_of h never draft ≡ (r >>= (λ rows. Ok (read_as h draft provisos rows)))
+rows_read h never draft provisos r read rows = rw (read, rows) refl
 
 pub written_read : (h : Head) (draft : Draft) (r : Result (Option Items) JobFault) → in_job (never_out (lines_of h) h.ranks h.never) ≡ r → rest_of h draft ≡ (r >>= (λ never. never_of h never draft))
 written_read h draft r written = ap (λ (s : Result (Option Items) JobFault). s >>= (λ never. never_of h never draft)) written

@@ -2,6 +2,7 @@ pub mod Common
 pub mod Jobs
 pub mod Keys
 pub mod NoToml
+pub mod Provided
 pub mod Steps
 pub mod Scripts
 pub mod Asking

@@ -9,6 +9,7 @@ use Rattle.ulfm_job.specs.declared.fault.Fault.{Fault}
 use Rattle.ulfm_job.specs.declared.fault.JobFault.TheVariants.{NotToml, TooLarge}
 use Rattle.ulfm_reader.specs.JobText.{blank, draft_of, in_job, in_step, lines_of, step_in, steps_of, head_of, job_in, job_of_bytes, Reading, reading_of, reading_of_document, reading_of_bytes, IsNoDocument}
 use Rattle.ulfm_reader.specs.Never.{never_out, rows_in}
+use Rattle.ulfm_reader.specs.Provisos.{provisos_in}
 use Rattle.ulfm_reader.proofs.Jobs.{no_text}
 
 in_job_not : {A : Type 0} (r : Result A Fault) → in_job r ≢ Err NotToml
@@ -44,7 +45,8 @@ reading_not : (ms : Members) → reading_of ms ≢ Err NotToml
 unfolding reading_of
 reading_not ms = then_not _ _ (in_job_not (head_of ms)) (λ h. cond_not _ _ _ (too_large _ refl) (then_not _ _ (steps_not h.ranks (blank h.ranks) (lines_of h))
     (λ draft. then_not _ _ (in_job_not (never_out (lines_of h) h.ranks h.never))
-    (λ never. then_not (in_job (rows_in draft.scripts draft.names never)) _ (in_job_not (rows_in draft.scripts draft.names never)) (λ rows e. cc)))))
+    (λ never. then_not _ _ (in_job_not (provisos_in draft.names draft.provisos never))
+    (λ provisos. then_not (in_job (rows_in draft.scripts draft.names never)) _ (in_job_not (rows_in draft.scripts draft.names never)) (λ rows e. cc))))))
 
 answer_to : Bool → Bool → Option Members → Result Reading JobFault
 answer_to long text document = cond long (Err TooLarge) (cond text (reading_of_document document) (Err NotToml))

@@ -14,10 +14,12 @@ use Rattle.ulfm_job.specs.declared.clause.Clause.{Clause}
 use Rattle.ulfm_job.specs.declared.condition.Condition.{Condition}
 use Rattle.ulfm_reader.specs.declared.filed.Filed.{Filed}
 use Rattle.ulfm_reader.specs.declared.name.Name.{Name}
+use Rattle.ulfm_reader.specs.declared.proviso.Proviso.{Proviso}
 use Rattle.ulfm_reader.specs.declared.reading.Reading.{Reading as Kept}
 use Rattle.std.specs.declared.alloc.Global.{Global}
 use Rattle.ulfm_reader.specs.Never.{never_items, never_out, rows_in}
 use Rattle.ulfm_reader.specs.Plan.{Order, PlannedStep, Plan, plan_of}
+use Rattle.ulfm_reader.specs.Provisos.{provisos_in, step_provisos}
 use Rattle.ulfm_reader.specs.Reacting.{names_in, conditions_in, expected_in}
 use Rattle.ulfm_reader.specs.StepText.{step_of}
 
@@ -31,17 +33,19 @@ abbrev pub in_step : {A : Type 0} → ℕ → Result A Fault → Result A JobFau
 in_step k (Ok x) = Ok x
 in_step k (Err f) = Err (refused.InStep f k)
 
--- what was read of the steps: those of each rank, their names, their numbers in the file, their conditions, and what they expect
+-- what was read of the steps: those of each rank, their names, their numbers in the file, their conditions, what they expect, and of which that
+-- holds only before the steps of a name
 pub record Draft : Type 0 where
   pub scripts : List (List Order)
   pub names : List Name
   pub filed : List Filed
   pub conditions : List Condition
   pub expected : List Clause
+  pub provisos : List Proviso
 
 -- nothing was read of so many ranks
 abbrev pub blank : ℕ → Draft
-blank ranks = record { scripts = replicate ranks []; names = []; filed = []; conditions = []; expected = [] }
+blank ranks = record { scripts = replicate ranks []; names = []; filed = []; conditions = []; expected = []; provisos = [] }
 
 -- one more step comes last in the script of its rank
 abbrev pub placed_in : List (List Order) → PlannedStep → List (List Order)
@@ -51,13 +55,14 @@ placed_in scripts s = slice_set scripts s.rank (slice_index_or scripts s.rank []
 abbrev pub filed_at : ℕ → ℕ → ℕ → Filed
 filed_at k rank at = record { rank = rank; at = at; place = k }
 
--- a draft with one more step, that of a place of the file: its name, then its conditions, and then what it expects
+-- a draft with one more step, that of a place of the file: its name, then its conditions, and then what it expects, and where
 unfoldable pub drafted : ℕ → Draft → Members → PlannedStep → Result Draft Fault
 drafted k draft ms s = do
   names ← names_in draft.names s.rank (length (slice_index_or draft.scripts s.rank [])) (get_member (codes "name") ms)
   conditions ← conditions_in (record { rank = s.rank; at = length (slice_index_or draft.scripts s.rank []); script = slice_index_or draft.scripts s.rank []; names = draft.names }) draft.conditions (get_member (codes "if") ms)
+  provisos ← step_provisos s.rank (length (slice_index_or draft.scripts s.rank [])) draft.provisos (get_member (codes "expect") ms)
   expected ← expected_in s.rank (length (slice_index_or draft.scripts s.rank [])) s.order draft.expected (get_member (codes "expect") ms)
-  Ok (record { scripts = placed_in draft.scripts s; names = names; filed = draft.filed ++ filed_at k s.rank (length (slice_index_or draft.scripts s.rank [])) ∷ []; conditions = conditions; expected = expected })
+  Ok (record { scripts = placed_in draft.scripts s; names = names; filed = draft.filed ++ filed_at k s.rank (length (slice_index_or draft.scripts s.rank [])) ∷ []; conditions = conditions; expected = expected; provisos = provisos })
 
 -- a draft with the step of a table, at a place of the file
 abbrev pub draft_of : ℕ → ℕ → Draft → Members → Result Draft Fault
@@ -130,13 +135,14 @@ planned_as h draft = record {
   left = [];
 }
 
--- what a text asks for: the plan of its job, the rows of answers of which no run may have all, the names of steps, and the place in the file
--- from which each comes
+-- what a text asks for: the plan of its job, the rows of answers of which no run may have all, the names of steps, the place in the file
+-- from which each comes, and what of this is asked only before the steps of a name
 pub record Reading : Type 0 where
   pub plan : Plan
   pub never : List (List Clause)
   pub names : List Name
   pub filed : List Filed
+  pub provisos : List Proviso
 
 -- the rows that the lists in memory hold
 abbrev pub rows_of : List (Vec Clause Global) → List (List Clause)
@@ -144,15 +150,16 @@ rows_of rows = map (λ row. row.items) rows
 
 -- what a text asks for, as it is kept
 abbrev pub reading_view : Kept → Reading
-reading_view r = record { plan = plan_of r.job; never = rows_of r.never.items; names = r.names.items; filed = r.filed.items }
+reading_view r = record { plan = plan_of r.job; never = rows_of r.never.items; names = r.names.items; filed = r.filed.items; provisos = r.provisos.items }
 
--- what was read of the job's own keys and of its steps, and its rows
-abbrev pub read_as : Head → Draft → List (List Clause) → Reading
-read_as h draft never = record { plan = planned_as h draft; never = never; names = draft.names; filed = draft.filed }
+-- what was read of the job's own keys and of its steps, its rows, and the provisos of both
+abbrev pub read_as : Head → Draft → List Proviso → List (List Clause) → Reading
+read_as h draft provisos never = record { plan = planned_as h draft; never = never; names = draft.names; filed = draft.filed; provisos = provisos }
 
 -- the rows of a job, as they are written out, by its steps and their names
 abbrev pub never_of : Head → Option Items → Draft → Result Reading JobFault
-never_of h never draft = in_job (rows_in draft.scripts draft.names never) >>= (λ rows. Ok (read_as h draft rows))
+never_of h never draft =
+    in_job (provisos_in draft.names draft.provisos never) >>= (λ provisos. in_job (rows_in draft.scripts draft.names never) >>= (λ rows. Ok (read_as h draft provisos rows)))
 
 -- the steps of a job, written out
 abbrev pub lines_of : Head → List Line

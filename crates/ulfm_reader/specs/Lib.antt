@@ -2,6 +2,7 @@ pub mod Plan
 pub mod Keys
 pub mod Beginnings
 pub mod Reacting
+pub mod Provisos
 pub mod Never
 pub mod StepText
 pub mod JobText

@@ -4,10 +4,10 @@ use Rattle.std.specs.List.{before_first, after_first, list_all, position_or_len}
 use Rattle.std.specs.Option.{ok_or}
 use Rattle.std.specs.Char.{is_ascii_digit}
 use Rattle.std.specs.Str.Parse.{digits_value}
-use Rattle.toml.specs.Data.{Data, Items, no_items, item, Members, get_member, as_array, as_str}
+use Rattle.toml.specs.Data.{Data, Items, no_items, item, Members, get_member, as_array, as_str, as_table}
 use Rattle.toml.specs.View.{items_of}
 use Rattle.ulfm_expand.specs.Lines.{Line}
-use Rattle.ulfm_expand.specs.Members.{listed}
+use Rattle.ulfm_expand.specs.Members.{listed, text_at}
 use Rattle.ulfm_expand.specs.Rows.{rows_out}
 use Rattle.ulfm_job.specs.declared.clause.Clause.{Clause}
 use Rattle.ulfm_job.specs.declared.fault.Fault.{Fault}
@@ -16,6 +16,7 @@ use Rattle.ulfm_reader.specs.declared.name.Name.{Name}
 use Rattle.ulfm_reader.specs.Beginnings.{may_answer}
 use Rattle.ulfm_reader.specs.Keys.{◌>>=◌, items_len}
 use Rattle.ulfm_reader.specs.Plan.{Order}
+use Rattle.ulfm_reader.specs.Provisos.{items_by}
 use Rattle.ulfm_reader.specs.Reacting.{clause, named, words_in}
 
 -- what stands before the first c of a text, and what behind it
@@ -80,10 +81,10 @@ abbrev pub row_in : List (List Order) → List Name → Option Items → Result 
 row_in scripts names None = Err BadKey
 row_in scripts names (Some ds) = if is_within 2 8 ds then claims_onto scripts names [] ds else Err OutOfRange
 
--- rows, and behind them those of these arrays
+-- rows, and behind them those of these items
 unfoldable pub rows_onto : List (List Order) → List Name → List (List Clause) → Items → Result (List (List Clause)) Fault
 rows_onto scripts names before no_items = Ok before
-rows_onto scripts names before (item d ds) = row_in scripts names (as_array d) >>= (λ row. rows_onto scripts names (before ++ row ∷ []) ds)
+rows_onto scripts names before (item d ds) = row_in scripts names (items_by (codes "row") d) >>= (λ row. rows_onto scripts names (before ++ row ∷ []) ds)
 
 -- the rows of the key `never`, written out, where it is there: 1 to 1024
 abbrev pub rows_in : List (List Order) → List Name → Option Items → Result (List (List Clause)) Fault
@@ -114,11 +115,16 @@ abbrev pub are_texts : Option Items → Bool
 are_texts None = false
 are_texts (Some ds) = all_items is_text ds
 
--- an array of texts alone
-abbrev pub is_row : Data → Bool
-is_row d = are_texts (as_array d)
+-- a text at the key `before`, where it is a table
+abbrev pub has_before : Option Members → Bool
+has_before None = true
+has_before (Some ms) = is_some (text_at (codes "before") ms)
 
--- the array of arrays of texts at the key `never`
+-- an array of texts alone, or a table of one and of a name
+abbrev pub is_row : Data → Bool
+is_row d = are_texts (items_by (codes "row") d) && has_before (as_table d)
+
+-- the array of rows at the key `never`
 abbrev pub arrays_in : Option Items → Result (Option Items) Fault
 arrays_in None = Err BadKey
 arrays_in (Some ds) = if all_items is_row ds then Ok (Some ds) else Err BadKey

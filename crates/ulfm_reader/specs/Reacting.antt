@@ -12,6 +12,7 @@ use Rattle.ulfm_reader.specs.declared.name.Name.{Name}
 use Rattle.ulfm_reader.specs.Beginnings.{may_ask, may_expect}
 use Rattle.ulfm_reader.specs.Keys.{◌>>=◌, items_len, required, only_keys, in_range}
 use Rattle.ulfm_reader.specs.Plan.{Order}
+use Rattle.ulfm_reader.specs.Provisos.{items_by}
 
 -- a letter, a digit, `_` or `-`
 abbrev pub is_name_byte : ℕ → Bool
@@ -186,10 +187,10 @@ abbrev pub listed_expected : ℕ → ℕ → Order → List Clause → Option It
 listed_expected rank at order before None = Err BadKey
 listed_expected rank at order before (Some ds) = few_words (may_expect order) ds >>= (λ words. Ok (clauses_with rank at before words))
 
--- by the key `expect`, where it is there
+-- by the key `expect`, where it is there: a list, or a table with one
 abbrev pub expected_in : ℕ → ℕ → Order → List Clause → Option Data → Result (List Clause) Fault
 expected_in rank at order before None = Ok before
-expected_in rank at order before (Some d) = listed_expected rank at order before (as_array d)
+expected_in rank at order before (Some d) = listed_expected rank at order before (items_by (codes "is") d)
 
 -- names, and behind them that of a text
 abbrev pub name_onto : List Name → ℕ → ℕ → Option (List ℕ) → Result (List Name) Fault

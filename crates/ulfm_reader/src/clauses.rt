@@ -10,6 +10,7 @@ ghost use Rattle.ulfm_reader.specs.Reacting.{are_few, clauses_with, expected_in,
 use crate::asker::Asker;
 use crate::beginnings::{may_ask, may_expect};
 use crate::fields::value_at;
+use crate::proviso::items_by;
 use std::alloc::Global;
 use toml::{Table, Value};
 use ulfm_base::OutOfMemory;
@@ -108,7 +109,7 @@ fn push_clauses(
     Ok(())
 }
 
-/// What the step expects by the key `expect`, where it is there: a list of 1 to 16 words.
+/// What the step expects by the key `expect`, where it is there: a list of 1 to 16 words, or a table with one.
 pub fn push_expected(
     clauses: &mut Vec<Clause>,
     asker: &Asker<'_>,
@@ -120,16 +121,10 @@ pub fn push_expected(
     let Some(value) = value_at(table, "expect") else {
         return Ok(());
     };
-    let Some(values) = value.as_array() else {
+    let Some(values) = items_by(value, "is") else {
         return Err(JobFault::InStep(Fault::BadKey, asker.place));
     };
-    let texts = few_words(
-        *clauses.allocator(),
-        asker.place,
-        false,
-        step,
-        values.as_slice(),
-    )?;
+    let texts = few_words(*clauses.allocator(), asker.place, false, step, values)?;
     push_clauses(clauses, asker.rank, asker.at, texts.as_slice())?;
     Ok(())
 }

@@ -15,11 +15,13 @@ use crate::filed::Filed;
 use crate::name::{Name, is_new_name};
 use crate::ops::step_of;
 use crate::placed::Placed;
+use crate::proviso::{Proviso, push_step_proviso};
 use std::alloc::Global;
 use toml::{Table, Value};
 use ulfm_job::{Clause, Condition, Fault, JobFault, Label, Step};
 
-/// The steps of each rank that were read, their names and places in the file, on what conditions some are played, and what some expect.
+/// The steps of each rank that were read, their names and places in the file, on what conditions some are played, what some expect, and
+/// of which that holds only before the steps of a name.
 #[derive(Drop)]
 pub struct Draft {
     pub scripts: Vec<Vec<Step>>,
@@ -27,6 +29,7 @@ pub struct Draft {
     pub filed: Vec<Filed>,
     pub conditions: Vec<Condition>,
     pub expected: Vec<Clause>,
+    pub provisos: Vec<Proviso>,
 }
 
 impl Draft {
@@ -42,6 +45,7 @@ impl Draft {
             filed: Vec::new(alloc),
             conditions: Vec::new(alloc),
             expected: Vec::new(alloc),
+            provisos: Vec::new(alloc),
         })
     }
 
@@ -93,6 +97,7 @@ impl Draft {
             place,
         };
         push_conditions(&mut self.conditions, &asker, table)?;
+        push_step_proviso(&mut self.provisos, &asker, table)?;
         push_expected(&mut self.expected, &asker, &step, table)?;
         push_name(&mut self.names, rank, at, name)?;
         self.filed.push(Filed { rank, at, place })?;

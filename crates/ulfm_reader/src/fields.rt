@@ -3,10 +3,10 @@ ghost use Rattle.std.specs.Prelude.{◌≡◌, ◌≤◌, map, option_map, IfOk,
 ghost use Rattle.std.specs.BTreeMap.{keys};
 ghost use Rattle.std.specs.List.{list_any, list_all};
 ghost use Rattle.std.specs.Str.{bytes_eq};
-ghost use Rattle.toml.specs.Data.{get_member};
-ghost use Rattle.toml.specs.View.{view, table_view};
+ghost use Rattle.toml.specs.Data.{as_array, get_member};
+ghost use Rattle.toml.specs.View.{view, table_view, items_view};
 ghost use Rattle.ulfm_reader.specs.inside.Reading.{map_ok, reference_view};
-ghost use Rattle.ulfm_reader.specs.Keys.{required_number, optional_number, required_text, only_keys, in_range, in_range_if_some};
+ghost use Rattle.ulfm_reader.specs.Keys.{required, required_number, optional_number, required_text, only_keys, in_range, in_range_if_some};
 ghost use Rattle.ulfm_reader.specs.Reacting.{reference_in, required_reference};
 
 use crate::reference::Reference;
@@ -41,6 +41,19 @@ pub fn optional_number(table: &Table, key: &str) -> Result<Option<i64>, Fault>
             None => Err(Fault::BadKey),
         },
         None => Ok(None),
+    }
+}
+
+/// The list at a key that has to be there.
+pub fn required_list<'a>(table: &'a Table, key: &str) -> Result<&'a [Value], Fault>
+    ensures { map_ok (λ s. items_view s.now) result ≡ required as_array (get_member key.now (table_view table.now)) }
+{
+    match value_at(table, key) {
+        Some(value) => match value.as_array() {
+            Some(values) => Ok(values.as_slice()),
+            None => Err(Fault::BadKey),
+        },
+        None => Err(Fault::BadKey),
     }
 }
 

@@ -11,6 +11,7 @@ use crate::draft::Draft;
 use crate::filed::Filed;
 use crate::head::{Head, head_of};
 use crate::name::Name;
+use crate::proviso::{Proviso, push_provisos};
 use crate::rows::{never_out, rows_in, texts_in};
 use std::alloc::Global;
 use toml::{Table, Value};
@@ -18,8 +19,8 @@ use ulfm_expand::{Line, Unwritten, written_out};
 use ulfm_job::limits::MOST_BYTES;
 use ulfm_job::{Clause, Job, JobFault, Text};
 
-/// What a text asks for: its job, the rows of answers of which no run may have all, the names of its steps, and their places in the file. In each clause of a row
-/// `at` is `step`.
+/// What a text asks for: its job, the rows of answers of which no run may have all, the names of its steps, their places in the file, and what
+/// of this is asked only before the steps of a name. In each clause of a row `at` is `step`.
 #[derive(Drop)]
 pub struct Reading {
     /// The job.
@@ -32,6 +33,8 @@ pub struct Reading {
     pub names: Vec<Name>,
     /// The place of each step in the file, in the order in which they were read.
     pub filed: Vec<Filed>,
+    /// Which of its rows, and of what its steps expect, is asked only where every stop lies before the steps of a name.
+    pub provisos: Vec<Proviso>,
 }
 
 /// What can be read from the text of a job.
@@ -44,8 +47,8 @@ pub trait ReadJob: Sized {
     /// document; `InJob` for the job's own keys, with `BadKey`, then `UnknownKey`, then `OutOfRange`; `TooLarge` where
     /// there are more than 256 steps, written out; `InStep` with the place in the file of the first step that has a fault, and its
     /// first fault: `BadKey` for its `op`, `UnknownOp`, `BadKey`, `UnknownKey`, `OutOfRange`; then those of its `name`, its `if` and
-    /// its `expect`; then `InJob` with `OutOfRange` for the rows of `never`. `OutOfMemory` comes in
-    /// place of any answer, where a growth was refused.
+    /// its `expect`; then `InJob` for the tables among the rows of `never`, then with `OutOfRange` for the names before whose steps some is asked, and
+    /// for the rows. `OutOfMemory` comes in place of any answer, where a growth was refused.
     fn read(alloc: Global, bytes: &[u8]) -> Result<Self, JobFault>;
 }
 
@@ -144,6 +147,11 @@ fn with_rows(
     requires few { step_count (lists_of draft.scripts.items) ≤ 256 }
     ensures { Gives reading_view result (never_of (head_view head.now) (option_map (λ s. items_view s.now) values.entry) (draft_view draft)) }
 {
+    let mut draft = draft;
+    match push_provisos(&mut draft.provisos, draft.names.as_slice(), values) {
+        Ok(()) => {}
+        Err(fault) => return Err(fault),
+    }
     let never = match rows_in(alloc, &draft, values) {
         Ok(never) => never,
         Err(fault) => return Err(fault),
@@ -155,6 +163,7 @@ fn with_rows(
         filed,
         conditions,
         expected,
+        provisos,
     } = draft;
     let job = Job::new(head.capacity, head.turns, scripts, conditions, expected);
     Ok(Reading {
@@ -163,6 +172,7 @@ fn with_rows(
         texts,
         names,
         filed,
+        provisos,
     })
 }
 

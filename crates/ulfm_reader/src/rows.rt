@@ -1,16 +1,18 @@
 //! The rows of answers of which no run may have all.
-ghost use Rattle.std.specs.Prelude.{◌≡◌, [], IfErr, is_some, map, option_map};
+ghost use Rattle.std.specs.Prelude.{◌≡◌, [], IfErr, codes, is_some, map, option_map};
 ghost use Rattle.std.specs.List.{list_all};
-ghost use Rattle.toml.specs.Data.{as_array, as_str};
+ghost use Rattle.toml.specs.Data.{as_str};
 ghost use Rattle.toml.specs.View.{view, table_view, items_view};
 ghost use Rattle.ulfm_expand.specs.Lines.{line_view};
 ghost use Rattle.ulfm_reader.specs.JobText.{Gives, in_job, rows_of};
-ghost use Rattle.ulfm_reader.specs.Never.{claims_onto, is_row, is_within, never_items, never_out, row_in, rows_in, rows_onto};
+ghost use Rattle.ulfm_reader.specs.Never.{are_texts, claims_onto, has_before, is_row, is_within, never_items, never_out, row_in, rows_in, rows_onto};
+ghost use Rattle.ulfm_reader.specs.Provisos.{items_by};
 ghost use Rattle.ulfm_reader.specs.inside.Reading.{draft_view, map_ok};
 
 use crate::claim::claim_at;
 use crate::draft::Draft;
 use crate::fields::value_at;
+use crate::proviso::items_by;
 use std::alloc::Global;
 use toml::{Table, Value};
 use ulfm_expand::{Line, MOST_ROWS, rows_out};
@@ -24,27 +26,44 @@ fn are_texts(values: &[Value]) -> bool
     values.iter().all(|value| value.is_str())
 }
 
-/// Whether a value is an array of texts.
-fn is_row(value: &Value) -> bool
-    ensures { result ≡ is_row (view value.now) }
+/// Whether there is a list of texts alone.
+fn has_texts(values: Option<&[Value]>) -> bool
+    ensures { result ≡ are_texts (option_map (λ s. items_view s.now) values.entry) }
 {
-    match value.as_array() {
-        Some(values) => {
-            let values = values.as_slice();
-            are_texts(values)
-        }
+    match values {
+        Some(values) => are_texts(values),
         None => false,
     }
 }
 
-/// Whether each value is an array of texts.
+/// Whether a table has a text at the key `before`, where there is one.
+fn has_before(table: Option<&Table>) -> bool
+    ensures { result ≡ has_before (option_map (λ t. table_view t.now) table.entry) }
+{
+    match table {
+        Some(table) => match value_at(table, "before") {
+            Some(name) => name.is_str(),
+            None => false,
+        },
+        None => true,
+    }
+}
+
+/// Whether a value is an array of texts, or a table of one and of a name.
+fn is_row(value: &Value) -> bool
+    ensures { result ≡ is_row (view value.now) }
+{
+    has_texts(items_by(value, "row")) && has_before(value.as_table())
+}
+
+/// Whether each value is a row.
 fn are_rows(values: &[Value]) -> bool
     ensures { result ≡ list_all (λ v. is_row (view v)) values.now }
 {
     values.iter().all(|value| is_row(value))
 }
 
-/// The array of arrays of texts at the key `never`, where it is there.
+/// The array of rows at the key `never`, where it is there.
 pub fn never_values(table: &Table) -> Result<Option<&[Value]>, Fault>
     ensures { map_ok (option_map (λ s. items_view s.now)) result ≡ never_items (table_view table.now) }
 {
@@ -110,17 +129,17 @@ fn claims_of(alloc: Global, draft: &Draft, values: &[Value]) -> Result<Vec<Claus
     Ok(row)
 }
 
-/// The row of a value: an array of 2 to 8 texts.
+/// The row of a value: 2 to 8 texts.
 fn row_in(alloc: Global, draft: &Draft, value: &Value) -> Result<Vec<Clause>, JobFault>
-    ensures { Gives (λ row. row.items) result (in_job (row_in (draft_view draft.now).scripts draft.now.names.items (as_array (view value.now)))) }
+    ensures { Gives (λ row. row.items) result (in_job (row_in (draft_view draft.now).scripts draft.now.names.items (items_by (codes "row") (view value.now)))) }
 {
-    let Some(values) = value.as_array() else {
+    let Some(values) = items_by(value, "row") else {
         return Err(JobFault::InJob(Fault::BadKey));
     };
-    if !is_within(FEWEST_OF_ROW, MOST_OF_ROW, values.as_slice()) {
+    if !is_within(FEWEST_OF_ROW, MOST_OF_ROW, values) {
         return Err(JobFault::InJob(Fault::OutOfRange));
     }
-    claims_of(alloc, draft, values.as_slice())
+    claims_of(alloc, draft, values)
 }
 
 /// The rows of values.
@@ -172,8 +191,8 @@ pub fn texts_in(alloc: Global, values: Option<&[Value]>) -> Result<Vec<Vec<Text>
 {
     let mut rows = Vec::new(alloc);
     for value in values.unwrap_or(&[]) {
-        if let Some(row) = value.as_array() {
-            rows.push(texts_of(alloc, row.as_slice())?)?;
+        if let Some(row) = items_by(value, "row") {
+            rows.push(texts_of(alloc, row)?)?;
         }
     }
     Ok(rows)

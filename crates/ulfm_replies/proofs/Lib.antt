@@ -2,7 +2,9 @@ pub mod Flags
 pub mod Parsed
 pub mod Numbers
 pub mod Refused
+pub mod Labels
 pub mod Outside
+pub mod Held
 pub mod AsRead
 pub mod Texts
 pub mod Statuses

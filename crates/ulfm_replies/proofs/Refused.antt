@@ -5,6 +5,8 @@ use Rattle.ulfm_job.specs.declared.fault.JobFault.TheVariants.{NotToml, InJob, I
 use Rattle.ulfm_reader.specs.JobText.{job_in, job_of_bytes, reading_of_bytes}
 use Rattle.ulfm_json.specs.declared.form.Form.{Form}
 use Rattle.ulfm_replies.specs.Expanded.{IsExpandReply, full, unexpanded}
+use Rattle.ulfm_replies.specs.Named.{IsUnnamed}
+use Rattle.ulfm_replies.specs.Named as named
 use Rattle.ulfm_replies.specs.Places.{IsPlacesReply, unheld, unplaced}
 use Rattle.ulfm_replies.specs.Replies.{IsCheckReply, refused, no_memory, refused_in}
 use Rattle.ulfm_replies.specs.Stopped.{IsRefusal, no_job}
@@ -41,4 +43,10 @@ pub refused_at : {form : Form} {place : Place} (f : JobFault) (bytes : List ℕ)
 refused_at {form} {place} f bytes h = elim (by_memory f) [
   | inl e ↦ subst (λ (f : JobFault). IsRefusal form place bytes 1 (refused_in form f)) (sym e) stopped.no_memory
   | inr n ↦ no_job f (ap job_in (h n))
+]
+
+pub unnamed_refused : {form : Form} {text : List ℕ} (f : JobFault) (bytes : List ℕ) → (f ≢ OutOfMemory → reading_of_bytes bytes ≡ Err f) → IsUnnamed form text bytes 1 (refused_in form f)
+unnamed_refused {form} {text} f bytes h = elim (by_memory f) [
+  | inl e ↦ subst (λ (f : JobFault). IsUnnamed form text bytes 1 (refused_in form f)) (sym e) named.no_memory
+  | inr n ↦ named.no_job f (ap job_in (h n))
 ]

@@ -4,6 +4,8 @@ use Rattle.ulfm_stops.specs.declared.place.Place.{Place}
 use Rattle.ulfm_json.specs.declared.form.Form.{Form}
 use Rattle.ulfm_replies.specs.Expanded as expanded
 use Rattle.ulfm_replies.specs.Expanded.{IsExpandReply}
+use Rattle.ulfm_replies.specs.Named as named
+use Rattle.ulfm_replies.specs.Named.{IsUnnamed}
 use Rattle.ulfm_replies.specs.Places as places
 use Rattle.ulfm_replies.specs.Places.{IsPlacesReply}
 use Rattle.ulfm_replies.specs.Replies.{IsCheckReply, good, refused, no_memory, starved}
@@ -62,3 +64,9 @@ expand_known form bytes status text (expanded.expanded plan t is whole) = done
 expand_known form bytes status text (expanded.unexpanded f is) = no_job
 expand_known form bytes status text expanded.full = no_job
 expand_known form bytes status text expanded.starved = run_fails
+
+pub unnamed_known : (form : Form) (text bytes : List ℕ) (status : ℕ) (line : List ℕ) → IsUnnamed form text bytes status line → IsKnown status
+unnamed_known form text bytes status line (named.no_job f is) = no_job
+unnamed_known form text bytes status line (named.no_name read is none) = no_job
+unnamed_known form text bytes status line named.no_memory = no_job
+unnamed_known form text bytes status line named.starved = run_fails

@@ -1,6 +1,6 @@
 -- What the words of a command line ask for.
 use Rattle.std.specs.Prelude.{◌≡◌, ◌<◌, ◌≤◌, ◌⊎◌, ⊤, ℕ, Bool, List, [], ◌∷◌, Option, Some, None, is_some, not, option_map, codes, false, IfSome, unwrap_or, if◌then◌else◌}
-use Rattle.std.specs.Option.{option_and_then, option_map_or}
+use Rattle.std.specs.Option.{option_and_then, option_map_or, option_or}
 use Rattle.std.specs.Str.{bytes_eq}
 use Rattle.std.specs.Str.Parse.{digits_value, without_leading_plus}
 use Rattle.ulfm_replies.specs.declared.command.Carrier.{Carrier}
@@ -13,6 +13,8 @@ use Rattle.ulfm_json.specs.declared.style.Style.{Style}
 use Rattle.ulfm_json.specs.declared.style.Style.TheVariants as style
 use Rattle.ulfm_json.specs.declared.form.Form.{Form}
 use Rattle.ulfm_json.specs.declared.form.Form.TheVariants.{Words, Json}
+use Rattle.ulfm_json.specs.declared.wording.Wording.{Wording}
+use Rattle.ulfm_json.specs.declared.wording.Wording.TheVariants.{Plain, Mpi}
 use Rattle.ulfm_stops.specs.Text.{place_of_text}
 use Rattle.ulfm_stops.specs.declared.place.Place.{Place}
 use Rattle.ulfm_stops.specs.declared.place.Place.TheVariants.{Nowhere}
@@ -22,6 +24,7 @@ use Rattle.clap.specs.declared.error.kind.ErrorKind.{ErrorKind}
 use Rattle.clap.specs.declared.error.kind.ErrorKind.TheVariants.{DisplayHelp, DisplayVersion, InvalidValue}
 use Rattle.clap.specs.Kinds.{or_else}
 use Rattle.clap.specs.Words.{Row, Text, Kinds, IsAmong, all_of, first_of, subcommand_of, fault_of}
+use Rattle.ulfm_replies.specs.Naming.{may_name}
 use Rattle.ulfm_replies.specs.Rules.{most_turns, most_runs, most_states, usual_states, most_stops, most_threads, tool_app}
 
 -- the subcommand that the words name, and what was met of its options
@@ -54,10 +57,14 @@ number_given most (Some text) = if accepts false (Unsigned 1 most) text then Som
 abbrev pub turns_in : List Row → Option ℕ
 turns_in rows = number_given most_turns (first_of (codes "turns") rows)
 
--- where `--stop` stops ranks: nowhere if it is left out
+-- where a text stops ranks by the numbers of steps: nowhere if it may name steps, which the job settles
+abbrev pub place_written : Text → Option Place
+place_written text = option_or (place_of_text text) (if may_name text then Some Nowhere else None)
+
+-- where `--stop` stops ranks by the numbers of steps: nowhere if it is left out
 abbrev pub place_given : Option Text → Option Place
 place_given None = Some Nowhere
-place_given (Some text) = place_of_text text
+place_given (Some text) = place_written text
 
 -- the same by the options of a command
 abbrev pub place_in : List Row → Option Place
@@ -140,7 +147,7 @@ named_at name rows place =
     else (if bytes_eq name (codes "draw") then Some (Draw (style_of rows) (turns_in rows) place)
     else None)))))))
 
--- the same by the options alone, where `--stop` has the text of a place
+-- the same by the options alone, where `--stop` has a text that may be a place
 abbrev pub named : Text → List Row → Option Wanted
 named name rows = option_and_then (named_at name rows) (place_in rows)
 
@@ -154,20 +161,24 @@ abbrev pub files_in : Option (Text × List Row) → List Text
 files_in None = []
 files_in (Some p) = unwrap_or (all_of (codes "file") p.1) []
 
+-- the words that a command's options ask for
+abbrev pub wording_of : List Row → Wording
+wording_of rows = if is_flagged (codes "mpi") rows then Mpi else Plain
+
 -- the form that a command's options ask for
 abbrev pub form_of : List Row → Form
-form_of rows = if is_flagged (codes "json") rows then Json else Words
+form_of rows = if is_flagged (codes "json") rows then Json else Words (wording_of rows)
 
 -- the form that the subcommand's options ask for
 abbrev pub form_in : Option (Text × List Row) → Form
-form_in None = Words
+form_in None = Words Plain
 form_in (Some p) = form_of p.1
 
 -- the form in which the words want what came of a job
 abbrev pub form_asked : List Text → Form
 form_asked words = form_in (asked words)
 
--- the fault of words that mean no command, as where there is no carrier of that name, or no place with that text
+-- the fault of words that mean no command, as where there is no carrier of that name, or a text that can't be a place
 abbrev pub unmeant : Option Wanted → Kinds
 unmeant None = InvalidValue ∷ []
 unmeant (Some wanted) = []

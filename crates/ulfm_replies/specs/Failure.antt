@@ -19,7 +19,7 @@ failed_json run.Untrue = codes "{\"failed\":\"F4\"}\n"
 
 -- either, in this form
 abbrev pub failed_in : Form → Failure → List ℕ
-failed_in Words failure = failed_text failure
+failed_in (Words wording) failure = failed_text failure
 failed_in Json failure = failed_json failure
 
 -- the line for a run that found no memory, in this form
@@ -28,4 +28,4 @@ out_of_memory_in form = failed_in form run.OutOfMemory
 
 -- the same in words
 abbrev pub out_of_memory_text : List ℕ
-out_of_memory_text = out_of_memory_in Words
+out_of_memory_text = failed_text run.OutOfMemory

@@ -1,10 +1,14 @@
 pub mod Rules
+pub mod Naming
 pub mod CommandLine
 pub mod Wish
 pub mod Asked
 pub mod Asking
+pub mod AskedFor
+pub mod Holding
 pub mod Failure
 pub mod Replies
 pub mod Expanded
 pub mod Stopped
+pub mod Named
 pub mod Places

@@ -24,7 +24,7 @@ place_json place = codes "{\"place\":\"" ++ place_text place ++ codes "\"}\n"
 
 -- either, in this form
 abbrev pub place_line_in : Form → Place → List ℕ
-place_line_in Words place = place_line place
+place_line_in (Words wording) place = place_line place
 place_line_in Json place = place_json place
 
 -- all places, in their order

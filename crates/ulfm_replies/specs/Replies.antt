@@ -45,7 +45,7 @@ refused_json f = codes "{\"refused\":" ++ job_fault_json f ++ codes "}\n"
 
 -- either, in this form
 abbrev pub refused_in : Form → JobFault → List ℕ
-refused_in Words f = refused_text f
+refused_in (Words wording) f = refused_text f
 refused_in Json f = refused_json f
 
 -- the line for a good job
@@ -58,7 +58,7 @@ good_json ranks steps = codes "{\"job\":\"ok\",\"ranks\":" ++ decimal ranks ++ c
 
 -- either, in this form
 abbrev pub good_in : Form → ℕ → ℕ → List ℕ
-good_in Words ranks steps = good_line ranks steps
+good_in (Words wording) ranks steps = good_line ranks steps
 good_in Json ranks steps = good_json ranks steps
 
 -- The status and the text, in this form, that `check` gives for these bytes: the line of their job with 0, of its refusal with 1,

@@ -56,9 +56,13 @@ turns_rule = number_rule (codes "turns") most_turns
 abbrev pub stop_rule : Rule
 stop_rule = record (new_rule (codes "stop")) { long = Some (codes "stop"); value_names = 1 }
 
--- a command with the option `--stop`, and with what each of them has
+-- a flag of this name
+abbrev pub flag_rule : Text → Rule
+flag_rule name = record (new_rule name) { long = Some name; action = Some SetTrue }
+
+-- a command with the option `--stop`, with the flag `--mpi`, and with what each of them has
 abbrev pub of_stopped : App → App
-of_stopped app = of_jobs (with_rule app stop_rule)
+of_stopped app = of_jobs (with_rule (with_rule app stop_rule) (flag_rule (codes "mpi")))
 
 -- the command `replay` with its options
 abbrev pub replay_app : App
@@ -99,10 +103,6 @@ html_rule = record (new_rule (codes "html")) { long = Some (codes "html"); value
 -- the option `--only` with one value
 abbrev pub only_rule : Rule
 only_rule = record (new_rule (codes "only")) { long = Some (codes "only"); value_names = 1 }
-
--- a flag of this name
-abbrev pub flag_rule : Text → Rule
-flag_rule name = record (new_rule name) { long = Some name; action = Some SetTrue }
 
 -- a command with the forms of a picture: the flags `--mermaid` and `--text`
 abbrev pub of_pictures : App → App

@@ -1,5 +1,5 @@
 -- What a text asks for, with the stops of a place.
-use Rattle.std.specs.Prelude.{◌≡◌, ◌==◌, ◌<◌, ◌+◌, ℕ, List, ◌++◌, length, map, Result, Ok, Err, codes, string_bytes, if◌then◌else◌}
+use Rattle.std.specs.Prelude.{◌≡◌, ◌==◌, ◌<◌, ◌+◌, ℕ, List, [], ◌++◌, length, map, Result, Ok, Err, codes, string_bytes, if◌then◌else◌}
 use Rattle.ulfm_job.specs.declared.clause.Clause.{Clause}
 use Rattle.ulfm_job.specs.declared.fault.JobFault.{JobFault}
 use Rattle.ulfm_job.specs.declared.fault.JobFault.TheVariants.{TooLarge, OutOfMemory}
@@ -9,31 +9,17 @@ use Rattle.ulfm_stops.specs.Text.{place_text}
 use Rattle.ulfm_stops.specs.declared.place.Place.{Place}
 use Rattle.ulfm_stops.specs.declared.place.Place.TheVariants.{Nowhere, One, Two}
 use Rattle.ulfm_stops.specs.declared.stop.Stop.{Stop}
-use Rattle.ulfm_reader.specs.JobText.{Reading, job_of_bytes, reading_of_bytes, rows_of}
+use Rattle.ulfm_reader.specs.JobText.{job_of_bytes, reading_of_bytes}
 use Rattle.ulfm_reader.specs.Plan.{plan_of}
 use Rattle.ulfm_reader.specs.declared.filed.Filed.{Filed}
 use Rattle.ulfm_reader.specs.declared.name.Name.{Name}
 use Rattle.ulfm_reader.specs.declared.reading.Reading.{Reading as Kept}
 use Rattle.ulfm_json.specs.declared.form.Form.{Form}
 use Rattle.ulfm_json.specs.declared.form.Form.TheVariants.{Words, Json}
+pub use Rattle.ulfm_replies.specs.AskedFor.{Asked, asked_view, reading_as}
+use Rattle.ulfm_replies.specs.Holding.{held_at}
 use Rattle.ulfm_replies.specs.Replies.{refused_in}
 use Rattle.ulfm_replies.specs.declared.reply.Reply.{Reply}
-
--- what was read of a text: its job, the rows of answers of which no run may have all, the names of steps, and the place in the file from which
--- each comes
-pub record Asked : Type 0 where
-  pub job : JobView
-  pub rows : List (List Clause)
-  pub names : List Name
-  pub filed : List Filed
-
--- the same by its plan
-abbrev pub reading_as : Asked → Reading
-reading_as asked = record { plan = plan_of asked.job; never = asked.rows; names = asked.names; filed = asked.filed }
-
--- what was read, as it is kept
-abbrev pub asked_view : Kept → Asked
-asked_view kept = record { job = kept.job; rows = rows_of kept.never.items; names = kept.names.items; filed = kept.filed.items }
 
 -- clauses by the numbers that steps have beside a stop
 abbrev pub clauses_beside : Stop → ℕ → List Clause → List Clause
@@ -55,20 +41,25 @@ filed_beside stop n one = record one { at = number_beside stop n one.rank one.at
 abbrev pub steps_without : Stop → JobView → ℕ
 steps_without stop j = length (script_at j stop.rank)
 
--- what was read, with one more stop
+-- what was read and holds at its place, with one more stop
 abbrev pub asked_beside : Stop → Asked → Asked
 asked_beside stop asked = record {
   job = stopped stop asked.job;
   rows = map (clauses_beside stop (steps_without stop asked.job)) asked.rows;
   names = map (name_beside stop (steps_without stop asked.job)) asked.names;
   filed = map (filed_beside stop (steps_without stop asked.job)) asked.filed;
+  provisos = [];
 }
 
--- what was read, with the stops of a place
+-- the same with the stops of a place
+abbrev pub beside_stops : Place → Asked → Asked
+beside_stops Nowhere asked = asked
+beside_stops (One stop) asked = asked_beside stop asked
+beside_stops (Two first second) asked = asked_beside second (asked_beside first asked)
+
+-- what was read, as far as it holds at a place, with the stops of that
 abbrev pub asked_at : Place → Asked → Asked
-asked_at Nowhere asked = asked
-asked_at (One stop) asked = asked_beside stop asked
-asked_at (Two first second) asked = asked_beside second (asked_beside first asked)
+asked_at place asked = beside_stops place (held_at place asked)
 
 -- these bytes ask for this, with the stops of a place
 pub record IsAskedAt (place : Place) (bytes : List ℕ) (asked : Asked) : Type 0 where
@@ -87,7 +78,7 @@ no_place_json place = codes "{\"place_refused\":\"" ++ place_text place ++ codes
 
 -- either, in this form
 abbrev pub no_place_in : Form → Place → List ℕ
-no_place_in Words place = no_place_text place
+no_place_in (Words wording) place = no_place_text place
 no_place_in Json place = no_place_json place
 
 -- The status and the text, in this form, where nothing is played with the stops of a place: the line of the job's refusal, which is J6 too

@@ -1,7 +1,7 @@
 //! The command line.
 ghost use Rattle.std.specs.Prelude.{◌≡◌, [], codes, Some, map, option_map, unwrap_or, IfOk, IfSome};
 ghost use Rattle.clap.specs.Words.{FailsBy, all_of, first_of, found_of, rows_of, subcommand_rows_of};
-ghost use Rattle.ulfm_replies.specs.CommandLine.{AreInRange, HasRanges, asked, carrier_named, faults, form_asked, form_in, form_of, AreTurns, files_in, meant, named, named_at, run_options, turns_in};
+ghost use Rattle.ulfm_replies.specs.CommandLine.{AreInRange, HasRanges, asked, carrier_named, faults, form_asked, form_in, form_of, wording_of, AreTurns, files_in, meant, named, named_at, run_options, turns_in};
 ghost use Rattle.ulfm_replies.specs.Wish.{wish_asked, wish_view};
 
 use crate::flagged::{is_flagged, is_strict, style_of};
@@ -17,7 +17,7 @@ use clap::{ArgMatches, Command, Error};
 use std::alloc::{AllocError, Global};
 use std::convert::AsStr;
 use ulfm_job::limits::MOST_TURNS;
-use ulfm_json::{Form, Style};
+use ulfm_json::{Form, Style, Wording};
 use ulfm_stops::Place;
 
 /// What takes the items of a run from rank to rank.
@@ -224,7 +224,7 @@ fn form_in(matches: &ArgMatches<'_>) -> Form
 {
     match matches.subcommand() {
         Some((_, options)) => form_of(options),
-        None => Form::Words,
+        None => Form::Words(Wording::Plain),
     }
 }
 
@@ -235,7 +235,18 @@ fn form_of(options: &ArgMatches<'_>) -> Form
     if is_flagged(options, "json") {
         Form::Json
     } else {
-        Form::Words
+        Form::Words(wording_of(options))
+    }
+}
+
+/// The words that a command's options ask for.
+fn wording_of(options: &ArgMatches<'_>) -> Wording
+    ensures { result ≡ wording_of (rows_of (found_of options.now)) }
+{
+    if is_flagged(options, "mpi") {
+        Wording::Mpi
+    } else {
+        Wording::Plain
     }
 }
 

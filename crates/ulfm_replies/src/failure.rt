@@ -24,9 +24,9 @@ pub fn failed_line(form: Form, failure: Failure) -> &'static str
     ensures { result.now ≡ failed_in form failure }
 {
     match (form, failure) {
-        (Form::Words, Failure::NoThread) => "run failed: F2\n",
-        (Form::Words, Failure::OutOfMemory) => "run failed: F3\n",
-        (Form::Words, Failure::Untrue) => "run failed: F4\n",
+        (Form::Words(_), Failure::NoThread) => "run failed: F2\n",
+        (Form::Words(_), Failure::OutOfMemory) => "run failed: F3\n",
+        (Form::Words(_), Failure::Untrue) => "run failed: F4\n",
         (Form::Json, Failure::NoThread) => "{\"failed\":\"F2\"}\n",
         (Form::Json, Failure::OutOfMemory) => "{\"failed\":\"F3\"}\n",
         (Form::Json, Failure::Untrue) => "{\"failed\":\"F4\"}\n",

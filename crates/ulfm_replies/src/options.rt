@@ -56,7 +56,7 @@ pub fn stop_option<'a>(alloc: Global) -> Arg<'a>
         .long("stop")
         .value_name("PLACE")
         .help(
-            "Stops ranks: 0.2 is rank 0 before its step 2, 1.5* rank 1 inside its step 5, 0.2+1.3 two ranks, - none",
+            "Stops ranks: 0.2 is rank 0 before its step 2, or 0.NAME before that of a name, 1.5* rank 1 inside its step 5, 0.2+1.3 two ranks, - none",
         )
 }
 
@@ -68,7 +68,8 @@ pub fn stops_option<'a>(alloc: Global, help: &'a str) -> Arg<'a>
     number_option(alloc, "stops", MOST_STOPS, help)
 }
 
-/// The option `--carrier`.
+/// The option `--carrier`. It takes any text, as clap keeps a parser's possible values behind references, of which no definition can say where
+/// they point. The name of no carrier is made an error of clap's kind, which tells the name.
 pub fn carrier_option<'a>(alloc: Global) -> Arg<'a>
     ensures rule { rule_of result ≡ carrier_rule }
     ensures local { result.global ≡ false }

@@ -1,15 +1,16 @@
 //! Where ranks stop, by the options of a command.
 ghost use Rattle.std.specs.Prelude.{◌≡◌, ◌<◌, ◌≤◌, option_map, IfSome};
 ghost use Rattle.clap.specs.Words.{found_of, rows_of};
-ghost use Rattle.ulfm_replies.specs.CommandLine.{AreStops, AreThreads, are_together, is_given, number_given, place_given, place_in, stops_in, stops_wanted, threads_in};
+ghost use Rattle.ulfm_replies.specs.CommandLine.{AreStops, AreThreads, are_together, is_given, number_given, place_given, place_in, place_written, stops_in, stops_wanted, threads_in};
 
 use crate::command::value_of;
+use crate::naming::may_name;
 use crate::number::number_given;
 use crate::options::{MOST_STOPS, MOST_THREADS};
 use clap::ArgMatches;
 use ulfm_stops::Place;
 
-/// Where `--stop` stops ranks: nowhere if it is left out. Nothing where its text is no place.
+/// Where `--stop` stops ranks by the numbers of steps: nowhere if it is left out. Nothing where its text can't be a place.
 pub(crate) fn place_in(options: &ArgMatches<'_>) -> Option<Place>
     ensures { result ≡ place_in (rows_of (found_of options.now)) }
 {
@@ -21,8 +22,24 @@ fn place_given(text: Option<&str>) -> Option<Place>
     ensures { result ≡ place_given (option_map (λ s. s.now) text.entry) }
 {
     match text {
-        Some(text) => Place::parse(text),
+        Some(text) => place_written(text),
         None => Some(Place::Nowhere),
+    }
+}
+
+/// Where a text stops ranks by the numbers of steps: nowhere if it may name steps, which the job settles.
+fn place_written(text: &str) -> Option<Place>
+    ensures { result ≡ place_written text.now }
+{
+    match Place::parse(text) {
+        Some(place) => Some(place),
+        None => {
+            if may_name(text) {
+                Some(Place::Nowhere)
+            } else {
+                None
+            }
+        }
     }
 }
 

@@ -3,8 +3,8 @@
 use crate::verdict::Verdict;
 use std::alloc::{AllocError, Global};
 use std::fmt;
-use ulfm_job::{Clause, Text};
-use ulfm_reader::{Reading, name_at};
+use ulfm_job::{Clause, Label, Text};
+use ulfm_reader::{Proviso, Reading, Subject, name_at};
 use ulfm_stops::Place;
 
 /// A step as it is told of.
@@ -40,8 +40,14 @@ pub enum Remark {
     NoGoal(String),
     /// No step of the job has this name.
     NoName(String),
+    /// The job hasn't the place of this text, which names steps.
+    NoPlace(String),
     /// A step has an answer that is nearly always a mistake of the script: how it begins, and at which places, where some are looked at.
     Mistaken(StepTold, &'static str, Vec<Place>),
+    /// What a step expects only before the steps of this name holds at no place that was looked at.
+    UnheldStep(StepTold, Label),
+    /// The same of the row of `never` of this number.
+    UnheldRow(usize, Label),
 }
 
 impl StepTold {
@@ -146,6 +152,21 @@ impl Remark {
         Ok(Remark::Came(number, texts))
     }
 
+    /// That what a proviso is about holds at no place that was looked at.
+    ///
+    /// # Errors
+    ///
+    /// `AllocError` where a growth was refused.
+    pub fn unheld(alloc: Global, asked: &Reading, proviso: &Proviso) -> Result<Remark, AllocError> {
+        let before = proviso.before.copy();
+        Ok(match proviso.subject {
+            Subject::Step(rank, at) => {
+                Remark::UnheldStep(StepTold::of(alloc, asked, rank, at as usize)?, before)
+            }
+            Subject::Row(number) => Remark::UnheldRow(number, before),
+        })
+    }
+
     /// That a text names no answer of the job, alone. Nothing where a growth was refused.
     pub fn no_goal(alloc: Global, goal: &str) -> Option<Vec<Remark>> {
         let goal = String::from_str(alloc, goal).ok()?;
@@ -156,6 +177,12 @@ impl Remark {
     pub fn no_name(alloc: Global, name: &str) -> Option<Vec<Remark>> {
         let name = String::from_str(alloc, name).ok()?;
         alone(alloc, Remark::NoName(name))
+    }
+
+    /// That the job hasn't the place of a text, alone. Nothing where a growth was refused.
+    pub fn no_place(alloc: Global, text: &str) -> Option<Vec<Remark>> {
+        let text = String::from_str(alloc, text).ok()?;
+        alone(alloc, Remark::NoPlace(text))
     }
 }
 

@@ -9,7 +9,7 @@ use ulfm_job::{Fault, Job, JobFault};
 use ulfm_json::Form;
 use ulfm_reader::ReadJob;
 
-/// The statuses (docs/JOBS.md).
+/// The statuses (docs/JSON.md).
 pub const DONE: u8 = 0;
 
 /// The job is refused.
@@ -128,7 +128,7 @@ fn good_in(alloc: Global, form: Form, ranks: u8, steps: usize) -> Result<String,
     ensures { IfOk result (λ text. string_bytes text ≡ good_in form ranks steps) }
 {
     match form {
-        Form::Words => good_line(alloc, ranks, steps),
+        Form::Words(_) => good_line(alloc, ranks, steps),
         Form::Json => good_json(alloc, ranks, steps),
     }
 }
@@ -138,7 +138,7 @@ fn refused_in(alloc: Global, form: Form, fault: JobFault) -> Result<String, Allo
     ensures { IfOk result (λ text. string_bytes text ≡ refused_in form fault) }
 {
     match form {
-        Form::Words => {
+        Form::Words(_) => {
             let fault = FaultText(fault);
             format!(in alloc; "job refused: {fault}\n")
         }

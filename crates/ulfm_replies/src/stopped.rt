@@ -2,11 +2,13 @@
 ghost use Rattle.std.specs.Prelude.{◌≡◌, ◌≤◌, ℕ, List, Ok, IfOk, map, string_bytes};
 ghost use Rattle.ulfm_stops.specs.Place.{IsPlaceOf, IsStopOf};
 ghost use Rattle.ulfm_reader.specs.JobText.{reading_of_bytes, rows_of};
-ghost use Rattle.ulfm_replies.specs.Stopped.{IsAsked, asked_at, asked_beside, asked_view, clauses_beside, filed_beside, name_beside, no_place_in, no_place_json, no_place_text, number_beside, reading_as};
+ghost use Rattle.ulfm_replies.specs.Stopped.{IsAsked, asked_at, asked_beside, asked_view, beside_stops, clauses_beside, filed_beside, name_beside, no_place_in, no_place_json, no_place_text, number_beside, reading_as};
 
+use crate::copied::copied_texts;
+use crate::holding::held_at;
 use crate::reply::{JOB_REFUSED, Reply, refusal};
 use std::alloc::{AllocError, Global};
-use ulfm_job::{Clause, JobFault, MOST_STEPS, Text};
+use ulfm_job::{Clause, JobFault, MOST_STEPS};
 use ulfm_json::Form;
 use ulfm_reader::{Filed, Name, ReadJob, Reading};
 use ulfm_stops::{Place, Stop};
@@ -41,13 +43,22 @@ fn placed(
     if read.job.len() + place.len() > MOST_STEPS {
         return Ok(Err(refusal(alloc, form, JobFault::TooLarge)?));
     }
-    Ok(Ok(with_stops(alloc, place, read)?))
+    Ok(Ok(stopped_at(alloc, place, &read)?))
 }
 
-/// What was read, with the stops of a place that its job has.
+/// What was read, as far as it holds at a place that its job has, with the stops of that.
+pub fn stopped_at(alloc: Global, place: Place, read: &Reading) -> Result<Reading, AllocError>
+    requires { IsPlaceOf read.now.job place }
+    ensures { IfOk result (λ made. asked_view made ≡ asked_at place (asked_view read.now)) }
+{
+    let read = held_at(alloc, place, read)?;
+    with_stops(alloc, place, read)
+}
+
+/// What was read and holds at a place, with the stops of that.
 fn with_stops(alloc: Global, place: Place, read: Reading) -> Result<Reading, AllocError>
     requires { IsPlaceOf read.job place }
-    ensures { IfOk result (λ made. asked_view made ≡ asked_at place (asked_view read)) }
+    ensures { IfOk result (λ made. asked_view made ≡ beside_stops place (asked_view read)) }
 {
     match place {
         Place::Nowhere => Ok(read),
@@ -64,7 +75,7 @@ fn no_place(alloc: Global, form: Form, place: Place) -> Result<Reply, AllocError
     ensures { IfOk result (λ r. (r.status ≡ 1) × (string_bytes r.text ≡ no_place_in form place)) }
 {
     let text = match form {
-        Form::Words => no_place_text(alloc, place)?,
+        Form::Words(_) => no_place_text(alloc, place)?,
         Form::Json => no_place_json(alloc, place)?,
     };
     Ok(Reply {
@@ -91,9 +102,9 @@ fn no_place_json(alloc: Global, place: Place) -> Result<String, AllocError>
     format!(in alloc; "{{\"place_refused\":\"{place}\"}}\n")
 }
 
-/// What was read, with one more stop of its job: steps of its rank behind the stop have a number more, by which rows, names and places
-/// in the file then tell them.
-pub fn asked_beside(alloc: Global, stop: Stop, read: &Reading) -> Result<Reading, AllocError>
+/// What was read and holds at its place, with one more stop of its job: steps of its rank behind the stop have a number more, by which rows, names
+/// and places in the file then tell them.
+fn asked_beside(alloc: Global, stop: Stop, read: &Reading) -> Result<Reading, AllocError>
     requires { IsStopOf read.now.job stop }
     ensures { IfOk result (λ made. asked_view made ≡ asked_beside stop (asked_view read.now)) }
 {
@@ -108,6 +119,7 @@ pub fn asked_beside(alloc: Global, stop: Stop, read: &Reading) -> Result<Reading
             texts: copied_texts(alloc, read.texts.as_slice())?,
             names,
             filed,
+            provisos: Vec::new(alloc),
         }),
         Err(_) => Err(AllocError),
     }
@@ -128,19 +140,6 @@ fn rows_beside(
         moved.push(stop.clauses(alloc, len, row.as_slice())?)?;
     }
     Ok(moved)
-}
-
-/// The texts of rows once more: a stop changes none.
-fn copied_texts(alloc: Global, rows: &[Vec<Text>]) -> Result<Vec<Vec<Text>>, AllocError> {
-    let mut copies = Vec::new(alloc);
-    for row in rows {
-        let mut copy = Vec::new(alloc);
-        for text in row {
-            copy.push(text.copy(alloc)?)?;
-        }
-        copies.push(copy)?;
-    }
-    Ok(copies)
 }
 
 /// Names by the numbers that steps have beside a stop.

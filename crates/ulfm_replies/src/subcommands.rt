@@ -61,13 +61,19 @@ fn of_jobs<'a>(alloc: Global, command: Command<'a>) -> Result<Command<'a>, Alloc
     command.arg(files(alloc))
 }
 
-/// A command with the option `--stop`, and with what each of them has.
+/// A command with the option `--stop`, with the flag `--mpi`, and with what each of them has.
 fn of_stopped<'a>(alloc: Global, command: Command<'a>) -> Result<Command<'a>, AllocError>
     requires { (out-Command command).has_globals ≡ false }
     ensures app { IfOk result (λ r. app_of r ≡ of_stopped (app_of command.entry)) }
     ensures local { IfOk result (λ r. (out-Command r).has_globals ≡ false) }
 {
     let command = command.arg(stop_option(alloc))?;
+    let mpi = plain_flag(
+        alloc,
+        "mpi",
+        "Writes calls and answers in the words of MPI and ULFM",
+    );
+    let command = command.arg(mpi)?;
     of_jobs(alloc, command)
 }
 
@@ -198,7 +204,9 @@ fn of_chosen<'a>(alloc: Global, command: Command<'a>) -> Result<Command<'a>, All
     command.arg(notes)
 }
 
-/// A command with what tells people of lists, the flag `--color` and the option `--html`, and with what chooses their lines.
+/// A command with what tells people of lists, the flag `--color` and the option `--html`, and with what chooses their lines. `--color` takes no
+/// words as `auto`, `always` and `never`: clap would refuse others through references, of which no definition can say where they point. So
+/// `./ulfm` asks whether there is a terminal, and `NO_COLOR` keeps it from asking.
 fn of_told<'a>(alloc: Global, command: Command<'a>) -> Result<Command<'a>, AllocError>
     requires { (out-Command command).has_globals ≡ false }
     ensures app { IfOk result (λ r. app_of r ≡ of_told (app_of command.entry)) }

@@ -3,6 +3,7 @@ ghost use Rattle.std.specs.Prelude.{◌≡◌, IfOk};
 ghost use Rattle.clap.specs.Words.{kind_of};
 
 use crate::command::value_of;
+use crate::naming::may_name;
 use clap::error::ErrorKind;
 use clap::{ArgMatches, Command, Error};
 use std::alloc::{AllocError, Global};
@@ -26,9 +27,9 @@ pub(crate) fn unmeant(
 /// Why these options of a command ask for nothing: a place, two options or a carrier.
 fn unmeant_text(alloc: Global, options: &ArgMatches<'_>) -> Result<String, AllocError> {
     if let Some(text) = value_of(options, "stop") {
-        if Place::parse(text).is_none() {
+        if Place::parse(text).is_none() && !may_name(text) {
             return format!(in alloc;
-                "invalid value '{text}' for '--stop <PLACE>'\n  [a rank, a dot and the number of a step, as 0.2, with a star to die inside it, as 1.5*; two of them, as 0.2+1.3; or -]"
+                "invalid value '{text}' for '--stop <PLACE>'\n  [a rank, a dot and the number or the name of a step, as 0.2, with a star to die inside it, as 1.5*; two of them, as 0.2+1.3; or -]"
             );
         }
         if value_of(options, "stops").is_some() {

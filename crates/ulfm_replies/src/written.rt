@@ -45,7 +45,7 @@ fn push_place(text: &mut String, form: Form, place: Place) -> Result<(), AllocEr
     ensures { OnOk result (string_bytes text.new ≡ string_bytes text.old ++ place_line_in form place) }
 {
     match form {
-        Form::Words => write!(text, "{place}\n"),
+        Form::Words(_) => write!(text, "{place}\n"),
         Form::Json => write!(text, "{{\"place\":\"{place}\"}}\n"),
     }
 }

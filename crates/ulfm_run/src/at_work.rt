@@ -135,7 +135,7 @@ impl<R: Wait, E: Ends, D: Decider> AtWork<'_, R, E, D> {
 
     /// Turns without a step, for the others: until all ranks have finished and then `STILL_TURNS` in a row moved nothing. With the one
     /// that found no step left they are at most as many as a step has polls. A rank that stopped goes on only until nothing is left to go
-    /// out.
+    /// out. They end before that, since with a million turns for a step a run would else take seconds to do nothing.
     fn serve(&mut self)
         requires at_work { IsAtWork E.place E.count E.pushed E.taken E.ready self.old.job.now self.old.me self.old.worker.player self.old.worker.end }
         requires over { IsOver (script_at self.old.job.now self.old.me) self.old.worker.player.player }

@@ -1,4 +1,8 @@
 //! A job, from its ends and deciders to its report.
+//!
+//! Deciders may know decisions before a run: all that is promised holds with them too, since a decision that isn't true of what ranks report
+//! gives `Untrue`. Room for the report is made before it is looked at, so where memory lacks then, that is the answer, also of an untrue one.
+//! No room that is made before the ranks run rules this out: the kit's join of threads gives what they made in a list that grows after they ran.
 ghost use Rattle.std.specs.Prelude.{◌≡◌, ◌≤◌, ◌↔◌, [], ℕ, length, map, vec_len, vec_capacity, IsTrue, Err, IfOk, IfErr, OnOk};
 ghost use Rattle.std.specs.declared.alloc.Global.{Global as Heap};
 ghost use Rattle.std.specs.declared.vec.Vec.{Vec as Listed};

@@ -1,4 +1,13 @@
 //! One order of all that ranks report: what is taken is owed earlier, and what is adopted proposed (MPI 4.0, 3.5; ULFM).
+//!
+//! It is looked for, since the flow of items speaks of each pair of ranks at its end alone: it allows two ranks which each send after they
+//! received from the other. One walk over all logs finds an order if there is one, since a rank that goes on hinders none.
+//!
+//! An item is owed if the sender's entries so far allow one more of its kind: of a message, that the sender sent more to this rank than it took;
+//! of the notice of a stop, that the sender stopped; of word of a revocation or of an entry, that the sender's log has one. Which message it is,
+//! and that it comes once, the flow says. A decision is proposed if some rank's log proposes it, up to where that rank adopted a decision on this
+//! topic, or failed to for want of memory. A rank's own adoption counts, and that of another one before its entry is there: a thread may see
+//! the decision between the step that hands it in and the entry.
 ghost use Rattle.std.specs.Prelude.{◌≡◌, ◌≤◌, ◌↔◌, ℕ, IsTrue, IfSome, IfNone, false, length, take};
 ghost use Rattle.ulfm_laws.specs.Order.{HaveOneOrder};
 ghost use Rattle.ulfm_run.specs.inside.Walk.{GoesOn, HaveOrder, MayPass, IsOwedByWalked, StepsOn, AreAtEnds};

@@ -1,4 +1,8 @@
 //! Room on the way from rank to rank and in inboxes, as reports tell of it (ULFM, stops).
+//!
+//! The program asks for it, which makes the ends: `run_job` doesn't know their places. Before its stop a rank's items may wait in its outbox,
+//! so they need no room. Of what was on the way only what was taken counts, since no report tells when a lost item was lost. It is counted by
+//! pairs of ranks, as rings have places, also over shared inboxes, which hold less.
 ghost use Rattle.std.specs.Prelude.{◌≡◌, ◌≤◌, ◌↔◌, IsTrue, length};
 ghost use Rattle.ulfm_laws.specs.Flow.{AreWithin};
 ghost use Rattle.ulfm_laws.specs.Room.{HaveRoom, takes_sent, taken_behind};

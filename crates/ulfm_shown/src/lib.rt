@@ -4,8 +4,13 @@
 //!     world.apply(event)?;
 //!     recorder.after(&world, underway)?;
 //!
-//! Each function says by its contract what its value says in words. Read Lines.antt of specs/ first (the events), then Turns.antt, Ranks.antt
-//! (the trace) and Waits.antt (what open steps wait for).
+//! Each function says by its contract that its value has the words of the world. Read Lines.antt of specs/ first (the events), then Turns.antt,
+//! Ranks.antt (the trace) and Waits.antt (what open steps wait for). So a schedule that is printed is the one that was played.
+//!
+//! - `recorder.rt`: [`Recorder`], which keeps the moves; `lines.rt`: the move of an event
+//! - `ranks.rt`: [`courses_of`], what came of ranks; `waits.rt`: [`waits_of`], what open steps wait for
+//!
+//! Not here: the types of a schedule, and its text (`ulfm_moves`). No contract says which message a move has.
 #![tactic(auto)]
 
 mod lines;

@@ -5,7 +5,10 @@ use Rattle.ulfm_job.specs.Job.{IsJob, JobView, is_decided_together, script_at, s
 use Rattle.ulfm_job.proofs.Scripts.{step_count-set}
 use Rattle.ulfm_job.proofs.WithStop.{length-stopped_at}
 use Rattle.ulfm_job.specs.declared.step.Step.{Step}
-use Rattle.ulfm_stops.specs.Place.{IsStopOf, before, stopped}
+use Rattle.ulfm_job.specs.declared.clause.Clause.{Clause}
+use Rattle.ulfm_stops.specs.Place.{IsPlaceOf, IsStopOf, before, expecting, stopped}
+use Rattle.ulfm_stops.specs.declared.place.Place.{Place}
+use Rattle.ulfm_stops.specs.declared.place.Place.TheVariants.{Nowhere, One, Two}
 use Rattle.ulfm_stops.specs.declared.stop.Stop.{Stop}
 
 scripts_are : (stop : Stop) (j : JobView) (b : Bool) → (if b then with_left stop.rank stop.at (with_stop stop.rank (before stop) j) else with_stop stop.rank (before stop) j).scripts ≡ set j.scripts stop.rank (stopped_at (before stop) (script_at j stop.rank))
@@ -29,6 +32,15 @@ stop_still j m first second is other h =
       at = subst (λ (steps : List Step). before second ≤ length steps) same h.at;
       joint = λ dies. subst (λ (steps : List Step). is_decided_together (slice_get steps second.at) ≡ true) same (h.joint dies);
     })
+
+still_of : (expected : List Clause) (j : JobView) (stop : Stop) → IsStopOf j stop → IsStopOf (expecting expected j) stop
+still_of expected j stop h = record { rank = h.rank; at = h.at; joint = h.joint }
+
+-- where ranks stop doesn't depend on what is expected
+pub inside-expecting : (expected : List Clause) (j : JobView) (place : Place) → IsPlaceOf j place → IsPlaceOf (expecting expected j) place
+inside-expecting expected j Nowhere h = h
+inside-expecting expected j (One stop) h = still_of expected j stop h
+inside-expecting expected j (Two first second) h = (h.0, still_of expected j first h.1, still_of expected j second h.2)
 
 -- a stop is one more step
 pub counted_more : (j m : JobView) (r at : ℕ) → IsJob j → r < j.ranks → at ≤ length (script_at j r) → m ≡ with_stop r at j → step_count m.scripts ≡ step_count j.scripts + 1

@@ -5,8 +5,6 @@ use Rattle.std.proofs.lemmas.List.Concat.{flat_map-append}
 use Rattle.std.proofs.lemmas.List.FromFn.{get_or-range_with_len, length-range_with_len, map-range_with_len_more}
 use Rattle.std.proofs.lemmas.List.Sums.{position_or_len_is}
 use Rattle.std.specs.List.{flat_map, position_or_len, range_with_len}
-use Rattle.ulfm_job.specs.Job.{JobView}
-use Rattle.ulfm_stops.specs.Places.{stops_in, stops_near}
 use Rattle.ulfm_stops.specs.declared.stop.Stop.{Stop}
 
 -- the first number that passes, of those below n
@@ -19,17 +17,13 @@ first_place p n i le before here =
     (λ lt. let inside : i < n = omega (arith, long, lt) in ap p (at i inside) ∙ here inside))
 
 -- what one more number gives
-flat_more : (f : ℕ → List Stop) (n : ℕ) → flat_map f (range_with_len 0 (n + 1)) ≡ flat_map f (range_with_len 0 n) ++ f n
+pub flat_more : (f : ℕ → List Stop) (n : ℕ) → flat_map f (range_with_len 0 (n + 1)) ≡ flat_map f (range_with_len 0 n) ++ f n
 flat_more f n =
     let more : range_with_len 0 (n + 1) ≡ range_with_len 0 n ++ n ∷ [] = sym (map-id _) ∙ map-range_with_len_more (λ k. k) 0 n n (omega arith) ∙ ap (λ (ks : List ℕ). ks ++ n ∷ []) (map-id _) in
     ap (flat_map f) more ∙ flat_map-append f (range_with_len 0 n) (n ∷ []) ∙ ap (λ (s : List Stop). flat_map f (range_with_len 0 n) ++ s) (append-nil (f n))
 
--- the stops of a rank at one more step
-pub next_stop : (j : JobView) (r k : ℕ) (stops front : List Stop) → stops ≡ front ++ flat_map (stops_near j r) (range_with_len 0 k) → stops ++ stops_near j r k ≡ front ++ flat_map (stops_near j r) (range_with_len 0 (k + 1))
-next_stop j r k stops front so_far =
-    ap (λ (s : List Stop). s ++ stops_near j r k) so_far ∙ append_assoc front (flat_map (stops_near j r) (range_with_len 0 k)) (stops_near j r k)
-    ∙ ap (λ (s : List Stop). front ++ s) (sym (flat_more (stops_near j r) k))
-
--- the stops of one more rank
-pub next_rank : (j : JobView) (n : ℕ) → flat_map (stops_in j) (range_with_len 0 (n + 1)) ≡ flat_map (stops_in j) (range_with_len 0 n) ++ stops_in j n
-next_rank j n = flat_more (stops_in j) n
+-- the same behind others
+pub flat_next : (f : ℕ → List Stop) (k : ℕ) (stops front : List Stop) → stops ≡ front ++ flat_map f (range_with_len 0 k) → stops ++ f k ≡ front ++ flat_map f (range_with_len 0 (k + 1))
+flat_next f k stops front so_far =
+    ap (λ (s : List Stop). s ++ f k) so_far ∙ append_assoc front (flat_map f (range_with_len 0 k)) (f k)
+    ∙ ap (λ (s : List Stop). front ++ s) (sym (flat_more f k))

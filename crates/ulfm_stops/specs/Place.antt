@@ -1,6 +1,7 @@
 -- Where ranks stop, besides the stops that their job has.
 use Rattle.std.specs.Prelude.{◌≡◌, ◌+◌, ◌<◌, ◌≤◌, ℕ, true, List, [], ◌∷◌, ⊤, length, slice_get, if◌then◌else◌}
 use Rattle.ulfm_job.specs.Job.{JobView, is_decided_together, script_at, with_left, with_stop}
+use Rattle.ulfm_job.specs.declared.clause.Clause.{Clause}
 use Rattle.ulfm_stops.specs.declared.place.Place.{Place}
 use Rattle.ulfm_stops.specs.declared.place.Place.TheVariants.{Nowhere, One, Two}
 use Rattle.ulfm_stops.specs.declared.stop.Stop.{Stop}
@@ -25,6 +26,10 @@ abbrev pub job_at : Place → JobView → JobView
 job_at Nowhere j = j
 job_at (One stop) j = stopped stop j
 job_at (Two first second) j = stopped second (stopped first j)
+
+-- a job of whose answers this is expected, and nothing else
+abbrev pub expecting : List Clause → JobView → JobView
+expecting expected j = record j { expected = expected }
 
 -- the job has this rank, and the rank so many steps before the stop; a step inside which it dies is one that ranks decide together
 pub record IsStopOf (j : JobView) (stop : Stop) : Type 0 where

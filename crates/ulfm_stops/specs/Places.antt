@@ -12,9 +12,13 @@ use Rattle.ulfm_stops.specs.declared.stop.Stop.{Stop}
 abbrev pub is_asked : JobView → ℕ → ℕ → Bool
 is_asked j r k = list_any (λ (c : Condition). c.rank == r && c.at == k) j.conditions
 
--- the step k of the rank r is a stop, and on no condition: if the rank comes to it, it stops
+-- the step k of the rank r is a stop
+abbrev pub is_stop_at : JobView → ℕ → ℕ → Bool
+is_stop_at j r k = option_map_or is_stop_step (slice_get (script_at j r) k) false
+
+-- it is one, and on no condition: if the rank comes to it, it stops
 abbrev pub stops_always : JobView → ℕ → ℕ → Bool
-stops_always j r k = option_map_or is_stop_step (slice_get (script_at j r) k) false && not (is_asked j r k)
+stops_always j r k = is_stop_at j r k && not (is_asked j r k)
 
 -- how many steps of the rank r come before the first such stop
 abbrev pub last_place : JobView → ℕ → ℕ
@@ -23,6 +27,18 @@ last_place j r = position_or_len (stops_always j r) (range_with_len 0 (length (s
 -- a stop of the rank r before its step `at`
 abbrev pub stop_at : ℕ → ℕ → Stop
 stop_at r at = record { rank = r; at = at; dies = false }
+
+-- the stop that the step k of the rank r is, if it is one, as a stop before that step
+abbrev pub own_stops_at : JobView → ℕ → ℕ → List Stop
+own_stops_at j r k = if is_stop_at j r k then stop_at r k ∷ [] else []
+
+-- the stops that the rank r has of its own
+abbrev pub own_stops_in : JobView → ℕ → List Stop
+own_stops_in j r = flat_map (own_stops_at j r) (range_with_len 0 (length (script_at j r)))
+
+-- those of all ranks
+abbrev pub own_stops : JobView → List Stop
+own_stops j = flat_map (own_stops_in j) (range_with_len 0 j.ranks)
 
 -- a stop of the rank r inside its step `at`
 abbrev pub stop_inside : ℕ → ℕ → Stop

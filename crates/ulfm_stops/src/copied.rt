@@ -1,6 +1,7 @@
 //! A job once more.
 ghost use Rattle.std.specs.Prelude.{◌≡◌, IfOk};
 ghost use Rattle.ulfm_job.specs.Job.{lists_of};
+ghost use Rattle.ulfm_stops.specs.Place.{expecting};
 
 use std::alloc::Global;
 use ulfm_base::OutOfMemory;
@@ -10,9 +11,20 @@ use ulfm_job::{Clause, Condition, Job, LeftStep, Step};
 pub fn copied_job(alloc: Global, job: &Job) -> Result<Job, OutOfMemory>
     ensures { IfOk result (λ copy. copy ≡ job.now) }
 {
+    let expected = copied_clauses(alloc, job.expected())?;
+    expecting(alloc, job, expected)
+}
+
+/// The same job once more, of whose answers this is expected.
+///
+/// # Errors
+///
+/// `OutOfMemory` where a growth was refused.
+pub fn expecting(alloc: Global, job: &Job, expected: Vec<Clause>) -> Result<Job, OutOfMemory>
+    ensures { IfOk result (λ copy. copy ≡ expecting expected.items job.now) }
+{
     let scripts = copied_scripts(alloc, job)?;
     let conditions = copied_conditions(alloc, job.conditions())?;
-    let expected = copied_clauses(alloc, job.expected())?;
     let left = copied_left(alloc, job.left())?;
     Ok(Job::new(job.capacity(), job.turns(), scripts, conditions, expected).leaving(left))
 }

@@ -13,10 +13,13 @@
 mod copied;
 mod listing;
 mod moved;
+mod own;
 mod place;
 mod reading;
 mod stop;
 
+pub use copied::expecting;
 pub use listing::places;
+pub use own::own_stops;
 pub use place::Place;
 pub use stop::Stop;

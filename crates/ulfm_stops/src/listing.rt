@@ -5,11 +5,12 @@ ghost use Rattle.ulfm_stops.specs.Place.{IsPlaceOf};
 ghost use Rattle.ulfm_stops.specs.Places.{all_stops, is_asked, last_place, pairs_of, places_of, stops_always, stops_in, stops_near, twos};
 ghost use Rattle.ulfm_stops.specs.declared.place.Place.TheVariants.{One};
 
+use crate::own::is_stop_at;
 use crate::place::Place;
 use crate::stop::Stop;
 use std::alloc::Global;
 use ulfm_base::OutOfMemory;
-use ulfm_job::{Job, Step};
+use ulfm_job::Job;
 
 /// All places of a job with at most so many stops: the one with none first, then those of one stop by rank and step, then those of two.
 /// A rank that always stops at one of its own steps isn't stopped behind it.
@@ -133,10 +134,7 @@ fn last_place(job: &Job, rank: u8) -> usize
 fn stops_always(job: &Job, rank: u8, at: usize) -> bool
     ensures { result ≡ stops_always job.now rank at }
 {
-    match job.step(rank, at) {
-        Some(Step::Stop) => !is_asked(job, rank, at),
-        _ => false,
-    }
+    is_stop_at(job, rank, at) && !is_asked(job, rank, at)
 }
 
 /// Whether a step of a rank is played on a condition.

@@ -1,11 +1,20 @@
-//! Tests of the libraries, by what they offer: each stands here and not beside its code, so that the gate proves a library once.
-//! Nothing stands on it.
+//! Tests of the libraries, by what they offer. They stand here and not beside the code, so that the gate proves each library once.
+//! Nothing stands on this crate, and nothing in it is a promise.
 //!
-//! A file for each library: base, matching, matchers (the matcher beside two plain lists), board, world, carrier, run, reach and stops, and
-//! streams, of `ulfm_findings`. They have what no clause says: worked examples with their values, calls that succeed where there is memory, and
-//! what threads do. A table has a row for each case, and names it.
+//! They show what no clause says: worked examples with their values, calls that succeed where there is memory, and what threads do. A table has
+//! a row for each case, and names it. `rt try --test` runs them all without proofs. Begin with world.
 //!
-//! Begin with world: it plays a recovery round by round. `rt try --test` runs them all without proofs.
+//! - `world.rt`: events of a world one by one, in `world/`: rows of events, which decisions are adopted, and a whole recovery round by round
+//! - `matching.rt`: the matcher of `ulfm_match`; `matchers.rt`: the same calls to it and to the two plain lists of `ulfm_plain`
+//! - `base.rt`, `board.rt`: groups and bodies; seats of one board
+//! - `carrier.rt`: the ends of both carriers, by what `carrier/` lets ranks do with them
+//! - `run.rt`: jobs that threads run, a subject a file in `run/`; `run/laid.rt` is the carrier that these tests lay over another one
+//! - `reach.rt`: the search, over the two counters of `reach/counters.rt`
+//! - `stops.rt`: places as they are written, and the job at one
+//! - `streams.rt`: reading and writing whole texts, of `ulfm_findings`
+//!
+//! Not here: what the program prints (tools/gate/replies, jobs and outcomes-check), C (tools/gate/c-tests), and wrong bodies, which stand in
+//! `wrong-bodies/` of each crate.
 #![tactic(auto)]
 
 #[cfg(test)]

@@ -8,8 +8,7 @@ use Rattle.ulfm_lists.specs.Union.{some_never_ends}
 use Rattle.ulfm_lists.specs.declared.listed.Listed.{Listed}
 use Rattle.ulfm_judged.specs.declared.lists.Lists.{Lists}
 use Rattle.ulfm_json.specs.declared.form.Form.{Form}
-use Rattle.ulfm_replies.specs.Stopped.{Asked, asked_at, asked_view}
-use Rattle.ulfm_reader.specs.declared.reading.Reading.{Reading}
+use Rattle.ulfm_replies.specs.Stopped.{Asked, asked_at}
 use Rattle.ulfm_replies.specs.declared.command.ListOptions.{ListOptions}
 use Rattle.ulfm_replies.specs.declared.reply.Reply.{Reply}
 use Rattle.ulfm_judged.specs.declared.finding.Finding.{Finding}
@@ -20,6 +19,7 @@ use Rattle.ulfm_lists.specs.Told.{more_at}
 use Rattle.ulfm_replies.specs.Wish.{ChoiceView}
 use Rattle.ulfm_judged.specs.Chosen.{lists_in}
 use Rattle.ulfm_judged.specs.Hangs.{judgement_of_all}
+use Rattle.ulfm_judged.specs.Lists.{job_asked_at}
 use Rattle.ulfm_judged.specs.Outcomes.{list_status, nowhere_in}
 use Rattle.ulfm_judged.specs.ShowEach.{AreGoalsAt, IsNowhereAt}
 use Rattle.ulfm_judged.specs.Wanted.{HasList, IsToldOf, IsWanted}
@@ -37,16 +37,11 @@ AreSharing None threads = threads ≤ 64
 
 -- the list of one of the job's places
 abbrev pub IsListedOf : Asked → ℕ → Listed → Type 0
-IsListedOf asked limit one = IsPlaceOf asked.job one.place × HasList (job_at one.place asked.job) limit one.found
+IsListedOf asked limit one = IsPlaceOf asked.job one.place × HasList (job_asked_at one.place asked) limit one.found
 
 -- the lists of some of them
 abbrev pub AreListedOf : Asked → ℕ → List Listed → Type 0
 AreListedOf asked limit listed = All (IsListedOf asked limit) listed
-
--- this is what is asked for with the stops of a place, or there are none
-abbrev pub IsStopped : Place → Asked → Option Reading → Type 0
-IsStopped place asked None = asked_at place asked ≡ asked
-IsStopped place asked (Some made) = asked_view made ≡ asked_at place asked
 
 -- this is wanted, or that is told of it, by these rows of a list
 abbrev pub IsUnwanted : Form → ListOptions → Option Place → Asked → List (List ℕ) → Option Finding → Type 0

@@ -67,6 +67,7 @@ draft_view d = record {
   filed = d.filed.items;
   conditions = d.conditions.items;
   expected = d.expected.items;
+  provisos = d.provisos.items;
 }
 
 -- names, and behind them one more where there is one

@@ -92,7 +92,8 @@ pub fn never<T, R: Wait>(rt: &R) -> T
     unreachable!()
 }
 
-/// An empty list with room for so many. It waits for ever where there is none.
+/// An empty list with room for so many. It waits for ever where there is none, since `gather` has no answer for that: the carriers of
+/// `ulfm_carrier` keep room for it from the start.
 fn room<T: Drop, R: Wait>(rt: &R, alloc: Global, count: usize) -> Vec<T>
     ensures { (result.items ≡ []) × (count ≤ vec_capacity result) }
 {

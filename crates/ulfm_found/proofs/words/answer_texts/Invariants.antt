@@ -4,4 +4,4 @@ use Rattle.ulfm_found.specs.Words.{ending_text}
 use Rattle.ulfm_found.proofs.words.answer_texts.Given as goal
 
 abbrev pub invariant-loop-answer : goal.invariant-loop-answer
-invariant-loop-answer l = map string_bytes l.texts.items ≡ map ending_text (map outcome_view (take l.answer-index l.answers))
+invariant-loop-answer l = map string_bytes l.texts.items ≡ map (ending_text l.wording) (map outcome_view (take l.answer-index l.answers))

@@ -6,5 +6,5 @@ use Rattle.ulfm_found.proofs.words.told_text.Goals as goal
 
 pub returns : goal.returns
 returns c =
-    joined string_bytes (codes " | ") _ c.deref.result.now c.in_ok-endings.endings.items (endings (outcomes_view c.args.told.now))
+    joined string_bytes (codes " | ") _ c.deref.result.now c.in_ok-endings.endings.items (endings c.args.wording (outcomes_view c.args.told.now))
     c.in_ok-join.ensures.ok c.deref.ensures.value c.in_ok-endings.ensures

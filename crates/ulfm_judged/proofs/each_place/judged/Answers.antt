@@ -23,9 +23,9 @@ returns-in_ok-text-in-Some g c =
     IfOk-weaker c.below.result _ _ (λ r h. (
       told.judgement,
       words,
-      subst (λ (k : ℕ). IsJudgedEach form options asked (places_in lists.listed.items) (lists_judgement options asked lists) (lists_status options lists) told.judgement k words) (sym h.0)
+      subst (λ (k : ℕ). IsJudgedEach form options asked (places_in lists.listed.items) (lists_judgement options asked lists) (lists_status options lists) told.judgement k words) (sym (h.0 ∙ c.with_unheld.ensures.status))
           (first (lists_judgement options asked lists) (lists_status options lists)),
-      h.1 ∙ ap (λ (t : List ℕ). t ++ words) c.in_ok-text-in-Some.ensures,
+      h.1 ∙ ap (λ (t : List ℕ). string_bytes c.in_ok-text-in-Some.text ++ t) c.with_unheld.ensures.text ∙ ap (λ (t : List ℕ). t ++ words) c.in_ok-text-in-Some.ensures,
     )) c.below.ensures
 
 pub returns-in-None : goal.returns-in-None

@@ -8,22 +8,20 @@ use Rattle.ulfm_lists.specs.declared.listed.Listed.{Listed}
 use Rattle.ulfm_judged.specs.EachPlace.{drawn_at_place, no_room_for_stops}
 use Rattle.ulfm_judged.specs.Lists.{AreLists}
 use Rattle.ulfm_judged.specs.inside.Judging.{AreListedOf, IsFirstDrawn}
-use Rattle.ulfm_judged.proofs.EachPlace.{each_as, lists-writable, lists_of}
+use Rattle.ulfm_judged.proofs.EachPlace.{each_as, lists_of}
 use Rattle.ulfm_judged.proofs.each_place.listed_reply.Goals as goal
 
 pub returns-then-len-stops-gt-MOST_STEPS : goal.returns-then-len-stops-gt-MOST_STEPS
 returns-then-len-stops-gt-MOST_STEPS g c = λ bytes read named.
     IfOk-weaker c.refusal.result _ _ (λ r h. rw (h.0, h.1) (no_room_for_stops (asked_view c.args.asked.now) read named (omega (arith, c.len.ensures.exact, c.if-len-stops-gt-MOST_STEPS.true)))) c.refusal.ensures
 
-pub judged-requires-clause-listed : goal.judged-requires-clause-listed
-judged-requires-clause-listed g c =
+pub judged-requires : goal.judged-requires
+judged-requires g c =
     let asked = asked_view c.args.asked.now in
-    lists_of asked c.args.search.now.options.limit c.as_slice.result.now c.in_ok-lists.lists.listed.items c.in_ok-lists.lists.past_limit c.in_ok-lists.ensures
-    (subst (All (IsPlaceOf asked.job)) (sym c.as_slice.ensures.value) c.in_ok-places.ensures.inside)
-
-pub judged-requires-clause-ascii : goal.judged-requires-clause-ascii
-judged-requires-clause-ascii g c =
-    lists-writable c.args.asked.now.job c.args.search.now.options.limit c.as_slice.result.now c.in_ok-lists.lists.listed.items c.in_ok-lists.lists.past_limit c.in_ok-lists.ensures
+    record {
+      listed = lists_of asked c.args.search.now.options.limit c.as_slice.result.now c.in_ok-lists.lists.listed.items c.in_ok-lists.lists.past_limit c.in_ok-lists.ensures
+          (subst (All (IsPlaceOf asked.job)) (sym c.as_slice.ensures.value) c.in_ok-places.ensures.inside);
+    }
 
 pub first_drawn-requires : goal.first_drawn-requires
 first_drawn-requires g c =
@@ -42,7 +40,7 @@ returns-in-Some g c = λ bytes read named.
     let of_slice = subst (IsFirstDrawn form options asked c.as_slice-2.result.now) c.in-Some.is c.in_ok-reply.ensures in
     let first = subst (λ (listed : List Listed). IsFirstDrawn form options asked listed (Some reply)) c.as_slice-2.ensures.value of_slice in
     drawn_at_place asked lists.listed.items lists.past_limit reply.status (string_bytes reply.text) read named
-    (subst (λ (ps : List Place). AreLists asked.job options.limit ps lists.listed.items lists.past_limit) (c.as_slice.ensures.value ∙ c.in_ok-places.ensures.exact) c.in_ok-lists.ensures) first
+    (subst (λ (ps : List Place). AreLists asked options.limit ps lists.listed.items lists.past_limit) (c.as_slice.ensures.value ∙ c.in_ok-places.ensures.exact) c.in_ok-lists.ensures) first
 
 pub returns : goal.returns
 returns g c = λ bytes read named.

@@ -1,21 +1,13 @@
 use Rattle.std.proofs.Common.{ℕ, List, ◌++◌, None, string_bytes, subst, sym}
 use Rattle.std.proofs.lemmas.Result.{IfOk-weaker}
-use Rattle.ulfm_reach.specs.declared.reach.Reach.TheVariants.{All}
 use Rattle.ulfm_replies.specs.Stopped.{asked_view}
 use Rattle.ulfm_replies.specs.Wish.{choice_view}
 use Rattle.ulfm_judged.specs.Outcomes.{IsJudged, good, unwanted}
 use Rattle.ulfm_judged.specs.inside.Judging.{IsUnwanted}
-use Rattle.ulfm_judged.proofs.Writable.{writable}
 use Rattle.ulfm_judged.proofs.listed.undrawn.Goals as goal
 
 pub unwanted-requires : goal.unwanted-requires
 unwanted-requires g c = (c.args.reached.now.keys, c.requires.list)
-
-pub text_of-requires : goal.text_of-requires
-text_of-requires g c = writable c.args.asked.now.job c.args.search.now.options.limit (All c.args.reached.now) c.requires.list
-
-pub good-requires : goal.good-requires
-good-requires g c = writable c.args.asked.now.job c.args.search.now.options.limit (All c.args.reached.now) c.requires.list
 
 pub returns-in_ok-list-in-Some : goal.returns-in_ok-list-in-Some
 returns-in_ok-list-in-Some g c =

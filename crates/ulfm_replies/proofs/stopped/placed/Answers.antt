@@ -20,5 +20,5 @@ returns c = λ bytes read. record {
   read = asked_view c.args.read;
   is_read = read;
   inside = c.is_inside.ensures.0 c.if-not-is_inside.false;
-  at_place = c.in_ok-with_stops.ensures;
+  at_place = c.in_ok-stopped_at.ensures;
 }

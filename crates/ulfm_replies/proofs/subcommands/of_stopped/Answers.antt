@@ -1,4 +1,4 @@
-use Rattle.std.proofs.Common.{ap, ◌∙◌}
+use Rattle.std.proofs.Common.{ap, ap₂, ◌∙◌}
 use Rattle.std.proofs.lemmas.Result.{IfOk-weaker}
 use Rattle.clap.specs.Words.{Rule, app_of, with_rule}
 use Rattle.ulfm_replies.specs.Rules.{of_jobs}
@@ -7,4 +7,5 @@ use Rattle.ulfm_replies.proofs.subcommands.of_stopped.Goals as goal
 pub returns-clause-app : goal.returns-clause-app
 returns-clause-app c =
     let first = c.in_ok-command.ensures.shape c.stop_option.ensures.local ∙ ap (λ (rule : Rule). with_rule (app_of c.args.command) rule) c.stop_option.ensures.rule in
-    IfOk-weaker c.of_jobs.result _ _ (λ r h. h ∙ ap of_jobs first) c.of_jobs.ensures.app
+    let second = c.in_ok-command-2.ensures.shape c.plain_flag-mpi.ensures.local ∙ ap₂ with_rule first c.plain_flag-mpi.ensures.rule in
+    IfOk-weaker c.of_jobs.result _ _ (λ r h. h ∙ ap of_jobs second) c.of_jobs.ensures.app
