@@ -10,6 +10,7 @@
 //! - `columns.rt`: as text; `mermaid.rt`: as a Mermaid diagram; `svg.rt`: as a drawing
 //! - of drawings alone: `layout.rt`, `lanes.rt` (where things stand), `path.rt` (arrows), `ink.rt` (colours), `piece.rt`, `svg_text.rt`,
 //!   `wrapping.rt` (texts)
+//! - `escaped.rt`: [`push_escaped`], a text as markup has it
 //!
 //! Which message a receive got stands in the schedule: nothing is matched here.
 #![tactic(auto)]
@@ -17,6 +18,7 @@
 mod arrow;
 mod circles;
 mod columns;
+mod escaped;
 mod ink;
 mod kind;
 mod lanes;
@@ -35,6 +37,7 @@ mod svg_text;
 mod wait;
 mod wrapping;
 
+pub use escaped::push_escaped;
 use std::alloc::{AllocError, Global};
 use ulfm_job::Job;
 use ulfm_json::{Style, Wording};

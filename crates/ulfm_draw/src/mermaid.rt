@@ -93,14 +93,17 @@ fn push_left(out: &mut String, picture: &Picture<'_>, row: &Row) -> Result<(), A
     Ok(())
 }
 
-/// A text in which the code of the sign `#` stands for it: Mermaid takes the sign itself for the beginning of a comment.
+/// A text in which codes stand for the signs that Mermaid takes for its own: the beginning of a comment, the end of a line, and markup.
 fn escaped(alloc: Global, text: &str) -> Result<String, AllocError> {
     let mut out = String::new(alloc);
     for letter in text.chars() {
-        if letter == '#' {
-            out.push_str("#35;")?;
-        } else {
-            out.push(letter)?;
+        match letter {
+            '#' => out.push_str("#35;")?,
+            ';' => out.push_str("#59;")?,
+            '<' => out.push_str("#lt;")?,
+            '>' => out.push_str("#gt;")?,
+            '&' => out.push_str("#amp;")?,
+            _ => out.push(letter)?,
         }
     }
     Ok(out)

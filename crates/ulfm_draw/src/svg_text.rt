@@ -1,5 +1,6 @@
 //! Texts of a drawing, each with the width that it has by its letters.
 
+use crate::escaped::push_escaped;
 use crate::ink::{DARK, colour};
 use crate::layout::LETTER;
 use crate::piece::{Face, Piece};
@@ -17,8 +18,10 @@ pub(crate) fn push_text(
     let width = text.len().saturating_mul(LETTER);
     write!(
         out,
-        "<text x=\"{x}\" y=\"{y}\" textLength=\"{width}\" fill=\"{fill}\"{more}>{text}</text>\n"
-    )
+        "<text x=\"{x}\" y=\"{y}\" textLength=\"{width}\" fill=\"{fill}\"{more}>"
+    )?;
+    push_escaped(out, text)?;
+    out.push_str("</text>\n")
 }
 
 /// Puts a text in its face.

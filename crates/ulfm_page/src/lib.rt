@@ -6,7 +6,6 @@
 //! - `page.rt`: the page, from a job's bytes to its text
 //! - `column.rt`: a place, with what each step comes to there; `cell.rt`: one of these
 //! - `wanted.rt`: what isn't as wanted at a place, with its schedule
-//! - `writing.rt`: text, so that a browser shows it as it is
 //! - `nobody.rt`: who looks on as the places are searched: nobody
 //!
 //! It is for people: no contract says anything of it. Each list and each schedule comes from a `Finder`, and is what that promises.
@@ -17,6 +16,5 @@ mod column;
 mod nobody;
 mod page;
 mod wanted;
-mod writing;
 
 pub use page::page_of;

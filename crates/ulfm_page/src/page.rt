@@ -5,8 +5,8 @@
 
 use crate::cell::{Cell, Kind};
 use crate::column::Column;
-use crate::writing::push_text;
 use std::alloc::{AllocError, Global};
+use ulfm_draw::push_escaped;
 use ulfm_finder::Finder;
 use ulfm_job::{Job, MOST_STEPS};
 use ulfm_judged::Search;
@@ -68,9 +68,9 @@ fn written(
     columns: &[Column],
 ) -> Result<String, AllocError> {
     let mut page = String::from_str(alloc, HEAD)?;
-    push_text(&mut page, name)?;
+    push_escaped(&mut page, name)?;
     page.push_str("</title></head><body>\n<h1>")?;
-    push_text(&mut page, name)?;
+    push_escaped(&mut page, name)?;
     page.push_str("</h1>\n")?;
     push_verdict(&mut page, columns)?;
     page.push_str(LEGEND)?;
@@ -184,7 +184,7 @@ fn push_cell(page: &mut String, column: &Column, cell: &Cell) -> Result<(), Allo
     let class = class_of(cell.kind);
     let mark = mark_of(cell.kind);
     write!(page, "<td class=\"{class}\" title=\"")?;
-    push_text(page, cell.words.as_str())?;
+    push_escaped(page, cell.words.as_str())?;
     if column.unwanted.is_some() && matches!(cell.kind, Kind::Hangs | Kind::Unmet) {
         let place = column.place;
         return write!(page, "\"><a href=\"#at-{place}\">{mark}</a></td>");
@@ -221,7 +221,7 @@ fn push_section(page: &mut String, column: &Column) -> Result<(), AllocError> {
     };
     let place = column.place;
     write!(page, "<section id=\"at-{place}\"><h2>at {place}: ")?;
-    push_text(page, unwanted.title.as_str())?;
+    push_escaped(page, unwanted.title.as_str())?;
     page.push_str("</h2>\n")?;
     match &unwanted.picture {
         Some(picture) => page.push_str(picture.as_str())?,
