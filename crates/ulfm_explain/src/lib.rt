@@ -11,10 +11,12 @@
 //! - `cause.rt`: all that may be wrong; `doom.rt`: all that will be refused, `fate.rt`: which steps will be; `line.rt`: how both are put in words
 //! - `steps.rt`, `keys.rt`, `asking.rt`, `never.rt`, `before.rt`, `block.rt`, `claim.rt`: what is looked at, a subject a file
 //! - `ops.rt`, `rules.rt`, `kind.rt`, `answers.rt`: what may stand in a job, as docs/JOBS.md has it
+//! - `answering.rt`: [`answers_at`], how the answers of a step begin
 //! - `lines.rt`: steps written out, beside their places in the file; `script.rt`: those of one rank; `told.rt`, `shown.rt`: how they are named
 //! - `nearest.rt`, `mpi.rt`: what a misspelt word, or a word of MPI's, stands for
 #![tactic(auto)]
 
+mod answering;
 mod answers;
 mod asking;
 mod before;
@@ -44,6 +46,7 @@ mod told;
 mod walk;
 mod warning;
 
+pub use answering::answers_at;
 pub use cause::Cause;
 pub use check::explain;
 pub use doom::Doom;

@@ -2,8 +2,10 @@
 
 use crate::misplaced::place_of;
 use std::alloc::{AllocError, Global};
+use ulfm_explain::answers_at;
 use ulfm_reader::{Reading, name_at};
 use ulfm_replies::{Form, Wanted, Wording, asked_at};
+use ulfm_stops::Place;
 
 /// How an answer is named.
 const NAMED: &str =
@@ -19,19 +21,25 @@ pub(crate) fn goal_reason(
     bytes: &[u8],
     goal: &str,
 ) -> Result<String, AllocError> {
-    match asked_at(alloc, Form::Words(Wording::Plain), place_of(wanted), bytes)? {
-        Ok(asked) => reason(alloc, &asked, goal),
-        Err(_) => Ok(String::new(alloc)),
-    }
+    let place = place_of(wanted);
+    let Ok(asked) = asked_at(alloc, Form::Words(Wording::Plain), place, bytes)? else {
+        return Ok(String::new(alloc));
+    };
+    // (where a rank stops its steps are other ones than those of the file)
+    let file: &[u8] = match place {
+        Place::Nowhere => bytes,
+        _ => &[],
+    };
+    reason(alloc, &asked, file, goal)
 }
 
-/// Why a text names no answer of what was read.
-fn reason(alloc: Global, asked: &Reading, goal: &str) -> Result<String, AllocError> {
+/// Why a text names no answer of what was read, from the bytes of a file.
+fn reason(alloc: Global, asked: &Reading, file: &[u8], goal: &str) -> Result<String, AllocError> {
     let Some((place, words)) = goal.split_once(' ') else {
         return String::from_str(alloc, NAMED);
     };
     match place.split_once('.') {
-        Some((rank, step)) if is_number(rank) => reason_at(alloc, asked, rank, step, words),
+        Some((rank, step)) if is_number(rank) => reason_at(alloc, asked, file, rank, step, words),
         _ => String::from_str(alloc, NAMED),
     }
 }
@@ -40,6 +48,7 @@ fn reason(alloc: Global, asked: &Reading, goal: &str) -> Result<String, AllocErr
 fn reason_at(
     alloc: Global,
     asked: &Reading,
+    file: &[u8],
     rank: &str,
     step: &str,
     words: &str,
@@ -47,7 +56,7 @@ fn reason_at(
     let ranks = asked.job.ranks();
     match rank.parse::<u8>() {
         Ok(number) if number < ranks => match at_of(asked, number, step) {
-            Some(at) => no_answer(alloc, asked, number, at, words),
+            Some(at) => no_answer(alloc, asked, file, number, at, words),
             None => no_step(alloc, asked, number, step),
         },
         _ => {
@@ -123,6 +132,7 @@ fn push_name(line: &mut String, is_first: bool, name: &str) -> Result<(), AllocE
 fn no_answer(
     alloc: Global,
     asked: &Reading,
+    file: &[u8],
     rank: u8,
     at: usize,
     words: &str,
@@ -132,5 +142,9 @@ fn no_answer(
         write!(line, ", '{step}',")?;
     }
     write!(line, " has no answer that begins with '{words}'")?;
+    let answers = answers_at(alloc, file, rank, at)?;
+    if !answers.is_empty() {
+        write!(line, "; its answers begin with {answers}")?;
+    }
     Ok(line)
 }

@@ -15,6 +15,9 @@ use ulfm_replies::{Asked, JOB_REFUSED, ListOptions, Wanted};
 const UNPAGED: &str =
     "ulfm: --html is for 'outcomes --stops' of one job, in a file that is named\n";
 
+/// What is told where the page would take the place of the job.
+const ITSELF: &str = "ulfm: --html names the job's own file, so no page is written\n";
+
 /// What is told where the page can't be made or written.
 const UNWRITTEN: &str = "ulfm: the page can't be written\n";
 
@@ -42,6 +45,10 @@ pub(crate) fn write_page<T: Files, F: Finder, E: Write>(
         tell_unpaged(asked, errors);
         return;
     };
+    if page == file {
+        let _is_written = write_whole(errors, ITSELF.as_bytes());
+        return;
+    }
     let search = Search {
         finder,
         alloc,
