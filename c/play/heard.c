@@ -60,5 +60,12 @@ struct proposal um_proposal_of(int rank, uint32_t comm, bool agrees) {
     return made;
 }
 
+/* Who entered the shrink of a communicator, as bits. */
+uint8_t um_entered(uint32_t comm) {
+    uint8_t bits = 0;
+    for (int k = 0; k < MAX_RANKS; k++) bits |= (uint8_t)((entries[k][comm][false].count > 0) << k);
+    return bits;
+}
+
 /* Whether it could be decided there now. */
 bool um_has_heard_all(int rank, uint32_t comm, bool agrees) { return um_proposal_of(rank, comm, agrees).is_possible; }

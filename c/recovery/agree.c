@@ -5,6 +5,8 @@
 #include "recovery/recovery.h"
 #include <stdlib.h>
 
+__typeof__(ulfm_get_failed) __real_ulfm_get_failed;
+
 /* An agreement, which takes one or two of the engine's, and what the last one of those gave. */
 struct agreement {
     struct comm *comm;
@@ -55,10 +57,11 @@ static uint32_t bits_of(const ulfm_group *group, uint32_t count) {
     return bits;
 }
 
-/* The world ranks whose failures this rank has acknowledged. */
+/* The world ranks whose failures this rank has acknowledged: the first ones that it knows, in an order that stays. So what came since changes nothing,
+   and in a run that is played this is no event. */
 static uint32_t acknowledged_bits(const struct comm *comm) {
     ulfm_group failed;
-    return ulfm_get_failed(um_me->slot, comm->context, &failed) == ULFM_OK ? bits_of(&failed, comm->acknowledged) : 0;
+    return __real_ulfm_get_failed(um_me->slot, comm->context, &failed) == ULFM_OK ? bits_of(&failed, comm->acknowledged) : 0;
 }
 
 /* The AND of all flags, and MPIX_ERR_PROC_FAILED alike at all members where one is missing whose failure isn't acknowledged at each. One agreement

@@ -9,10 +9,13 @@ enum {
 }; /* receives of a context: each names its sender; any sender, all with one tag; so, with several tags, or probes */
 enum { OF_ANYBODY = -3, OF_NOBODY = -2, BEFORE = -2 };
 
-/* What was learnt of receives from any source, in memory that stays. */
-static struct wildcards { int use[MAX_RANKS][CONTEXTS], tag[MAX_RANKS][CONTEXTS]; } * wildcards;
+/* What was learnt of the program, in memory that stays: of receives from any source, and of looks. */
+static struct learnt {
+    int use[MAX_RANKS][CONTEXTS], tag[MAX_RANKS][CONTEXTS];
+    bool polls_in_passing; /* shrinks and agreements whose requests are looked at */
+} * learnt;
 
-bool um_begin_commute(void) { return (wildcards = um_shared_memory(sizeof *wildcards)) != 0; }
+bool um_begin_commute(void) { return (learnt = um_shared_memory(sizeof *learnt)) != 0; }
 
 static bool is_item(const struct footprint *e, int item) { return e->kind == TAKES && e->item == item; }
 static bool is_message(const struct footprint *e) { return is_item(e, ULFM_MESSAGE); }
@@ -33,12 +36,12 @@ static bool reads_revocations(const struct footprint *e) {
 }
 
 /* A communicator and its duplicates: a wait for a collective ends by a message on the duplicate, or a revocation of the communicator. */
-static int family(int comm) {
+int um_family(int comm) {
     while (comm > 0 && comm % 2 == 1) comm = (comm - 1) / 2;
     return comm;
 }
 
-static bool are_of_family(const struct footprint *a, const struct footprint *b) { return family(a->comm) == family(b->comm); }
+static bool are_of_family(const struct footprint *a, const struct footprint *b) { return um_family(a->comm) == um_family(b->comm); }
 
 /* Whether the wait that a call ends, or one that looked and went on, looked in vain for a message of a communicator (-1: of any) and a source. */
 static bool has_silent(const struct footprint *e, int comm, int source) {
@@ -62,18 +65,30 @@ static bool is_silent_before(const struct footprint *a, const struct footprint *
            (is_revocation(a) && has_silent(b, a->comm, OF_ANYBODY));
 }
 
+/* Word of a failure and a revocation: the first one ends a receive, or a wait for it, that the other one would have ended. Else a rank knows both,
+   whichever was first. */
+static bool end_the_same(const struct footprint *failure, const struct footprint *revocation) {
+    return failure->ended_on >> um_family(revocation->comm) & 1 || revocation->ended_of & failure->fails;
+}
+
+/* A call that sends something, and a revocation that is handed on: another rank takes what they send in their order. */
+static bool are_sent_in_order(const struct footprint *call, const struct footprint *revocation) {
+    return (call->kind == SENDS || call->kind == ENTERS_SHRINK || call->kind == ENTERS_AGREE) && is_revocation(revocation) &&
+           revocation->flags & REVOKED_FIRST;
+}
+
 static bool is_before_revocation(const struct footprint *a, const struct footprint *b) {
     if (!is_revoker(b)) return false;
     bool saw_none = a->flags & SAW_NO_REVOCATION;
-    return (saw_none && is_call(a) && a->comm == b->comm) || (saw_none && is_message(a) && are_of_family(a, b)) || is_failure(a) ||
-           has_silent(a, b->comm, OF_ANYBODY) || has_silent_send(a, b);
+    return (saw_none && is_call(a) && a->comm == b->comm) || (saw_none && is_message(a) && are_of_family(a, b)) ||
+           (is_failure(a) && end_the_same(a, b)) || has_silent(a, b->comm, OF_ANYBODY) || has_silent_send(a, b) || are_sent_in_order(a, b);
 }
 
 /* `at` is the number of a; BEFORE: that isn't known. */
 static bool is_after_revocation(const struct footprint *a, int at, const struct footprint *b) {
     if (!is_revoker(a) || !(a->flags & REVOKED_FIRST)) return false;
-    return (reads_revocations(b) && b->comm == a->comm) || (is_message(b) && are_of_family(a, b)) || is_failure(b) ||
-           (is_end_of_receive(b) && b->comm == a->comm && (b->by == at || at == BEFORE));
+    return (reads_revocations(b) && b->comm == a->comm) || (is_message(b) && are_of_family(a, b)) || (is_failure(b) && end_the_same(b, a)) ||
+           are_sent_in_order(b, a) || (is_end_of_receive(b) && b->comm == a->comm && (b->by == at || at == BEFORE));
 }
 
 static bool is_before_failure(const struct footprint *a, const struct footprint *b) {
@@ -82,15 +97,23 @@ static bool is_before_failure(const struct footprint *a, const struct footprint 
     return (is_call(a) && a->fails & b->fails && !pends && !has_found) || has_silent(a, -1, b->source) || has_silent_send(a, b);
 }
 
+/* An entry has the failures that its rank knows. One more of them lets others decide sooner, and changes no decision: the rank that failed isn't among
+   those who entered. So what can be where it is missing can be where it is there, and that it was known needs no other order, while that it wasn't does.
+   Where ranks look at a decision in passing, they may see that it is sooner. */
+static bool is_told_by_entry(const struct footprint *entry, const struct footprint *failure) {
+    return learnt->polls_in_passing || entry->entered & failure->fails;
+}
+
 static bool is_after_failure(const struct footprint *a, int at, const struct footprint *b) {
     if (!is_failure(a) || !is_call(b)) return false;
+    if (b->kind == ENTERS_SHRINK || b->kind == ENTERS_AGREE) return is_told_by_entry(b, a);
     bool made_possible = is_poll(b) && !((b->listed | b->by_entries) & a->fails);
     return b->fails & a->fails || made_possible || (is_end_of_receive(b) && (b->by == at || (at == BEFORE && b->source == a->source)));
 }
 
 static bool is_before_message(const struct footprint *a, const struct footprint *b) {
     if (!is_message(b)) return false;
-    int use = wildcards->use[b->rank][b->comm], tag = wildcards->tag[b->rank][b->comm];
+    int use = learnt->use[b->rank][b->comm], tag = learnt->tag[b->rank][b->comm];
     bool is_look = a->kind == TESTS || a->kind == CANCELS || a->kind == PROBES, is_same = a->comm == b->comm;
     if (is_look && a->flags & IN_VAIN && is_same && covers(a->source, b->source) && has_tag(a->tag, b->tag)) return true;
     if (has_silent(a, b->comm, b->source)) return true;
@@ -102,7 +125,7 @@ static bool is_after_message(const struct footprint *a, int at, const struct foo
     if (!is_message(a) || !is_call(b) || a->comm != b->comm) return false;
     if (is_end_of_receive(b) && (b->by == at || (at == BEFORE && covers(b->source, a->source)))) return true;
     if (b->kind == PROBES && covers(b->source, a->source) && has_tag(b->tag, a->tag)) return true;
-    return wildcards->use[a->rank][a->comm] == MANY_ANY && uses_messages(b);
+    return learnt->use[a->rank][a->comm] == MANY_ANY && uses_messages(b);
 }
 
 static bool are_entry_and_poll(const struct footprint *a, const struct footprint *b) {
@@ -154,13 +177,15 @@ static bool differs(const struct footprint *e, const struct footprint *other, in
     return is_same && (!(other->flags & OF_ANY) || other->tag != tag || other->kind == PROBES);
 }
 
-/* Learns which receives name no source, from the events that were run. Whether it learnt something: then the search begins anew. */
-bool um_learn_wildcards(int count) {
+/* Learns which receives name no source, and whether polls are made in passing, from the events that were run. Whether it learnt something: then the search
+   begins anew. */
+bool um_learn(int count) {
     bool has_learnt = false;
     for (int j = 0; j < count; j++) {
         const struct footprint *e = &um_footprints[j];
+        if (is_poll(e) && !e->waits && !learnt->polls_in_passing) learnt->polls_in_passing = has_learnt = true;
         if (e->kind != POSTS && e->kind != PROBES) continue;
-        int *use = &wildcards->use[e->rank][e->comm], *tag = &wildcards->tag[e->rank][e->comm];
+        int *use = &learnt->use[e->rank][e->comm], *tag = &learnt->tag[e->rank][e->comm];
         if (e->flags & OF_ANY && *use == NAMED_ALONE) {
             *use = ONE_ANY;
             *tag = e->tag;

@@ -49,7 +49,7 @@ static bool may_end_one(const struct ends *of, const struct footprint *e) {
         if (is_failure || (is_match && of->at[k].is_send)) {
             if (is_from) return true;
         } else if (is_message) {
-            if (!of->at[k].is_send && e->ended == of->at[k].id + 1) return true;
+            if (!of->at[k].is_send && (e->ended == of->at[k].id + 1 || e->ended == ANY_RECEIVE)) return true;
         } else if (takes && e->item == ULFM_REVOCATION && e->flags & REVOKED_FIRST && of->at[k].comm == e->comm) return true;
     }
     return false;
@@ -63,14 +63,20 @@ static bool may_end(const struct footprint *look, const struct ends *of, const s
     return of->count > 1 && (is_taken || is_match) && may_end_one(of, e);
 }
 
+/* Whether an item might have ended the wait that a look ended. */
+bool um_may_end_wait(int look, const struct footprint *e) {
+    const struct footprint *of = &um_footprints[look];
+    return end_of(of) != NO_STEP && may_end(of, &um_search->ends[look], e);
+}
+
 /* Of the events from one on. */
 void um_want_other_ends(int from) {
     for (int look = 0; look < um_search->count; look++) {
         const struct footprint *e = &um_footprints[look];
         const struct ends *of = &um_search->ends[look];
         int by = end_of(e);
-        if (by < 0 || by >= look || !(of->count > 1 || is_of_any(e) || e->kind == LOOKS_AT_SEND)) continue;
-        if (look >= from && of->count > 1 && !of->wants_all) um_want(by, look, 0, 0);
+        if (by < 0 || by >= look || !(of->count > 1 || is_of_any(e) || e->kind == LOOKS_AT_SEND || e->is_over_anyway)) continue;
+        if (look >= from && ((of->count > 1 && !of->wants_all) || e->is_over_anyway)) um_want(by, look, 0, 0);
         for (int other = by + 1; other < um_search->count; other++)
             if ((look >= from || other >= from) && other != look && !um_is_before(by, other) && may_end(e, of, &um_footprints[other]))
                 um_want(by, other, 0, 0);

@@ -23,6 +23,7 @@ struct waiting {
     int16_t came;
 };
 static struct receive *receives[MAX_RANKS];
+static int failed_at[MAX_RANKS][MAX_RANKS]; /* the event by which a rank learnt of a failure, its number and 1; 0: none */
 static struct waiting *waiting[MAX_RANKS];
 static int receive_count[MAX_RANKS], waiting_count[MAX_RANKS];
 
@@ -65,6 +66,12 @@ static bool concerns(const struct footprint *item, const struct receive *receive
     return is_from && receive->comm == item->comm && (receive->tag == -1 || receive->tag == item->tag);
 }
 
+/* The present event, word of a failure or of a revocation, ended a receive. */
+static void note_ended(const struct receive *receive) {
+    present()->ended_on |= 1ull << um_family(receive->comm);
+    if (receive->source != ANYBODY) present()->ended_of |= (uint8_t)(1u << receive->source);
+}
+
 /* An item came that ends open receives. Whether it ended one. */
 static bool end_receives(int rank) {
     bool has_ended = false;
@@ -76,6 +83,7 @@ static bool end_receives(int rank) {
         receive->is_open = false;
         receive->by = (int16_t)um_step;
         present()->ended = (uint32_t)receive->id + 1;
+        note_ended(receive);
         has_ended = true;
     }
     return has_ended;
@@ -129,7 +137,10 @@ void um_begin_footprint(const struct event *event) {
 /* An item was taken; `was_revoked`: its communicator was known to be revoked before. */
 void um_note_taken(const struct event *event, bool was_revoked) {
     if (event->item == ULFM_REVOCATION && !was_revoked) revoke(event->rank, event->comm);
-    if (event->item == ULFM_STOP_NOTICE) end_receives(event->rank);
+    if (event->item == ULFM_STOP_NOTICE) {
+        failed_at[event->rank][event->peer] = um_step + 1;
+        end_receives(event->rank);
+    }
     if (event->item == ULFM_MESSAGE && !was_revoked && !end_receives(event->rank)) keep_message(event->rank, present());
 }
 
@@ -190,7 +201,8 @@ void um_end_post(uint32_t source, uint64_t id, uint32_t code) {
             made.by = waiting[rank][at].came;
             um_footprints[made.by].ended = (uint32_t)id + 1;
             remove_waiting(rank, at);
-        }
+        } else if (from != ANYBODY && failed_at[rank][from])
+            um_footprints[failed_at[rank][from] - 1].ended_on |= 1ull << um_family(made.comm); /* it ended this one beforehand */
         made.is_open = false;
     }
     if (um_grow(&receives[rank], receive_count[rank], sizeof made)) receives[rank][receive_count[rank]++] = made;
@@ -202,6 +214,13 @@ static void remove_receive(int rank, const struct receive *receive) {
     memmove(&receives[rank][at], &receives[rank][at + 1], (size_t)(receive_count[rank] - at) * sizeof **receives);
 }
 
+/* Whether a communicator is known to be revoked of which this one is a duplicate: a wait for a collective asks for that too. */
+static bool is_revoked_above(int rank, int comm) {
+    bool is_revoked = false;
+    for (; comm > 0 && comm % 2 == 1; comm = (comm - 1) / 2) is_revoked = is_revoked || um_is_known_revoked(rank, (uint32_t)(comm - 1) / 2);
+    return is_revoked;
+}
+
 /* A test or a cancel was answered. */
 void um_end_look(uint64_t id, uint32_t code, const ulfm_status *status) {
     struct footprint *own = present();
@@ -211,6 +230,7 @@ void um_end_look(uint64_t id, uint32_t code, const ulfm_status *status) {
     own->comm = (int8_t)receive->comm;
     own->source = (int8_t)receive->source;
     own->tag = receive->tag;
+    own->is_over_anyway = own->waits && is_revoked_above(own->rank, receive->comm);
     bool is_cancelled = code == ULFM_OK && status->cancelled;
     if (code != ULFM_OK || is_cancelled) {
         uint32_t any = own->kind == CANCELS ? 0 : members_of(own->rank, (uint32_t)receive->comm);
@@ -264,6 +284,7 @@ void um_end_entry(bool agrees, uint32_t flag, uint32_t code) {
     own->answer = flag;
     if (code != ULFM_OK) return;
     own->fails = (uint8_t)members_of(own->rank, (uint32_t)own->comm);
+    own->entered = agrees ? 0 : um_entered((uint32_t)own->comm);
     own->topic = um_topic_of((uint32_t)own->comm, agrees, um_proposal_of(own->rank, (uint32_t)own->comm, agrees).round);
     um_push_to_all(own->rank, own->fails);
 }
@@ -283,6 +304,6 @@ void um_end_poll(bool agrees, const struct proposal *proposal, uint32_t answer) 
     own->listed = proposal->listed;
     own->excluded = proposal->excluded;
     own->by_entries = proposal->by_entries;
-    own->fails = agrees ? 0 : proposal->all;
+    own->fails = agrees ? 0 : proposal->all & (uint8_t)~proposal->by_entries; /* what entries say it knows anyway */
     own->proposal = agrees ? ((uint64_t)proposal->value << 8 | (proposal->listed & proposal->all)) : proposal->excluded;
 }

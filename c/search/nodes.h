@@ -70,4 +70,7 @@ bool um_is_before(int one, int other);
 void um_want(int i, int j, const int *needed, int needed_count);
 void um_find_races(int from);
 
+/* left.c */
+void um_want_left(int from);
+
 #endif

@@ -4,6 +4,8 @@
 
 #include "play/play.h"
 
+#define ANY_RECEIVE UINT32_MAX /* of a message that wasn't taken: it may end any receive */
+
 /* Who may go on next: a rank, by its number, the ring from one rank to another one, by 8 + 8 times the one + the other, or the loss of what is in it. */
 typedef unsigned __int128 processes;
 enum {
@@ -45,12 +47,16 @@ struct footprint {
     int8_t comm, source;                  /* source: the named one, or the sender; ANYBODY */
     uint8_t silent_count;
     bool waits;                /* a look in a wait */
+    bool is_over_anyway;       /* .. which a revocation had ended too */
     uint8_t matches, sends;    /* bits of ranks: whose sends that wait it matched; to whom such sends were looked at in vain */
     int16_t pushed, by, found; /* the events that pushed its item, that ended its request, by which the message came that its probe found */
     int16_t after;             /* the event that ended the wait before it, where no look did */
     int32_t tag;
     struct silence silent[SILENT]; /* looks in vain of the wait that it ends */
     uint32_t ended;                /* of a message: the receive that it ended, its number and 1; 0: none */
+    uint64_t ended_on;             /* of word of a failure: bits of families of communicators whose receives it ended */
+    uint8_t ended_of;              /* of a revocation: bits of ranks that the receives named which it ended */
+    uint8_t entered;               /* of an entry into a shrink: bits of the failed ranks that made theirs */
     uint32_t topic, answer;        /* topic: of shrinks and agreements */
     uint64_t proposal;             /* of a poll: what tells its own proposal from others */
 };
@@ -78,6 +84,7 @@ enum search_step um_end_searched(void);
 
 /* heard.c */
 struct proposal um_proposal_of(int rank, uint32_t comm, bool agrees);
+uint8_t um_entered(uint32_t comm);
 
 /* rings.c */
 void um_note_push(int from, int to);
@@ -130,13 +137,15 @@ void um_add_end(const struct request *request);
 void um_finish_ends(void);
 void um_note_ends(void);
 void um_want_other_ends(int from);
+bool um_may_end_wait(int look, const struct footprint *e);
 
 /* commute.c */
 bool um_do_commute(const struct footprint *a, const struct footprint *b);
 bool um_is_dependent(const struct footprint *a, int at, const struct footprint *b);
 bool um_is_needed(const struct footprint *a, const struct footprint *b);
+int um_family(int comm);
 bool um_is_across(const struct footprint *e);
-bool um_learn_wildcards(int count);
+bool um_learn(int count);
 bool um_begin_commute(void);
 
 #endif

@@ -102,6 +102,33 @@ static int revoked(void) {
     return MPI_Ssend(&one, 1, MPI_INT, 2, 1, MPI_COMM_WORLD) != MPI_SUCCESS;
 }
 
+/* Rank 1 revokes, and rank 2 sends to rank 0 and hands that on, in either order. Rank 3 stops once rank 2 has its message. */
+static int ordered(void) {
+    MPI_Comm other;
+    int is_known = 0;
+    MPIX_Comm_shrink(MPI_COMM_WORLD, &other);
+    if (me == 1) MPIX_Comm_revoke(MPI_COMM_WORLD);
+    if (me == 0 || me == 2) MPI_Recv(&in[0], 1, MPI_INT, me ? 3 : 2, 1, other, MPI_STATUS_IGNORE);
+    if (me >= 2) MPI_Send(&one, 1, MPI_INT, me == 2 ? 0 : 2, 1, other);
+    if (me == 0) MPIX_Comm_is_revoked(MPI_COMM_WORLD, &is_known);
+    return is_known;
+}
+
+/* Rank 2 answers the first message that it takes, and stops: the other one it never takes. Whether that was the one of rank 0. */
+static int left(void) {
+    MPI_Status status;
+    if (me < 2) send(2, 1);
+    if (me == 2) MPI_Recv(&in[0], 1, MPI_INT, MPI_ANY_SOURCE, 1, MPI_COMM_WORLD, &status);
+    if (me == 2) send(status.MPI_SOURCE, 2);
+    return me ? 0 : receive(2, 2) != MPI_SUCCESS;
+}
+
+/* Rank 1 stops, and rank 2 revokes: which of the two rank 0 is told of. */
+static int told(void) {
+    if (me == 2) return MPIX_Comm_revoke(MPI_COMM_WORLD);
+    return MPI_Allreduce(&one, &in[0], 1, MPI_INT, MPI_SUM, MPI_COMM_WORLD) == MPIX_ERR_REVOKED;
+}
+
 /* A part of the group is revoked, which the search doesn't follow. */
 static int part(void) {
     MPI_Comm half;
@@ -118,7 +145,8 @@ int main(int count, char **words) {
         const char *name;
         int (*play)(void);
     } plays[] = {{"any", any},     {"some", some},   {"all", all},       {"wild", wild},       {"probe", probe},
-                 {"sends", sends}, {"mixed", mixed}, {"tested", tested}, {"matched", matched}, {"revoked", revoked}, {"part", part}};
+                 {"sends", sends}, {"mixed", mixed}, {"tested", tested}, {"matched", matched}, {"revoked", revoked},
+                 {"ordered", ordered}, {"left", left}, {"told", told}, {"part", part}};
     int met = NONE;
     MPI_Init(&count, &words);
     MPI_Comm_set_errhandler(MPI_COMM_WORLD, MPI_ERRORS_RETURN);
