@@ -83,6 +83,7 @@ static void end_trial(struct trial *trial, const struct kind_of_sends *kind) {
     struct result result;
     if (kind->found) {
         um_read_found(trial, &kind->found[trial->place]);
+        if (um_options.json) um_tell_json(&kind->places[trial->place], &kind->found[trial->place]);
         um_close_trial(trial);
         trial->pid = 0;
         return;
@@ -114,17 +115,26 @@ static void tell_progress(int done, int count) {
     else fprintf(stderr, "\r%60s\r", "");
 }
 
-/* The program as it stands, before its places: a place of no rank. */
+/* The program as it stands, before its places, where no places are chosen: a place of no rank. */
 static bool add_no_stop(struct kind_of_sends *kind) {
+    int first = !um_are_places_chosen();
     struct place *places = calloc((size_t)kind->count + 1, sizeof *places);
     if (!places) return false;
     places[0] = (struct place){.rank = -1, .name = "without a stop"};
-    if (kind->count) memcpy(&places[1], kind->places, (size_t)kind->count * sizeof *places);
+    if (kind->count) memcpy(&places[first], kind->places, (size_t)kind->count * sizeof *places);
     free(kind->places);
     kind->places = places;
-    kind->count = um_options.search_stops ? kind->count + 1 : 1;
-    kind->found = calloc((size_t)kind->count, sizeof *kind->found);
+    kind->count += first;
+    kind->found = calloc((size_t)kind->count + 1, sizeof *kind->found);
     return kind->found != 0;
+}
+
+/* --places: each as --stop has it. */
+static int list_places(const struct kind_of_sends *kind) {
+    char text[32];
+    for (int k = 0; k < kind->count; k++) printf("%s\n", um_text_of_place(&kind->places[k], text, sizeof text));
+    fflush(stdout);
+    return kind->count ? 0 : 1;
 }
 
 /* Runs the program for each place, `trial_count` at the same time. */
@@ -150,6 +160,12 @@ static bool run_places(const struct kind_of_sends *kind, const char *launcher) {
     return true;
 }
 
+static void tell_beginning(int count) {
+    if (!um_options.json)
+        printf(count == 1 ? "%d place, at most %ld schedules\n" : "%d places, at most %ld schedules at each\n", count, um_options.limit);
+    fflush(stdout);
+}
+
 /* Searches all schedules of the program, and at each place of a stop. */
 int um_every_schedule(const char *launcher) {
     struct kind_of_sends kind = {.sends_wait = um_options.sends_wait};
@@ -157,11 +173,13 @@ int um_every_schedule(const char *launcher) {
     if (!um_options.limit) um_options.limit = LIMIT;
     if (!make_trials()) return STATUS_USAGE;
     if (!um_options.search_stops || !run_base(&kind, launcher)) kind.count = 0;
+    kind.count = um_choose_places(kind.places, kind.count);
+    if (um_options.places) return list_places(&kind);
     if (!add_no_stop(&kind)) return STATUS_USAGE;
     sigaction(SIGINT, &action, 0);
+    sigaction(SIGTERM, &action, 0);
     begun = time(0);
-    printf(kind.count == 1 ? "%d place, at most %ld schedules\n" : "%d places, at most %ld schedules at each\n", kind.count, um_options.limit);
-    fflush(stdout);
+    tell_beginning(kind.count);
     if (!run_places(&kind, launcher)) return STATUS_USAGE;
     tell_progress(kind.count, kind.count);
     int status = um_tell_all_found(kind.places, kind.found, kind.count);

@@ -52,10 +52,14 @@ struct found {
 static inline bool is_place(const struct place *place) { return place && place->rank >= 0; }
 
 /* findings.c */
+char *um_text_of_place(const struct place *place, char *text, size_t room);
 void um_path_of_schedule(const struct place *place, int number, char *path, size_t room);
 void um_read_found(const struct trial *trial, struct found *found);
 bool um_is_right(const struct found *found);
 int um_tell_all_found(const struct place *places, const struct found *found, int count);
+
+/* json.c */
+void um_tell_json(const struct place *place, const struct found *found);
 
 /* trials.c */
 int um_processors(void);
@@ -69,6 +73,7 @@ char *um_read_all(int file);
 /* places.c */
 struct place *um_read_places(const struct trial *trial, int *count);
 int um_compare_places(const void *a, const void *b);
+bool um_are_places_chosen(void);
 int um_choose_places(struct place *places, int count);
 
 /* branches.c */

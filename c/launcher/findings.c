@@ -77,7 +77,8 @@ static bool are_alike(const struct found *one, const struct found *other) {
     return !*one->other && !*other->other && are_endings_of(one, other) && are_endings_of(other, one);
 }
 
-static char *text_of_place(const struct place *place, char *text, size_t room) {
+/* A place, as --stop has it. */
+char *um_text_of_place(const struct place *place, char *text, size_t room) {
     *text = 0;
     if (is_place(place)) snprintf(text, room, place->inside ? "%d@%d.%d" : "%d@%d", place->rank, place->call, place->inside);
     return text;
@@ -85,7 +86,7 @@ static char *text_of_place(const struct place *place, char *text, size_t room) {
 
 static void tell_found_ending(const struct place *place, const struct found *found, const struct found_ending *ending, bool is_first) {
     char stop[32] = "", schedules[48], path[512];
-    text_of_place(place, stop, sizeof stop);
+    um_text_of_place(place, stop, sizeof stop);
     snprintf(schedules, sizeof schedules, found->is_whole ? "all %ld" : "first %ld", found->searched);
     printf("%-10s %-22s %-12s %ld: %s%s\n", is_first ? stop : "", is_first ? place->name : "", is_first ? schedules : "", ending->count,
            um_words_of_outcome(ending->outcome), ending->why);
@@ -125,7 +126,7 @@ static void tell_places_found(const struct place *places, const struct found *fo
         bool is_begun = false;
         for (int other = k + 1; other < count && !um_options.all; other++)
             if (is_told(&found[other]) && are_alike(&found[k], &found[other])) {
-                printf("%s %s", is_begun ? "," : "           so too at", text_of_place(&places[other], text, sizeof text));
+                printf("%s %s", is_begun ? "," : "           so too at", um_text_of_place(&places[other], text, sizeof text));
                 is_begun = true;
             }
         if (is_begun) printf("\n");
@@ -141,24 +142,39 @@ static void tell_found_notes(const struct found *found, int count) {
     }
 }
 
-/* 0: all was searched, and all is right. 1: not so. STATUS_LIMIT: what was searched is right, but that isn't all. */
-int um_tell_all_found(const struct place *places, const struct found *found, int count) {
-    int tried = 0, right = 0, whole = 0;
-    long schedules = 0, unseen = 0;
-    printf("%-10s %-22s %-12s %s\n", "stop", "call", "schedules", "what came out");
-    tell_places_found(places, found, count);
+/* What all searches come to. */
+struct sums {
+    int tried, right, whole;
+    long schedules, unseen;
+};
+
+static struct sums sums_of(const struct found *found, int count) {
+    struct sums sums = {0};
     for (int k = 0; k < count; k++) {
         if (!found[k].is_there && !*found[k].other) continue;
-        tried++;
-        right += um_is_right(&found[k]);
-        whole += found[k].is_whole;
-        schedules += found[k].played;
-        unseen += found[k].unseen;
+        sums.tried++;
+        sums.right += um_is_right(&found[k]);
+        sums.whole += found[k].is_whole;
+        sums.schedules += found[k].played;
+        sums.unseen += found[k].unseen;
     }
-    printf("%d of %d places right in each schedule; all schedules at %d of them, %ld in all\n", right, tried, whole, schedules);
-    if (tried < count) printf("%d places weren't tried\n", count - tried);
+    return sums;
+}
+
+static void tell_table(const struct place *places, const struct found *found, int count, const struct sums *sums) {
+    printf("%-10s %-22s %-12s %s\n", "stop", "call", "schedules", "what came out");
+    tell_places_found(places, found, count);
+    printf("%d of %d places right in each schedule; all schedules at %d of them, %ld in all\n", sums->right, sums->tried, sums->whole,
+           sums->schedules);
+    if (sums->tried < count) printf("%d places weren't tried\n", count - sums->tried);
     tell_found_notes(found, count);
-    if (unseen) printf("%ld schedules by chance weren't among those that were searched\n", unseen);
-    if (right < tried || unseen) return 1;
-    return whole < count ? STATUS_LIMIT : 0;
+    if (sums->unseen) printf("%ld schedules by chance weren't among those that were searched\n", sums->unseen);
+}
+
+/* 0: all was searched, and all is right. 1: not so. STATUS_LIMIT: what was searched is right, but that isn't all. */
+int um_tell_all_found(const struct place *places, const struct found *found, int count) {
+    struct sums sums = sums_of(found, count);
+    if (!um_options.json) tell_table(places, found, count, &sums);
+    if (sums.right < sums.tried || sums.unseen) return 1;
+    return sums.whole < count ? STATUS_LIMIT : 0;
 }

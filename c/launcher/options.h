@@ -30,7 +30,8 @@ struct options {
     const char *schedule, *keep; /* files: of a schedule that is played again, and where one is kept */
     double timeout;
     bool sends_wait, tag, every_stop, every_schedule, same_output, all;
-    int first_call, last_call, sample; /* --every-stop: the calls that are tried, 0 for all, and how many places */
+    int first_call, last_call, sample; /* of tables: the calls that are tried, 0 for all, and how many places */
+    bool places, json;                 /* --every-schedule: the places alone, or a line of JSON for each */
     bool calls;                        /* a run for a table tells its places */
     int branches;                      /* a file with the places from which processes go on, or -1 */
     bool is_alone;                     /* the program was started by itself */

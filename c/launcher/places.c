@@ -37,6 +37,9 @@ struct place *um_read_places(const struct trial *trial, int *count) {
     return places;
 }
 
+/* Whether some are asked for. */
+bool um_are_places_chosen(void) { return um_options.first_call || um_options.last_call || um_options.sample; }
+
 /* Keeps those that are asked for, as far apart as can be where that is a number. How many. */
 int um_choose_places(struct place *places, int count) {
     int kept = 0, sample = um_options.sample;

@@ -29,12 +29,14 @@ static const char usage[] =
     "  --same-output      with --every-stop: what the run writes has to be the same lines too, in any order, each at least once\n"
     "  --jobs N           with --every-stop: N runs at the same time; if left out, as many as there are processors\n"
     "  --all              with --every-stop: a line for each place, not only for those where something is wrong\n"
-    "  --sample N         with --every-stop: N of the places, as far apart as can be\n"
-    "  --from K, --to K   with --every-stop: the places of the calls from the K-th on, or up to it\n"
+    "  --sample N         with --every-stop or --every-schedule: N of the places, as far apart as can be\n"
+    "  --from K, --to K   with --every-stop or --every-schedule: the places of the calls from the K-th on, or up to it\n"
     "  --every-schedule   plays every schedule of the program, and with a stop at each place in turn, up to the order of events that commute\n"
     "  --stops 0          with --every-schedule: without further stops\n"
     "  --no-loss          with --every-schedule: what a rank sent before it stops comes; else the last of it may be lost, for each receiver apart\n"
     "  --limit N          with --every-schedule: at most N schedules at each place (10000)\n"
+    "  --places           with --every-schedule: lists the places, one a line, and plays nothing there\n"
+    "  --json             with --every-schedule: a line of JSON for each place, in place of the table\n"
     "  --rounds N         agreements that can be made on each communicator (1024)\n"
     "  --version          tells the version\n"
     "\n"
@@ -108,6 +110,8 @@ static bool read_flag(const char *word) {
     else if (!strcmp(word, "--same-output")) um_options.same_output = true;
     else if (!strcmp(word, "--all")) um_options.all = true;
     else if (!strcmp(word, "--calls")) um_options.calls = true;
+    else if (!strcmp(word, "--places")) um_options.places = true;
+    else if (!strcmp(word, "--json")) um_options.json = true;
     else return false;
     return true;
 }
@@ -158,8 +162,10 @@ static int refuse_clash(void) {
     if (um_options.every_schedule && by_chance) return refuse("--every-schedule doesn't go with", "--seed or --seeds");
     if (um_options.every_schedule && um_options.every_stop) return refuse("--every-schedule doesn't go with", "--every-stop");
     if (um_options.every_stop && um_options.seeds) return refuse("--every-stop plays each place once, which doesn't go with", "--seeds");
-    if (!um_options.every_stop && (um_options.first_call || um_options.last_call || um_options.sample))
-        return refuse("--sample, --from and --to go with", "--every-stop");
+    bool has_places = um_options.every_stop || (um_options.every_schedule && um_options.search_stops);
+    if (!has_places && (um_options.first_call || um_options.last_call || um_options.sample || um_options.places))
+        return refuse("--sample, --from, --to and --places go with a table of places, and not with", "one run");
+    if (!um_options.every_schedule && (um_options.places || um_options.json)) return refuse("--places and --json go with", "--every-schedule");
     if (um_options.draw && (!um_is_played || um_options.seeds || um_options.every_stop || um_options.every_schedule))
         return refuse("one schedule is drawn, by --seed or --schedule, and not by", "--draw");
     if (um_options.keep && (!um_is_played || um_options.every_stop))

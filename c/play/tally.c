@@ -24,9 +24,9 @@ bool um_note_report(const char *line, size_t length) {
     return true;
 }
 
-/* A signal from outside: what is known is told after the present schedule. False: it came before. */
+/* A signal from outside: what is known is told after the present schedule. False: it came before. Who searches for a table gets it from that one too. */
 bool um_stop_soon(void) {
-    if (!um_tally || um_tally->is_over) return false;
+    if (!um_tally || (um_tally->is_over && um_options.report < 0)) return false;
     return um_tally->is_over = true;
 }
 
