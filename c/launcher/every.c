@@ -22,6 +22,7 @@ struct kind_of_sends {
     struct found *found; /* of --every-schedule: what the search at each place found; else null */
 };
 
+static volatile sig_atomic_t is_interrupted;
 static struct trial *trials;
 static int trial_count, counts[2][OUTCOMES];
 
@@ -79,11 +80,18 @@ static void tell_result(const struct kind_of_sends *kind, const struct place *pl
     free(result->output);
 }
 
+/* What a search found. One that was interrupted before it began wasn't tried. */
+static void keep_found(const struct trial *trial, const struct kind_of_sends *kind) {
+    struct found *found = &kind->found[trial->place];
+    um_read_found(trial, found);
+    if (is_interrupted && !found->is_there) *found->other = 0;
+    else if (um_options.json) um_tell_json(&kind->places[trial->place], found);
+}
+
 static void end_trial(struct trial *trial, const struct kind_of_sends *kind) {
     struct result result;
     if (kind->found) {
-        um_read_found(trial, &kind->found[trial->place]);
-        if (um_options.json) um_tell_json(&kind->places[trial->place], &kind->found[trial->place]);
+        keep_found(trial, kind);
         um_close_trial(trial);
         trial->pid = 0;
         return;
@@ -96,15 +104,16 @@ static void end_trial(struct trial *trial, const struct kind_of_sends *kind) {
 
 /* ---- --every-schedule ---- */
 
-static volatile sig_atomic_t is_interrupted;
 static time_t begun;
 
 /* What is known is told when the searches that run have ended, which they do soon. */
 static void interrupt(int number) { is_interrupted = number; }
 
+/* They are told each second: one that had just begun may not have heard it. */
 static void interrupt_trials(void) {
     for (int k = 0; k < trial_count; k++)
         if (trials[k].pid > 0) kill(trials[k].pid, SIGINT);
+    alarm(1);
 }
 
 /* How far it is, on a terminal. */
@@ -178,6 +187,7 @@ int um_every_schedule(const char *launcher) {
     if (!add_no_stop(&kind)) return STATUS_USAGE;
     sigaction(SIGINT, &action, 0);
     sigaction(SIGTERM, &action, 0);
+    sigaction(SIGALRM, &action, 0);
     begun = time(0);
     tell_beginning(kind.count);
     if (!run_places(&kind, launcher)) return STATUS_USAGE;
