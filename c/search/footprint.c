@@ -153,6 +153,7 @@ void um_begin_call(const struct event *call) {
     own->kind = call->kind;
     own->comm = (int8_t)call->comm;
     own->tag = call->tag;
+    own->made_in = um_ranks[call->rank].plan.calls;
     own->waits = player->in_wait && !player->is_passing;
     own->flags = um_is_known_revoked(call->rank, call->comm) ? 0 : SAW_NO_REVOCATION;
     if (call->kind == STOPS) own->flags = 0;

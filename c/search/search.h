@@ -46,12 +46,12 @@ struct footprint {
     uint8_t other;                        /* the other rank */
     int8_t comm, source;                  /* source: the named one, or the sender; ANYBODY */
     uint8_t silent_count;
-    bool waits;                /* a look in a wait */
-    bool is_over_anyway;       /* .. which a revocation had ended too */
-    uint8_t matches, sends;    /* bits of ranks: whose sends that wait it matched; to whom such sends were looked at in vain */
-    int16_t pushed, by, found; /* the events that pushed its item, that ended its request, by which the message came that its probe found */
-    int16_t after;             /* the event that ended the wait before it, where no look did */
-    int32_t tag;
+    bool waits;                    /* a look in a wait */
+    bool is_over_anyway;           /* .. which a revocation had ended too */
+    uint8_t matches, sends;        /* bits of ranks: whose sends that wait it matched; to whom such sends were looked at in vain */
+    int16_t pushed, by, found;     /* the events that pushed its item, that ended its request, by which the message came that its probe found */
+    int16_t after;                 /* the event that ended the wait before it, where no look did */
+    int32_t tag, made_in;          /* made_in: the number of the call of MPI */
     struct silence silent[SILENT]; /* looks in vain of the wait that it ends */
     uint32_t ended;                /* of a message: the receive that it ended, its number and 1; 0: none */
     uint64_t ended_on;             /* of word of a failure: bits of families of communicators whose receives it ended */
