@@ -6,6 +6,12 @@
 //! A job's conditions and expectations compare the words of an answer with their own, without a text: [`fulfils`] and [`holds_of`]
 //! follow the words as they are put. Read specs/Told.antt first (what is told of an answer, and its code), then Trace.antt (the words) and
 //! Reacting.antt (conditions and expectations).
+//!
+//! - `answer.rt`: what comes of a step; `told_answer.rt`: what is told of it; `codes.rt`, `reading.rt`: its code, there and back
+//! - `putting.rt`, `sink.rt`, `bytes.rt`: its words, piece by piece; `lines.rt`: the lines of a trace
+//! - `follow.rt`: whether the words begin so; `conditions.rt`, `clauses.rt`: what a job asks of them
+//!
+//! The theorem: the code of an answer, read back, gives what is told of it. Not here: which answer a step gets.
 #![tactic(auto)]
 
 mod answer;

@@ -1,4 +1,6 @@
 //! The bytes of a message.
+//!
+//! It may have any length: the limit of 1,024 bytes is `isend`'s, which takes memory for more than 30 also where the rank is prepared.
 ghost use Rattle.std.specs.Prelude.{◌≡◌, ◌==◌, ◌≤◌, length, IfOk, IsOk};
 
 use crate::error::OutOfMemory;

@@ -1,4 +1,6 @@
 //! Groups of ranks (MPI 4.0, 7.3).
+//!
+//! It never spills, so no call on it but `translate` can run out of memory.
 ghost use Rattle.std.specs.Prelude.{◌≡◌, ◌≢◌, [], ℕ, ◌<◌, ◌≤◌, length, map, slice_get, Some, IfOk, IfErr, OnOk, MatchOption, All, Any, IsTrue, ◌↔◌, ◌⊎◌};
 
 use crate::error::{CallError, OutOfMemory};

@@ -7,6 +7,12 @@
 //! - A [`CallError`] is a refusal: its number and its name are those of traces.
 //!
 //! A context names a communicator: 0 is the world's, and that of number c has its duplicate at 2c + 1 and its shrink at 2c + 2.
+//!
+//! Files by what they are about: `rank.rt`, `group.rt`, `rank_set.rt`, `context.rt`, `tag.rt` (names); `envelope.rt`, `body.rt`, `pattern.rt`,
+//! `request_id.rt` (messages and receives); `item.rt`, `item_kind.rt`, `noted.rt`, `noted_item.rt`, `noted_letter.rt` (items, and as a log keeps
+//! them); `topic.rt`, `entrance.rt`, `contribution.rt`, `decision.rt` (shrinks and agreements); `error.rt` (refusals).
+//!
+//! Not here: what a rank does with any of these. A decision is lawful by its type; that it is true of what ranks did is said far above.
 #![tactic(auto)]
 
 mod body;

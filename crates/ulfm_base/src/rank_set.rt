@@ -1,4 +1,7 @@
 //! Sets of ranks.
+//!
+//! Eight flags: they read best in contracts, are `Copy` and take 8 bytes. That there are eight is a fact of the type, so in proofs too two sets
+//! with the same ranks are one.
 ghost use Rattle.std.specs.Prelude.{◌≡◌, ◌≢◌, ℕ, ◌↔◌, ◌||◌, ◌&&◌, IsTrue, length};
 ghost use Rattle.ulfm_base.specs.declared.rank.TheConstants.{RANK_PLACES};
 

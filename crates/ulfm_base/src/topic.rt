@@ -1,4 +1,6 @@
 //! What ranks decide about (ULFM, shrink and agree).
+//!
+//! A shrink and an agreement have one machinery: a topic is a context and a purpose, and entry, proposal, decision and adoption go by topics.
 ghost use Rattle.std.specs.Prelude.{◌≡◌};
 
 use crate::context::Context;

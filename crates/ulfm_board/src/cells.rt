@@ -1,4 +1,6 @@
 //! The cells of topics.
+//!
+//! A row of 63 for shrinks, and one for each round of agreements. A decision stays in its cell until the board goes.
 ghost use Rattle.std.specs.Prelude.{◌≡◌, ◌≤◌, ◌^◌, MatchOption};
 ghost use Rattle.ulfm_base.specs.declared.topic.Topic.{Topic};
 ghost use Rattle.ulfm_board.specs.Known.{cell_of};

@@ -6,6 +6,10 @@
 //!     let held = decider.decide(decision)?;
 //!
 //! The definitions are in specs/Known.antt.
+//!
+//! - `decider.rt`: the contract of both; `seat.rt`: the board that threads share; `memory.rt`: that of one owner; `cells.rt`: which cell a topic has
+//!
+//! Not here: that a decision was proposed, or is true. And that seats of one board answer the first one handed in is tested, not proved.
 #![tactic(auto)]
 
 mod cells;

@@ -1,4 +1,6 @@
 //! Seats of one board.
+//!
+//! Another seat may have set the cell, so nothing says whose group the decision is about: `adopt` looks.
 ghost use Rattle.std.specs.Prelude.{◌≡◌, ◌<◌, ◌≤◌, ◌*◌, ◌⊎◌, suc, replicate, vec_len, IfOk, IfErr, OnOk, OnErr, All};
 ghost use Rattle.std.specs.declared.option.Option.TheVariants.{None, Some};
 ghost use Rattle.std.specs.Arc.{arc_value};

@@ -1,4 +1,6 @@
 //! Items without their source.
+//!
+//! The ring's place gives the source back. Rank 0 stands in its place, so that the rest needn't be copied once more.
 ghost use Rattle.std.specs.Prelude.{◌≡◌};
 ghost use Rattle.ulfm_carrier.specs.Carried.{signed_by, carried_of, item_from};
 

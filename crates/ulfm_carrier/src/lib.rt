@@ -6,6 +6,12 @@
 //!     let ends = lanes(alloc, ranks, capacity)?;
 //!
 //! The definitions are in specs/Lanes.antt and Shared.antt; Family.antt says that ends were made together.
+//!
+//! - `ends.rt`: what every carrier has to do; `residue.rt`, `carried.rt`, `head.rt`: items on their way and left over
+//! - `lane_ends.rt`, `inlet.rt`, `wiring.rt`, `gathering.rt`: rings; `shared_ends.rt`, `inbox.rt`, `own_inbox.rt`, `shared_wiring.rt`, `emptying.rt`: inboxes
+//!
+//! The theorem: once ends are gathered, what was pushed is what was taken and then what is left, in order, for each ordered pair (`IsGathered`). Not here:
+//! that a push finds room or a pop an item, but what a rank pushed to itself.
 #![tactic(auto)]
 
 mod carried;

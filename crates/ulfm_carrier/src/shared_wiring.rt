@@ -1,4 +1,6 @@
 //! An inbox for each rank, with a pass for each sender.
+//!
+//! It takes the allocator and no `rt`, as `lanes` does: making passes waits for nobody.
 ghost use Rattle.std.specs.Prelude.{◌≡◌, ◌<◌, ◌≤◌, ◌⊎◌, ℕ, length, map, vec_len, IfOk, IfErr, OnOk};
 ghost use Rattle.std.specs.Arc.{arc_value};
 ghost use Rattle.ulfm_carrier.specs.declared.shared_ends.SharedEnds.{SharedEnds as Shared};

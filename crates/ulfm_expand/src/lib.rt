@@ -6,6 +6,13 @@
 //! of jobs to refuse. Read specs/Ranks.antt first (a step for several ranks), then specs/Iterations.antt and specs/Blocks.antt (a block
 //! of steps), specs/Guards.antt (where errors in a block lead), specs/Together.antt (conditions beside a step's own), specs/Lines.antt (all
 //! steps) and specs/Documents.antt (the table of a job).
+//!
+//! - `written.rt`: all steps; `documents.rt`: the text of a job, for `expand`; `line.rt`, `unwritten.rt`: what comes out, or why nothing does
+//! - `ranks.rt`, `shared.rt`: steps for several ranks; `block.rt`, `iteration.rt`, `tags.rt`: blocks; `guard.rt`, `answers.rt`: where errors lead
+//! - `conditions.rt`, `together.rt`, `members.rt`: tables with other values
+//! - `rows.rt`, `row_words.rt`: rows of `never`
+//!
+//! The theorem: [`written_out`] gives the list of the same name in specs/Lines.antt. Not here: whether a step is good.
 #![tactic(auto)]
 
 mod answers;

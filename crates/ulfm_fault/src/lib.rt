@@ -9,6 +9,8 @@
 //!
 //! Each contract names the whole of what a call changes. Read specs/Facts.antt: `known_in`, `ack_answer` and `has_unacked` are what
 //! `MPI_Comm_get_failed`, `MPI_Comm_ack_failed` and a waiting wildcard go by.
+//!
+//! All of it is in `faults.rt`. Not here: how a notice comes, and whom it is passed on to.
 #![tactic(auto)]
 
 mod faults;

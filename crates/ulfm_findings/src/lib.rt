@@ -9,6 +9,10 @@
 //! [`read_front`] reads all of an input, up to one byte more than a job may have. [`write_whole`] writes all of a text, and answers whether it
 //! could. Their contracts say which bytes were read and written, also where a stream fails half way. [`is_among`] says whether a key is one of
 //! those that a table may have.
+//!
+//! - `first_ten.rt`, `stream.rt`, `names.rt`: one each
+//!
+//! Not here: what the bytes of an input mean.
 #![tactic(auto)]
 
 mod first_ten;

@@ -9,6 +9,12 @@
 //!
 //! A job always keeps its limits: that is its invariant, `IsJob`. Read specs/Job.antt first (what a job is, and one with more stops or other
 //! turns), then Words.antt (a step in the words of traces) and Begins.antt (when an answer begins as a clause says).
+//!
+//! - `job.rt`: a job, and all that is asked of it; `step.rt`, `left_step.rt`, `condition.rt`, `clause.rt`, `label.rt`, `text.rt`, `texts.rt`: its parts
+//! - `stopped.rt`: with one more stop; `joint.rt`: what ranks decide together; `copying.rt`, `noted_step.rt`: steps once more, and in reports
+//! - `words.rt`: steps in words; `limits.rt`: the limits; `fault.rt`: why a text is refused
+//!
+//! Not here: the text (`ulfm_reader`), and what a step does (`ulfm_script`).
 #![tactic(auto)]
 
 mod clause;

@@ -47,9 +47,6 @@ pub const MOST_ITEMS: usize = 16;
 /// The most bytes of such a text.
 pub const MOST_WORDS: usize = 1024;
 
-/// The most rows of `never`.
-pub const MOST_ROWS: usize = 32;
-
 /// The fewest texts of a row.
 pub const FEWEST_OF_ROW: usize = 2;
 

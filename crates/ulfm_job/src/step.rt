@@ -1,4 +1,6 @@
 //! What a rank is asked to do.
+//!
+//! A step is lent: by a job, and by an event of a world. One that stays open is no send, so a player keeps it without taking memory.
 ghost use Rattle.std.specs.Prelude.{◌≡◌, ◌↔◌, IsTrue, Some};
 
 use crate::label::Label;

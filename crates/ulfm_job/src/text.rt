@@ -1,4 +1,6 @@
 //! A text of a job.
+//!
+//! It has no `Arc`: a clone of the kit's `Arc` can fail, as a copy can. So a shared text would save copies and no answer out of memory.
 ghost use Rattle.std.specs.Prelude.{◌≡◌, ◌≤◌, length, IfOk, IsOk};
 
 use std::alloc::Global;

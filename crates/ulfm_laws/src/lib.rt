@@ -7,6 +7,8 @@
 //!
 //! It has no other code. Read Lawful.antt first, then the definitions of its fields: Flow.antt (what a rank took of what was sent to it),
 //! Order.antt (nothing is taken before it is owed), Answers.antt, Decisions.antt and Agreement.antt (shrinks and agreements), Reader.antt (what the answers tell of letters), and Rest.antt.
+//!
+//! All laws are in `laws.rt`. Not here: that an engine produces such reports. Each shows that by its own contract.
 #![tactic(auto)]
 
 mod laws;

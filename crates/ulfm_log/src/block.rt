@@ -1,4 +1,6 @@
 //! Decisions in blocks of their own.
+//!
+//! So that an entry of a log stays small (64 bytes at most, which is proved): `prepare` makes the block, or else the call that adopts.
 ghost use Rattle.std.specs.Prelude.{◌≡◌, IsTrue, OnOk, OnErr, false};
 
 use std::alloc::Global;

@@ -1,4 +1,6 @@
 //! The communicators of one rank (MPI 4.0, 7.4).
+//!
+//! Room for all 63 is made at the start, so that a duplicate and an adoption make no more.
 ghost use Rattle.std.specs.Prelude.{◌≡◌, ◌++◌, ◌∷◌, [], Some, None, is_some, false, IfOk, MatchOption};
 ghost use Rattle.ulfm_base.specs.Context.{shrink_of};
 ghost use Rattle.ulfm_base.specs.declared.topic.Purpose.TheVariants.{Shrink};

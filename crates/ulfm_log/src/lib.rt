@@ -8,6 +8,13 @@
 //!     log.push_reserved(Entry::Entered(entrance));
 //!
 //! Read specs/Log.antt first (what is read off a log), then Facts.antt, Communicators.antt, Owed.antt and Proposal.antt.
+//!
+//! - `log.rt`, `entry.rt`, `noted_answer.rt`, `history.rt`: the log, kept or not
+//! - `facts.rt`, `communicators.rt`: what it tells of stops, revocations and communicators
+//! - `entrances.rt`, `decisive.rt`, `row.rt`, `rounds.rt`: who entered what; `proposal.rt`, `adopting.rt`, `block.rt`: what is proposed and adopted
+//! - `outbox.rt`, `outboxes.rt`, `forwarding.rt`, `word.rt`: what goes out, and what is passed on; `message.rt`: how a found letter is named
+//!
+//! Each contract names the whole of what a call changes. Not here: receives, and so no answer of a test.
 #![tactic(auto)]
 
 mod adopting;

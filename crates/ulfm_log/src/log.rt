@@ -1,4 +1,7 @@
 //! A log that is kept, or of which proofs alone know.
+//!
+//! The ranks of jobs keep theirs, since reports show it. Nothing that a rank answers is read off a kept log: each answer comes from a table that
+//! follows the log by the rank's invariant.
 ghost use Rattle.std.specs.Prelude.{◌≡◌, ◌+◌, ◌≤◌, ◌<◌, ◌^◌, [], ◌∷◌, ◌++◌, length, IsTrue, IfOk, OnOk, OnErr, vec_capacity};
 
 use crate::entry::Entry;

@@ -1,4 +1,7 @@
 //! What waits to go out to one rank.
+//!
+//! An item moves from its send to the answer and is never copied. The place of what went out last is kept, which alone may come back, until a
+//! further item goes out.
 ghost use Rattle.std.specs.Prelude.{◌↔◌, ◌≡◌, ◌<◌, ◌^◌, ◌∷◌, [], drop, IsTrue, IfNone, IfSome, OnOk, OnErr, false};
 ghost use Rattle.ulfm_log.specs.Outboxes.{one_if};
 

@@ -1,4 +1,6 @@
 //! How many agreements a rank entered on each communicator, and what is let go after a further one (ULFM, agree).
+//!
+//! As a rank enters a further agreement on a communicator, the entries that tell of earlier ones there go.
 ghost use Rattle.std.specs.Prelude.{◌≡◌, ◌+◌, ◌<◌, ◌^◌, ℕ, if◌then◌else◌};
 ghost use Rattle.ulfm_log.specs.Decisive.{rounds_on, enters_on, is_current, tells};
 

@@ -9,6 +9,14 @@
 //!
 //! `post` and `probe` answer the earliest kept letter that is admitted, `arrive` the earliest receive that waits for the letter. The rules
 //! stand in specs/Pairing.antt, one a field of `LawfulPairing`; that a history has one lawful pairing at most is a law of this crate.
+//!
+//! - `matcher.rt`: the calls, each with `tracks`: its answer is that of each lawful pairing; `arrived.rt`: what becomes of an arriving letter
+//! - `law.rt`: the laws, `one_lawful_pairing` first
+//! - where entries stand: `recent.rt` (the last ones), `pool.rt`, `bucket.rt`, `buckets.rt`, `key.rt`, `near.rt` (those before them)
+//! - `search.rt`, `glance.rt`: which is the least that fits; `settling.rt`, `taking.rt`, `removal.rt`: how entries come and go
+//! - `copying.rt`: all of it once more
+//!
+//! Not here: that a search is fast, which is measured. Nor what a receive of a failed rank is answered: `ulfm_rank` ends it.
 #![tactic(auto)]
 
 mod arrived;

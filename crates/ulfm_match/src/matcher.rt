@@ -1,4 +1,15 @@
 //! The receives that wait and the letters that are kept.
+//!
+//! The last that came, at most 128, stand in a short list, which is searched from its front: among so few that is as fast as anything. Those before
+//! them stand by number in a map, and their numbers in queues: one for each context, source or any, and tag or any. A message is in two queues, those
+//! of its source by its tag and by any; a receive is in one. A receive that is posted looks at the queue of its source, or of each source where it
+//! leaves that open. A message that comes looks at one queue, or at four where a receive leaves its source or its tag open. So a search doesn't grow
+//! with what is kept.
+//!
+//! A cleared context is a flag. To post a receive of it, or to hand on a message of it, is the caller's fault, who can ask `is_cleared`: the rank
+//! clears at the first revocation, and proves that it never does so.
+//!
+//! Its contract is a relation. `post` and `arrive` were tried as functions over two lists, and took as many lines in all.
 ghost use Rattle.std.specs.Prelude.{◌≡◌, ◌≢◌, ◌+◌, ◌<◌, ◌^◌, ◌↔◌, ℕ, [], IsTrue, Contains, OnOk, OnErr, IfNone, IfOk, IfSome, MatchOption, false, Some};
 ghost use Rattle.ulfm_base.specs.Pattern.{Admits, names};
 ghost use Rattle.ulfm_match.specs.Arrived.{answered, HandsOn};

@@ -7,7 +7,11 @@
 //! up, by the reports of its ranks.
 //!
 //! Read specs/Words.antt. No contract says anything of the numbers of messages, of what moves send, nor of [`replayed`]. Pictures, which show
-//! them, are held byte for byte by `tools/check-pictures`.
+//! them, are held byte for byte by tools/gate/check-pictures.
+//!
+//! - `schedule.rt`, `moved.rt`, `course.rt`, `cargo.rt`, `parcel.rt`: a schedule, its moves and their parts, and its text
+//! - `numbers.rt`: which message a receive got, read off ranks
+//! - `replaying.rt`, `given_up.rt`, `held.rt`, `missed.rt`, `under_way.rt`: the schedule that a replay was, with what its steps waited for
 #![tactic(auto)]
 
 mod cargo;

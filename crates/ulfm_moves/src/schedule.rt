@@ -1,4 +1,7 @@
 //! Schedules as values, and their text.
+//!
+//! Words and pictures are printed from it, and none reads another. Which message a receive got is read off its rank's matcher and log as the events
+//! happen, not found out anew. It keeps answers and steps once more, since the worlds in which they came about are gone by then.
 ghost use Rattle.std.specs.Prelude.{◌≡◌, ◌++◌, OnOk, codes, string_bytes};
 ghost use Rattle.std.specs.List.{flat_map};
 ghost use Rattle.ulfm_moves.specs.Words.{course_text, moves_text, open_text, schedule_text};

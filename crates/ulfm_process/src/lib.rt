@@ -8,6 +8,11 @@
 //! No call waits. [`Process::turn`] moves what came in and what goes out. Who chooses what moves when calls its halves, [`Process::push`] and
 //! [`Process::take_from`], and asks before what comes: [`Process::next_from`], [`Process::would`]. Contracts see a process as its rank's state, its end, and what
 //! its seat knows (`ProcessView`, specs/View.antt); of a process its end pushed what its rank let go out, and took what its rank took.
+//!
+//! - `process.rt`, `making.rt`: a process, and those of a world; `outlook.rt`
+//! - in `process/`: `letters`, `probes`, `communicators`, `recovery`, `deciding` (calls), `turning`, `ahead` (what moves, and what would come)
+//!
+//! The theorem is the invariant, `IsAtEnd`. Not here: that a decision is true of what ranks did: no log is there to look at.
 #![tactic(auto)]
 
 mod making;

@@ -1,4 +1,7 @@
 //! The job of a text.
+//!
+//! What speaks of jobs alone doesn't stand on this crate, so it is proved beside it: `read` is a call of the trait `ReadJob`, and `Job::new` is
+//! public for it. The rows of `never` stand beside the job, since no rank's play depends on them: a job with a stop more needs none.
 ghost use Rattle.std.specs.Prelude.{◌≡◌, ◌≤◌, ◌<◌, ℕ, List, Err, IfOk, length, map, option_map};
 ghost use Rattle.toml.specs.View.{items_view, table_view};
 ghost use Rattle.ulfm_expand.specs.Lines.{line_view};

@@ -37,4 +37,4 @@ Statuses: 0 done, 1 job refused, 2 usage, 3 run failed, 4 output failed, 5 input
 6 by --strict alone, where a step is unfinished: MPI would hang there;
 7 by outcomes alone, past its limit; 8 by outcomes --show alone, no schedule;
 9 an answer isn't as its step expects, or what must not go together came.
-docs/JOBS.md has the format of jobs and traces, docs/RULES.md the rules that ranks obey.";
+docs/JOBS.md has the format of jobs, docs/COMMANDS.md that of traces, docs/RULES.md the rules that ranks obey.";

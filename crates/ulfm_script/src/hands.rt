@@ -1,4 +1,7 @@
 //! A rank's turn, by whatever hands it has.
+//!
+//! It names no handle: a rank thread's hands hold one, and the bound `Wait` stands at their `impl` alone. A poll is each engine's own: in finer parts
+//! it takes more lines than it saves.
 ghost use Rattle.std.specs.Prelude.{◌≡◌, ◌<◌, ℕ, Bool, true, false, IfOk, Option};
 ghost use Rattle.std.specs.declared.option.Option.TheVariants.{None, Some};
 

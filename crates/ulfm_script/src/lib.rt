@@ -6,6 +6,13 @@
 //!
 //! [`turn`] is one turn of a rank over the hands of whoever runs it: items go out, one comes in, a step is polled. [`trace_text`]
 //! prints what all ranks report. Read specs/Calls.antt (what a poll says), then Answered.antt (what a report owes).
+//!
+//! - `player.rt`, with `player/` for polls, decisions, items and copies; `called.rt`: what came of a poll
+//! - `poll.rt`, `receiving.rt`, `joint.rt`, `topic.rt`, `members.rt`: one poll, by the kind of its step
+//! - `hands.rt`: a turn; `report.rt`, `trace.rt`, `expected.rt`: what a rank did, its text, and whether it is as the job expects
+//! - `fault.rt`: why a run fails
+//!
+//! The theorem: each answer of [`Player::call`] is `AnswersStep` on the rank's log (`called`). Not here: whose turn it is.
 #![tactic(auto)]
 
 mod called;

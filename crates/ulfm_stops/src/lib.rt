@@ -8,6 +8,11 @@
 //!
 //! Read specs/Place.antt first (what a job is with the stops of a place), then Places.antt (all places of a job) and Text.antt (how they
 //! are written).
+//!
+//! - `place.rt`, `stop.rt`: a place, and the job at it (`job_at`); `listing.rt`: all places (`places_of`); `reading.rt`: a place as text
+//! - `own.rt`, `moved.rt`, `copied.rt`: stops of the job's own, numbers beside a stop, a job once more
+//!
+//! Not here: what else a text asks at a place (`ulfm_replies`).
 #![tactic(auto)]
 
 mod copied;

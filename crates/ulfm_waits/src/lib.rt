@@ -6,6 +6,11 @@
 //!     }
 //!
 //! Read specs/Waits.antt, then Values.antt: what a [`Wait`] says in words.
+//!
+//! - `need.rt`, `awaiting.rt`: what is waited for, and of whom; `bearing.rt`, `bearer.rt`, `remark.rt`: who would bring it, or why too late
+//! - `wait.rt`, `wording.rt`: that as a value and in words, which its contracts say
+//!
+//! Not here: that what is named would end the wait. It is the step of the script that brings such a thing, and no more is said.
 #![tactic(auto)]
 
 mod awaiting;

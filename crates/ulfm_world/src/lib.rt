@@ -6,6 +6,12 @@
 //!
 //! Read specs/World.antt: `Happens` says what an event does, `IsRefused` why one is refused. The laws of all schedules are in laws.rt,
 //! one function a law.
+//!
+//! - `world.rt`, `world/reading.rt`, `world/copying.rt`: a world; `inbox.rt`, `room.rt`: its inboxes, of two kinds
+//! - `event.rt`, `asked.rt`, `steps.rt`: what may happen, and what that does; `schedule.rt`: a list of events
+//! - `laws.rt`: what holds of each world that events lead to
+//!
+//! Not here: in which order things happen (`ulfm_replay`, `ulfm_outcomes`), and threads.
 #![tactic(auto)]
 
 mod asked;

@@ -1,4 +1,6 @@
 //! The decisions of shrinks and agreements (ULFM, shrink and agree).
+//!
+//! No program needs `same`: it changes nothing. It is there so that a promise says that two processes of one board know no two decisions.
 ghost use Rattle.std.specs.Prelude.{◌≡◌, None, Some, IfOk, IfErr, IfSome};
 ghost use Rattle.ulfm_base.specs.Context.{shrink_of};
 ghost use Rattle.ulfm_base.specs.Decision.{left_out};

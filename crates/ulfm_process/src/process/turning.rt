@@ -1,4 +1,7 @@
 //! What comes in, and what goes out.
+//!
+//! A take of a rank that the caller names leaves where the next turn begins. Were it set, such takes could make each turn begin at the same rank, and
+//! pass others over.
 ghost use Rattle.std.specs.Prelude.{◌≡◌, ◌<◌, ◌↔◌, ℕ, [], false, IsTrue, IfOk, IfErr, OnOk, OnErr};
 ghost use Rattle.ulfm_log.specs.Facts.{is_stopped};
 ghost use Rattle.ulfm_process.specs.Turning.{IsTakeRefusal, IsTurn, Pushes, Takes, TakesFrom};

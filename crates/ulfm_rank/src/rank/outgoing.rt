@@ -1,4 +1,7 @@
 //! What goes out to the other ranks.
+//!
+//! `take_out` promises that what went out last keeps its place, and no other call says so: by contract an item comes back before the rank's next
+//! call.
 ghost use Rattle.std.specs.Prelude.{◌≡◌, ◌<◌, ◌↔◌, [], false, IsTrue, IfNone, IfSome};
 ghost use Rattle.ulfm_log.specs.Facts.{is_stopped};
 ghost use Rattle.ulfm_log.specs.State.{has_way_back, outbox, returned, GoesOut, MayReturn};

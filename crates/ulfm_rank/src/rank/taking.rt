@@ -1,4 +1,8 @@
 //! Items that come from other ranks.
+//!
+//! A rank that is prepared has room for one `take` or one call, with a place of the log for the release of one more request. The place in the table of
+//! requests is told apart (`has_place`): only `irecv` needs it. A test never changes the room. It keeps the place, and a release may bring it back,
+//! but needn't, since the table's slot may have to stay marked.
 ghost use Rattle.std.specs.Prelude.{◌≡◌, ◌<◌, IsTrue, OnOk, OnErr, false};
 ghost use Rattle.ulfm_rank.specs.Calls.{IsFrom};
 ghost use Rattle.ulfm_log.specs.Facts.{is_stopped};
