@@ -33,15 +33,15 @@ mpi_class error.NotMember = mpi_other error.NotMember
 mpi_class error.BadSize = mpi_other error.BadSize
 mpi_class error.NotEntered = mpi_other error.NotEntered
 
--- this byte is no control character
+-- this byte is a letter, a digit or a sign of ASCII, or a space, but not the quote that would end a text
 abbrev pub is_shown : ℕ → Bool
-is_shown byte = nat_le 32 byte && not (byte == 127)
+is_shown byte = nat_le 32 byte && nat_lt byte 127 && not (byte == 34)
 
 -- a body as text, if it is UTF-8
 abbrev pub text_of : List ℕ → Option (List ℕ)
 text_of body = if is_utf8 body then Some body else None
 
--- a body as text, if it is printable: it has bytes, none is a control character, and they are UTF-8
+-- a body as text, if it is printable: it has bytes, all of them are shown, and so they are UTF-8
 abbrev pub printable : List ℕ → Option (List ℕ)
 printable body = if nat_lt 0 (length body) && list_all is_shown body then text_of body else None
 

@@ -39,11 +39,13 @@ fn push_class(text: &mut String, error: CallError) -> Result<(), AllocError>
     }
 }
 
-/// Whether each of these bytes is no control character.
+/// Whether each of these bytes is a letter, a digit or a sign of ASCII, or a space, and none is the quote that would end the text.
 fn are_shown(bytes: &[u8]) -> bool
     ensures { result ≡ list_all is_shown bytes.now }
 {
-    bytes.iter().all(|byte| 32 <= *byte && *byte != 127)
+    bytes
+        .iter()
+        .all(|byte| 32 <= *byte && *byte < 127 && *byte != b'"')
 }
 
 /// A body as text, if it is UTF-8.
@@ -56,7 +58,7 @@ fn text_of(body: &[u8]) -> Option<&str>
     }
 }
 
-/// A body as text, if it is printable.
+/// A body as text, if it is printable: it has bytes, and all are shown.
 fn printable(body: &[u8]) -> Option<&str>
     ensures { option_map (λ text. text.now) result ≡ printable body.entry.now }
 {
