@@ -15,7 +15,7 @@ use Rattle.ulfm_moves.specs.declared.course.End.{End}
 use Rattle.ulfm_moves.specs.declared.course.End.TheVariants.{Done, Stopped, Unreached}
 use Rattle.ulfm_moves.specs.declared.schedule.Schedule.{Schedule}
 use Rattle.ulfm_reader.specs.declared.name.Name.{Name}
-use Rattle.ulfm_waits.specs.declared.wait.Wait.{Wait}
+use Rattle.ulfm_moves.specs.declared.wait.Wait.{Wait}
 use Rattle.ulfm_lists.specs.Events.{move_json}
 use Rattle.ulfm_lists.specs.Waits.{wait_json}
 

@@ -14,7 +14,7 @@ use ulfm_job::NotedStep;
 use ulfm_json::{push_ended, push_objects};
 use ulfm_moves::{Course, End, Move, Schedule};
 use ulfm_reader::Reading;
-use ulfm_waits::Wait;
+use ulfm_moves::Wait;
 
 /// The objects of moves.
 fn moves_of(alloc: Global, asked: &Reading, moves: &[Move]) -> Result<Vec<String>, AllocError>

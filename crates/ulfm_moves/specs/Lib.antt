@@ -1,1 +1,3 @@
+pub mod Waits
+pub mod Values
 pub mod Words

@@ -12,9 +12,9 @@ use Rattle.ulfm_script.specs.Player.{step_report}
 use Rattle.ulfm_answer.specs.Trace.{answer_text, closing_line, step_line, step_lines}
 use Rattle.ulfm_answer.specs.declared.answer.StepAnswer.TheVariants.{Unfinished}
 use Rattle.ulfm_answer.specs.declared.answer.StepReport.{StepReport}
-use Rattle.ulfm_waits.specs.Values.{wait_text}
-use Rattle.ulfm_waits.specs.Waits.{named_step}
-use Rattle.ulfm_waits.specs.declared.wait.Wait.{Wait}
+use Rattle.ulfm_moves.specs.Values.{wait_text}
+use Rattle.ulfm_moves.specs.Waits.{named_step}
+use Rattle.ulfm_moves.specs.declared.wait.Wait.{Wait}
 use Rattle.ulfm_moves.specs.declared.cargo.Cargo.{Cargo}
 use Rattle.ulfm_moves.specs.declared.cargo.Cargo.TheVariants as cargo
 use Rattle.ulfm_moves.specs.declared.course.Course.{Course}

@@ -8,7 +8,7 @@ use ulfm_base::OutOfMemory;
 use ulfm_job::{Job, Step};
 use ulfm_log::{Entry, tells_gone};
 use ulfm_script::RankReport;
-use ulfm_waits::{Remark, Wait, awaited, due_of, need_of, position_by};
+use crate::{Remark, Wait, awaited, due_of, need_of, position_by};
 
 /// A step that was given up, or answered only by what others did behind such steps.
 #[derive(Drop)]

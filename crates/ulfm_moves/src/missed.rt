@@ -6,7 +6,7 @@ use ulfm_base::Topic;
 use ulfm_job::{Job, Step};
 use ulfm_log::Entry;
 use ulfm_script::RankReport;
-use ulfm_waits::would_bring;
+use crate::would_bring;
 
 /// A step that brought what was waited for, after that was given up.
 #[derive(Clone, Copy)]

@@ -7,7 +7,7 @@ use crate::parcel::Parcel;
 use std::alloc::AllocError;
 use ulfm_answer::{StepReport, push_answer};
 use ulfm_job::NotedStep;
-use ulfm_waits::push_named;
+use crate::push_named;
 
 /// What a rank does in a move.
 #[derive(Drop)]

@@ -5,12 +5,12 @@
 ghost use Rattle.std.specs.Prelude.{◌≡◌, ◌++◌, OnOk, codes, string_bytes};
 ghost use Rattle.std.specs.List.{flat_map};
 ghost use Rattle.ulfm_moves.specs.Words.{course_text, moves_text, open_text, schedule_text};
-ghost use Rattle.ulfm_waits.specs.Values.{wait_text};
+ghost use Rattle.ulfm_moves.specs.Values.{wait_text};
 
 use crate::course::{Course, push_course};
 use crate::moved::{Move, push_deed};
 use std::alloc::AllocError;
-use ulfm_waits::{Wait, push_wait};
+use crate::{Wait, push_wait};
 
 /// A schedule: what ranks do one after another, what came of each, and, where some step is to stay open, what steps wait for.
 #[derive(Drop)]

@@ -1,5 +1,5 @@
 use Rattle.std.proofs.Common.{◌≡◌, ◌++◌, flat_map, string_bytes, take}
-use Rattle.ulfm_waits.specs.Values.{wait_text}
+use Rattle.ulfm_moves.specs.Values.{wait_text}
 use Rattle.ulfm_moves.proofs.schedule.push_lines.Given as goal
 
 abbrev pub invariant-loop-wait : goal.invariant-loop-wait
