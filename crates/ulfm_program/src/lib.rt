@@ -1,3 +1,15 @@
+//! A page of what steps come to wherever ranks stop: a table, a step a row and a place a column, and behind what isn't as wanted a
+//! picture of a schedule. It stands alone: nothing is fetched, and no script runs.
+//!
+//!     let page = page_of(&search, stops, "job.toml", bytes)?;
+//!
+//! - `page.rt`: the page, from a job's bytes to its text
+//! - `column.rt`: a place, with what each step comes to there; `cell.rt`: one of these
+//! - `wanted.rt`: what isn't as wanted at a place, with its schedule
+//! - `nobody.rt`: who looks on as the places are searched: nobody
+//!
+//! It is for people: no contract says anything of it. Each list and each schedule comes from a `Finder`, and is what that promises.
+//!
 //! The program without its `main`: words and a job's bytes in, a status and a reply out.
 //!
 //!     let status = run_each(&rt, &Exploration, alloc, words, &mut input, &mut output, &mut errors);
@@ -17,11 +29,17 @@
 #![tactic(auto)]
 
 mod app;
+mod cell;
+mod column;
 mod far;
 mod files;
+mod nobody;
 mod page;
 mod progress;
 mod reply;
+mod report_page;
+mod wanted;
 
 pub use app::{run_on, without_words};
 pub use files::run_each;
+pub use report_page::page_of;

@@ -8,7 +8,7 @@ use ulfm_finder::Finder;
 use ulfm_findings::{read_front, write_whole};
 use ulfm_json::{Form, Wording};
 use ulfm_judged::Search;
-use ulfm_page::page_of;
+use crate::page_of;
 use ulfm_replies::{Asked, JOB_REFUSED, ListOptions, Wanted};
 
 /// What is told where the words don't ask for lists of places of one job in a file.
