@@ -3,7 +3,7 @@ use Rattle.std.specs.Prelude.{◌≡◌, ◌≢◌, ℕ, ◌≤◌, ◌⊎◌, �
 use Rattle.ulfm_base.specs.declared.error.CallError.{CallError}
 use Rattle.ulfm_base.specs.declared.error.CallError.TheVariants.{NoComm, BadRank, BadTag, TooLong, ProcFailed, Revoked, NoRequest, AlreadyMade, NoContext, Stopped, NotMember, OutOfMemory, BadSize, NotEntered, Truncated}
 use Rattle.ulfm_base.specs.declared.tag.Tag.{Tag}
-use Rattle.ulfm_process.specs.View.{ProcessView}
+use Rattle.ulfm_c.specs.View.{ProcessView}
 use Rattle.ulfm_rank.specs.Checks.{Check, FailsOrStarves, Passes}
 use Rattle.ulfm_log.specs.declared.entry.Comm.{Comm}
 

@@ -9,8 +9,8 @@ use Rattle.ulfm_base.specs.declared.topic.Topic.{Topic}
 use Rattle.ulfm_c.specs.Calls.{AreKept, CommCall, number_of}
 use Rattle.ulfm_c.specs.Told.{listed}
 use Rattle.ulfm_c.specs.declared.told.CGroup.{CGroup}
-use Rattle.ulfm_process.specs.Deciding.{Adopts, IsPollRefusal, Waits}
-use Rattle.ulfm_process.specs.View.{ProcessView}
+use Rattle.ulfm_c.specs.Adopting.{Adopts, IsPollRefusal, Waits}
+use Rattle.ulfm_c.specs.View.{ProcessView}
 use Rattle.ulfm_log.specs.Proposal.{last_agreement}
 
 -- With 0 the decision on a topic is adopted, and told so. With 17 there is none yet, else it is refused, and what is written to is kept.

@@ -8,7 +8,7 @@ use Rattle.ulfm_c.specs.declared.told.CStatus.{CStatus}
 use Rattle.ulfm_match.specs.History.{count_before}
 use Rattle.ulfm_match.specs.Pairing.{Pairing, LawfulPairing}
 use Rattle.ulfm_base.specs.declared.request_id.RequestId.{RequestId}
-use Rattle.ulfm_process.specs.View.{ProcessView, with_rank}
+use Rattle.ulfm_c.specs.View.{ProcessView, with_rank}
 use Rattle.ulfm_rank.specs.Answer.{IsRequest, IsTestAnswer, is_release}
 use Rattle.ulfm_rank.specs.Calls.{Posts, Sends}
 use Rattle.ulfm_rank.specs.Cancel.{IsCancelAnswer, cancelling}

@@ -1,3 +1,8 @@
+pub mod View
+pub mod Adopting
+pub mod Turning
+pub mod Ahead
+pub mod Making
 pub mod Slot
 pub mod Calls
 pub mod Told
@@ -10,3 +15,4 @@ pub mod Progress
 pub mod NextItem
 pub mod Steps
 pub mod Worlds
+pub mod inside

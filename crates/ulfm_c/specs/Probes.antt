@@ -7,7 +7,7 @@ use Rattle.ulfm_c.specs.Calls.{AreKept, CommCall, Refused, TagCall, source_named
 use Rattle.ulfm_c.specs.Told.{Tells, status_of}
 use Rattle.ulfm_c.specs.declared.told.CStatus.{CStatus}
 use Rattle.ulfm_match.specs.Pairing.{Pairing, LawfulPairing}
-use Rattle.ulfm_process.specs.View.{ProcessView, with_rank}
+use Rattle.ulfm_c.specs.View.{ProcessView, with_rank}
 use Rattle.ulfm_rank.specs.Checks.{Passes, receive_checks}
 use Rattle.ulfm_log.specs.Facts.{is_stopped}
 use Rattle.ulfm_rank.specs.History.{history_of}

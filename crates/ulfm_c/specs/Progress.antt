@@ -1,7 +1,7 @@
 -- What a turn by C does, and what is told of what goes out.
 use Rattle.std.specs.Prelude.{◌≡◌, ℕ, ◌<◌, ◌⊎◌, [], Bool, true, false}
-use Rattle.ulfm_process.specs.Turning.{IsTurn}
-use Rattle.ulfm_process.specs.View.{ProcessView}
+use Rattle.ulfm_c.specs.Turning.{IsTurn}
+use Rattle.ulfm_c.specs.View.{ProcessView}
 use Rattle.ulfm_log.specs.Facts.{is_stopped}
 use Rattle.ulfm_log.specs.State.{outbox}
 

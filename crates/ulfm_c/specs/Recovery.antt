@@ -4,7 +4,7 @@ use Rattle.ulfm_base.specs.Topic.{shrink_topic}
 use Rattle.ulfm_c.specs.Calls.{Answers, Checked, CommCall}
 use Rattle.ulfm_c.specs.Told.{listed}
 use Rattle.ulfm_c.specs.declared.told.CGroup.{CGroup}
-use Rattle.ulfm_process.specs.View.{ProcessView, with_rank}
+use Rattle.ulfm_c.specs.View.{ProcessView, with_rank}
 use Rattle.ulfm_rank.specs.Calls.{Enters, acknowledging, revoking}
 use Rattle.ulfm_rank.specs.Checks.{Fails, Passes, agree_checks, comm_checks, group_at, shrink_checks}
 use Rattle.ulfm_log.specs.Facts.{ack_answer, is_revoked, known_in}

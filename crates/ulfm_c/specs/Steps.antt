@@ -8,11 +8,11 @@ use Rattle.ulfm_c.specs.Letters.{IsAsked}
 use Rattle.ulfm_c.specs.Progress.{TellsWhether}
 use Rattle.ulfm_c.specs.declared.next_item.CNextItem.{CNextItem}
 use Rattle.ulfm_carrier.specs.declared.head.Head.{Head}
-use Rattle.ulfm_process.specs.Ahead.{IsOutlook, LooksAt}
-use Rattle.ulfm_process.specs.declared.outlook.Outlook.{Outlook}
-use Rattle.ulfm_process.specs.declared.outlook.Outlook.TheVariants.{Over, NotYet, Pending}
-use Rattle.ulfm_process.specs.Turning.{IsTakeRefusal, Pushes, TakesFrom}
-use Rattle.ulfm_process.specs.View.{ProcessView}
+use Rattle.ulfm_c.specs.Ahead.{IsOutlook, LooksAt}
+use Rattle.ulfm_c.specs.declared.outlook.Outlook.{Outlook}
+use Rattle.ulfm_c.specs.declared.outlook.Outlook.TheVariants.{Over, NotYet, Pending}
+use Rattle.ulfm_c.specs.Turning.{IsTakeRefusal, Pushes, TakesFrom}
+use Rattle.ulfm_c.specs.View.{ProcessView}
 use Rattle.ulfm_rank.specs.Checks.{IsTestRefusal}
 
 -- what waits is pushed, and it is told whether anything went

@@ -1,8 +1,8 @@
 -- What a call for a new world by C does.
 use Rattle.std.specs.Prelude.{◌≡◌, ℕ, ◌<◌, ◌⊎◌, List, Option, Some, length, map}
 use Rattle.ulfm_c.specs.declared.handle.Handle.{Handle}
-use Rattle.ulfm_process.specs.Making.{IsWorld}
-use Rattle.ulfm_process.specs.View.{ProcessView}
+use Rattle.ulfm_c.specs.Making.{IsWorld}
+use Rattle.ulfm_c.specs.View.{ProcessView}
 
 -- the process of a handle, if it has one
 abbrev pub process_in : Handle → Option ProcessView

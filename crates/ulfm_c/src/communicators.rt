@@ -7,7 +7,7 @@ use crate::handle::Handle;
 use crate::told::{CGroup, list};
 use crate::words::{comm_of, number_of};
 use std::alloc::Global;
-use ulfm_process::Process;
+use crate::Process;
 
 fn group_of(process: &Process, comm: u32, group: &mut CGroup) -> u32
     ensures { GroupCall process.now process.now comm group.old group.new result }

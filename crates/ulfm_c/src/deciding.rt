@@ -7,7 +7,7 @@ use crate::handle::Handle;
 use crate::told::{CGroup, list};
 use crate::words::{comm_of, number_of};
 use std::alloc::Global;
-use ulfm_process::Process;
+use crate::Process;
 
 /// The decision of a shrink.
 fn poll_shrink(process: &mut Process, comm: u32, made: &mut u32) -> u32

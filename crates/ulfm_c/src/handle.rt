@@ -4,7 +4,7 @@ ghost use Rattle.ulfm_c.specs.Calls.{holding};
 
 use crate::slot::Slot;
 use std::alloc::Global;
-use ulfm_process::Process;
+use crate::Process;
 
 /// A process, or none: all zeros are none. Nobody copies it while it has one.
 #[repr(C)]

@@ -9,7 +9,7 @@ use crate::words::{comm_of, number_of, position_of, room_of, source_of, tag_of};
 use std::alloc::Global;
 use ulfm_base::{RequestId, Tag};
 use ulfm_log::Cancel;
-use ulfm_process::Process;
+use crate::Process;
 
 /// A send to the member at a position.
 fn send(process: &mut Process, comm: u32, dest: u32, tag: u32, body: &[u8]) -> u32

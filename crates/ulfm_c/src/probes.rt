@@ -8,7 +8,7 @@ use crate::told::{CStatus, status_of, tell};
 use crate::words::{comm_of, number_of, source_of, tag_of};
 use std::alloc::Global;
 use ulfm_log::{MessageId, Probed};
-use ulfm_process::Process;
+use crate::Process;
 
 /// A probe that changes nothing.
 fn iprobe(process: &Process, comm: u32, source: u32, tag: u32, status: &mut CStatus) -> u32

@@ -2,12 +2,12 @@
 ghost use Rattle.std.specs.Prelude.{◌≡◌, ⊤};
 ghost use Rattle.ulfm_c.specs.Calls.{Call};
 ghost use Rattle.ulfm_c.specs.Progress.{TellsFlushed, TurnCall};
-ghost use Rattle.ulfm_process.specs.View.{with_rank};
+ghost use Rattle.ulfm_c.specs.View.{with_rank};
 ghost use Rattle.ulfm_rank.specs.Calls.{stopping};
 
 use crate::handle::Handle;
 use std::alloc::Global;
-use ulfm_process::Process;
+use crate::Process;
 
 /// A turn: 12 where the rank runs and a growth was refused.
 fn turn(process: &mut Process, moved: &mut u32) -> u32

@@ -7,7 +7,7 @@ use crate::handle::Handle;
 use crate::told::{CGroup, list};
 use crate::words::{comm_of, number_of, position_of};
 use std::alloc::Global;
-use ulfm_process::Process;
+use crate::Process;
 
 fn revoke(process: &mut Process, comm: u32) -> u32
     ensures { RevokeCall process.old process.new comm result }

@@ -1,12 +1,12 @@
 //! A process behind a pointer that C holds.
-ghost use Rattle.ulfm_process.specs.declared.process.Process.{Process as Held};
+ghost use Rattle.ulfm_c.specs.declared.process.Process.{Process as Held};
 ghost use Rattle.std.specs.Prelude.{◌≡◌, Option, Some, None, IsSome};
 
 use crate::loose::Loose;
 use std::alloc::Global;
 use std::marker::Model;
 use std::ptr::null_mut;
-use ulfm_process::Process;
+use crate::Process;
 
 /// A process, or none, which is null.
 #[repr(C)]

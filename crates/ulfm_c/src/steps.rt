@@ -8,7 +8,7 @@ use crate::next_item::{CNextItem, next_item};
 use crate::words::{number_of, position_of};
 use std::alloc::Global;
 use ulfm_base::RequestId;
-use ulfm_process::{Outlook, Process};
+use crate::{Outlook, Process};
 
 /// Pushes what waits to go out.
 fn push(process: &mut Process, moved: &mut u32) -> u32

@@ -6,7 +6,7 @@ use crate::handle::Handle;
 use crate::words::number_of;
 use std::alloc::Global;
 use ulfm_base::{CallError, RANK_PLACES};
-use ulfm_process::{Process, world};
+use crate::{Process, world};
 
 /// The processes, each in a block of its own.
 fn boxed(alloc: Global, processes: Vec<Process>) -> Result<Vec<Box<Process>>, CallError>

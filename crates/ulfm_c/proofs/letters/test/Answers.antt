@@ -1,7 +1,7 @@
 use Rattle.std.proofs.Common.{◌≡◌, refl, inl, inr}
 use Rattle.std.proofs.lemmas.Bool.{cond_both}
 use Rattle.ulfm_c.proofs.letters.test.Goals as goal
-use Rattle.ulfm_process.specs.View.{ProcessView}
+use Rattle.ulfm_c.specs.View.{ProcessView}
 use Rattle.ulfm_rank.specs.Answer.{is_release}
 
 pub returns-in-Ok : goal.returns-in-Ok

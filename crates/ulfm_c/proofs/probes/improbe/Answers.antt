@@ -1,5 +1,5 @@
 use Rattle.std.proofs.Common.{◌∙◌, ap, refl, inl, inr}
-use Rattle.ulfm_process.specs.View.{with_rank}
+use Rattle.ulfm_c.specs.View.{with_rank}
 use Rattle.ulfm_c.proofs.probes.improbe.Goals as goal
 
 pub returns-in-None : goal.returns-in-None

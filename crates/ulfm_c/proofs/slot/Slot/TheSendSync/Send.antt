@@ -9,8 +9,8 @@ use Rattle.std.specs.Prelude.{Option, Some, None}
 use Rattle.std.proofs.Crossing.{frees}
 use Rattle.std_heap.proofs.Handle.{handle}
 use Rattle.std_heap.specs.contracts.GlobalAllocator.TheImpl.{ghosts}
-use Rattle.ulfm_process.specs.contracts.process.Process as P
-use Rattle.ulfm_process.proofs.Crossing.{process_send}
+use Rattle.ulfm_c.specs.contracts.process.Process as P
+use Rattle.ulfm_c.proofs.Crossing.{process_send}
 use Rattle.ulfm_c.specs.Slot.{slot_owns}
 use Rattle.ulfm_c.specs.contracts.slot.Slot.{the_row}
 

@@ -1,0 +1,47 @@
+use Rattle.std.proofs.Common.{refl, sym, inl, inr}
+use Rattle.ulfm_board.specs.contracts.seat.SeatDecider.TheImpl.{ghosts}
+use Rattle.ulfm_rank.proofs.Joining.{joined-quiet}
+use Rattle.ulfm_log.specs.declared.entry.Entry.TheVariants.{Adopted}
+use Rattle.ulfm_c.proofs.Keeping.{quiet-none, quiet-one}
+use Rattle.ulfm_c.proofs.process.Process.poll_shrink.Goals as goal
+
+pub returns-in-Err-clause-refused : goal.returns-in-Err-clause-refused
+returns-in-Err-clause-refused c =
+    rw (sym c.self.view_is) (inr (inl (record {
+      proposal = c.in-Some.proposal;
+      proposed = rw c.in-Some.is at c.in_ok-proposal.ensures.proposal;
+      starves = c.in-Err.ensures.starves;
+      starved = refl;
+      only = λ i. record { rank = c.self.inside.rank.state; end = c.self.inside.end; board = c.decide.ensures.board i; known = c.in-Err.ensures.unchanged i };
+    })))
+
+pub invariant_of-self-in-Ok-adopt : goal.invariant_of-self-in-Ok-adopt
+invariant_of-self-in-Ok-adopt c =
+    let h = c.self.invariant in let new = c.adopt.new.self.state in
+    joined-quiet new h (quiet-one new (Adopted c.in-Ok.held) h.sound (record { signed = tt; takes_none = λ x. refl }) c.in-Ok-adopt.ensures.state)
+
+pub returns-in-Ok-adopt-clause-adopts : goal.returns-in-Ok-adopt-clause-adopts
+returns-in-Ok-adopt-clause-adopts c =
+    rw (sym c.self.view_is) (
+      c.in-Ok.held,
+      record {
+        is_held = record { proposal = c.in-Some.proposal; proposed = rw c.in-Some.is at c.in_ok-proposal.ensures.proposal; board_answers = c.in-Ok.ensures.answers };
+        accepted = c.in-Ok-adopt.ensures.accepted;
+        only = λ i. record { rank = c.in-Ok-adopt.ensures.state i; end = c.self.inside.end; board = c.decide.ensures.board i; known = ghosts.known c.decide.new.self };
+      },
+      c.in-Ok-adopt.ensures.made,
+    )
+
+pub invariant_of-self-in-Err-adopt : goal.invariant_of-self-in-Err-adopt
+invariant_of-self-in-Err-adopt c =
+    let h = c.self.invariant in let new = c.adopt.new.self.state in
+    joined-quiet new h (quiet-none new h.sound c.in-Err-adopt.ensures.unchanged)
+
+pub returns-in-Err-adopt-clause-refused : goal.returns-in-Err-adopt-clause-refused
+returns-in-Err-adopt-clause-refused c =
+    rw (sym c.self.view_is) (inr (inr (record {
+      held = c.in-Ok.held;
+      is_held = record { proposal = c.in-Some.proposal; proposed = rw c.in-Some.is at c.in_ok-proposal.ensures.proposal; board_answers = c.in-Ok.ensures.answers };
+      fails = c.in-Err-adopt.ensures.refused;
+      only = λ i. record { rank = c.in-Err-adopt.ensures.unchanged i; end = c.self.inside.end; board = c.decide.ensures.board i; known = ghosts.known c.decide.new.self };
+    })))

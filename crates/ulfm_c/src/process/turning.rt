@@ -1,0 +1,134 @@
+//! What comes in, and what goes out.
+//!
+//! A take of a rank that the caller names leaves where the next turn begins. Were it set, such takes could make each turn begin at the same rank, and
+//! pass others over.
+ghost use Rattle.std.specs.Prelude.{◌≡◌, ◌<◌, ◌↔◌, ℕ, [], false, IsTrue, IfOk, IfErr, OnOk, OnErr};
+ghost use Rattle.ulfm_log.specs.Facts.{is_stopped};
+ghost use Rattle.ulfm_c.specs.Turning.{IsTakeRefusal, IsTurn, Pushes, Takes, TakesFrom};
+ghost use Rattle.ulfm_c.specs.inside.Pushing.{PushesOne, PushesTo};
+ghost use Rattle.ulfm_log.specs.State.{outbox};
+
+use super::Process;
+use ulfm_base::{CallError, OutOfMemory};
+
+impl Process {
+    /// Takes an item that came, if there is one, and pushes what waits to go out, to each rank as far as its end knows of places in
+    /// the ring. It looks at the ranks upwards and round, from the one after the last of which it took, first of all from rank 0.
+    /// Answers whether anything moved. Where nothing did, the rank has nothing to do until another one moves.
+    ///
+    /// # Errors
+    ///
+    /// `OutOfMemory` where the rank runs and a growth was refused. Then nothing changed.
+    pub fn turn(&mut self) -> Result<bool, OutOfMemory>
+        ensures turn { IfOk result (IsTurn self.old self.new) }
+        ensures unchanged { OnErr result (self.new ≡ self.old) }
+        ensures runs { OnErr result (is_stopped self.old.rank.log ≡ false) }
+    {
+        let came = self.take_one()?;
+        let went = self.push();
+        if came {
+            return Ok(true);
+        }
+        Ok(went)
+    }
+
+    /// Whether nothing waits to go out, to any rank. Of a rank that stopped its notices alone go out.
+    pub fn has_pushed_all(&self) -> bool
+        ensures { IsTrue result ↔ ((dest : ℕ) → dest < self.now.rank.ranks → outbox self.now.rank dest ≡ []) }
+    {
+        for dest in 0..self.rank.ranks() {
+            if !self.rank.is_outbox_empty(dest) {
+                return false;
+            }
+        }
+        true
+    }
+
+    /// Pushes what waits to go out, to each rank as far as its end knows of places in the ring. Whether anything went.
+    pub fn push(&mut self) -> bool
+        ensures { Pushes self.old self.new result }
+    {
+        let mut moved = false;
+        for dest in 0..self.rank.ranks() {
+            if self.push_to(dest) {
+                moved = true;
+            }
+        }
+        moved
+    }
+
+    /// Takes the first item that came from one rank, if there is one and the rank runs. Whether one was taken. Where the next turn
+    /// begins to look stays.
+    ///
+    /// # Errors
+    ///
+    /// `BadRank` where the world has no such rank, else `OutOfMemory` where the rank runs and a growth was refused. Then nothing
+    /// changed.
+    pub fn take_from(&mut self, source: u8) -> Result<bool, CallError>
+        ensures takes { IfOk result (TakesFrom self.old self.new source) }
+        ensures rank { OnOk result (source < self.old.rank.ranks) }
+        ensures refused { IfErr result (IsTakeRefusal self.old source) }
+        ensures unchanged { OnErr result (self.new ≡ self.old) }
+    {
+        let peer = self.peer(source)?;
+        if self.rank.is_stopped() {
+            return Ok(false);
+        }
+        self.rank.prepare()?;
+        match self.end.pop_from(source) {
+            Some(item) => {
+                self.rank.take(peer, item);
+                Ok(true)
+            }
+            None => Ok(false),
+        }
+    }
+
+    /// Takes an item that came, if there is one and the rank runs. Whether one was taken.
+    fn take_one(&mut self) -> Result<bool, OutOfMemory>
+        ensures takes { IfOk result (Takes self.old self.new) }
+        ensures unchanged { OnErr result (self.new ≡ self.old) }
+        ensures runs { OnErr result (is_stopped self.old.rank.log ≡ false) }
+    {
+        if self.rank.is_stopped() {
+            return Ok(false);
+        }
+        self.rank.prepare()?;
+        match self.end.pop_now() {
+            Some((source, item)) => {
+                self.rank.take(source, item);
+                Ok(true)
+            }
+            None => Ok(false),
+        }
+    }
+
+    /// Pushes to one rank, while there is something to push and a place for it. Whether anything went.
+    fn push_to(&mut self, dest: u8) -> bool
+        requires { dest < self.old.rank.ranks }
+        ensures { PushesTo self.old self.new dest result }
+    {
+        let mut moved = false;
+        while self.push_one(dest) {
+            moved = true;
+        }
+        moved
+    }
+
+    /// The first item that waits for a rank goes there, if there is one and its ring has a place. Whether one went.
+    fn push_one(&mut self, dest: u8) -> bool
+        requires { dest < self.old.rank.ranks }
+        ensures { PushesOne self.old self.new dest result }
+    {
+        let Some(item) = self.rank.take_out(dest) else {
+            return false;
+        };
+        match self.end.push_now(dest, item) {
+            Ok(()) => true,
+            Err(back) => {
+                self.rank.put_back(dest, back);
+                false
+            }
+        }
+    }
+}

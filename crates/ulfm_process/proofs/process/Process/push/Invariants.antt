@@ -1,6 +1,0 @@
-use Rattle.std.proofs.Common.{ℕ, ◌<◌}
-use Rattle.ulfm_process.specs.Turning.{GoesOn, IsStuck}
-use Rattle.ulfm_process.proofs.process.Process.push.Given as goal
-
-abbrev pub invariant-loop-dest : goal.invariant-loop-dest
-invariant-loop-dest l = GoesOn l.fn.self l.self l.moved × ((k : ℕ) → k < l.dest → IsStuck l.self k)

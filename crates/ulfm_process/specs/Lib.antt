@@ -1,6 +1,0 @@
-pub mod View
-pub mod Deciding
-pub mod Turning
-pub mod Ahead
-pub mod Making
-pub mod inside
