@@ -5,7 +5,7 @@
 //!
 //! Here are the theorems of `outcomes` as definitions. Read `IsWholeList` of specs/Outcomes.antt: it says that the list is whole, and that nothing
 //! else is in it. Then `IsPossible` and `IsSchedule` of Goals.antt, `IsScheduleText` of Schedule.antt, whose lines are said in specs/ of
-//! `ulfm_shown`, and `IsLook` of Told.antt, which puts them together.
+//! `ulfm_replay`, and `IsLook` of Told.antt, which puts them together.
 //!
 //! - `finder.rt`: [`Finder`], with the two contracts on which replies rest
 //! - `unmet.rt`: [`first_unmet`], whether a job is as it expects in every schedule, by its list (`Judges` of Unmet.antt)

@@ -16,7 +16,7 @@
 //!
 //!     push_schedule(&mut text, &schedule)?;
 //!
-//! A [`Schedule`] is made of a world that was shown by `ulfm_shown`, which also says by contracts that its text is the one of that world;
+//! A [`Schedule`] is made of a world that was shown by `ulfm_replay`, which also says by contracts that its text is the one of that world;
 //! words, JSON and the pictures of `ulfm_draw` are printed from it. [`replayed`] gives that of a replay, with what steps wait for that it gave
 //! up, by the reports of its ranks.
 //!

@@ -5,7 +5,7 @@ ghost use Rattle.ulfm_world.specs.Safe.{KeepsDecisions};
 ghost use Rattle.ulfm_world.specs.World.{Happens, IsRefused, outcome_of};
 
 use ulfm_moves::Move;
-use ulfm_shown::{Recorder, Underway};
+use crate::{Recorder, Underway};
 use ulfm_world::{Event, Outcome, Refused, World};
 
 /// The moves of a replay.

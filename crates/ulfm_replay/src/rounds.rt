@@ -11,7 +11,7 @@ use crate::recording::{Recording, apply};
 use std::alloc::Global;
 use ulfm_job::Job;
 use ulfm_script::{Hands, RankReport, RunFault, turn};
-use ulfm_shown::Recorder;
+use crate::Recorder;
 use ulfm_world::{Event, Refused, World};
 
 /// The job, round by round. One inbox holds `capacity` items for each rank. In a round the ranks come upwards, and each

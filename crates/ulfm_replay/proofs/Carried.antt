@@ -6,8 +6,8 @@ use Rattle.std.specs.Fmt.{decimal}
 use Rattle.ulfm_base.specs.declared.item.Item.{Item}
 use Rattle.ulfm_moves.specs.Words.{cargo_text, item_text}
 use Rattle.ulfm_moves.specs.declared.cargo.Cargo.{Cargo}
-use Rattle.ulfm_shown.specs.Lines.{moved_line}
-use Rattle.ulfm_shown.specs.Moves.{Brings}
+use Rattle.ulfm_replay.specs.Lines.{moved_line}
+use Rattle.ulfm_replay.specs.Moves.{Brings}
 
 module _ (s d : ℕ) (arrow : List ℕ) where
   pub carried : (c : Cargo) (item : Option Item) → Brings s (Some c) item → decimal s ++ arrow ++ decimal d ++ codes ": " ++ cargo_text s c ++ codes "\n" ≡ moved_line s arrow d item

@@ -1,7 +1,7 @@
 use Rattle.std.proofs.Common.{◌≡◌, ◌++◌, flat_map, drop}
 use Rattle.ulfm_moves.specs.Words.{course_text}
-use Rattle.ulfm_shown.specs.Ranks.{players_trace}
-use Rattle.ulfm_shown.proofs.ranks.courses_of.Given as goal
+use Rattle.ulfm_replay.specs.Ranks.{players_trace}
+use Rattle.ulfm_replay.proofs.ranks.courses_of.Given as goal
 
 abbrev pub invariant-loop-r : goal.invariant-loop-r
 invariant-loop-r l = flat_map course_text l.courses.items ++ players_trace l.job l.r (drop l.r l.world.players) ≡ players_trace l.job 0 l.world.players

@@ -1,9 +1,9 @@
 //! What happens to a world, kept as moves.
 ghost use Rattle.std.specs.Prelude.{◌≡◌, ◌++◌, [], IfOk, OnOk};
 ghost use Rattle.ulfm_moves.specs.Words.{moves_text};
-ghost use Rattle.ulfm_shown.specs.Lines.{move_line};
-ghost use Rattle.ulfm_shown.specs.Moves.{moved_text};
-ghost use Rattle.ulfm_shown.specs.Turns.{turned_text, turning_of};
+ghost use Rattle.ulfm_replay.specs.Lines.{move_line};
+ghost use Rattle.ulfm_replay.specs.Moves.{moved_text};
+ghost use Rattle.ulfm_replay.specs.Turns.{turned_text, turning_of};
 
 use crate::lines::{moved, turned, turning};
 use std::alloc::{AllocError, Global};
