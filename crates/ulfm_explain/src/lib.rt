@@ -14,6 +14,20 @@
 //! - `answering.rt`: [`answers_at`], how the answers of a step begin
 //! - `lines.rt`: steps written out, beside their places in the file; `script.rt`: those of one rank; `told.rt`, `shown.rt`: how they are named
 //! - `nearest.rt`, `mpi.rt`: what a misspelt word, or a word of MPI's, stands for
+//!
+//! What standard error says beside a reply.
+//!
+//!     write_verdict(alloc, has_colour, &reply, &mut errors);
+//!     write_notes(alloc, wanted, bytes, &reply, &mut errors);
+//!     write_fault(alloc, usage, &mut errors);
+//!
+//! That is for people, and no contract speaks of it. What is wrong with a job is found by `ulfm_explain`;
+//! what is told of steps and rows comes with the reply.
+//!
+//! - `notes.rt`: the three calls
+//! - `told.rt`: lines of steps and of rows; `counted.rt`: lines below their count
+//! - `goal.rt`: why a goal of `--show` names no answer; `naming.rt`: why a part of `--only` names no step
+//! - `misplaced.rt`: why a job hasn't a place
 #![tactic(auto)]
 
 mod answering;
@@ -24,18 +38,23 @@ mod block;
 mod cause;
 mod check;
 mod claim;
+mod counted;
 mod doom;
 mod explanation;
 mod fate;
 mod findings;
+mod goal;
 mod keys;
 mod kind;
 mod line;
 mod lines;
 mod marks;
+mod misplaced;
 mod mpi;
+mod naming;
 mod nearest;
 mod never;
+mod notes;
 mod ops;
 mod place;
 mod rules;
@@ -43,6 +62,8 @@ mod script;
 mod shown;
 mod steps;
 mod told;
+mod told_steps;
+mod unnamed;
 mod walk;
 mod warning;
 
@@ -52,6 +73,7 @@ pub use check::explain;
 pub use doom::Doom;
 pub use explanation::{Explanation, StepPlace};
 pub use kind::Kind;
+pub use notes::{write_fault, write_notes, write_verdict};
 pub use place::Place;
 pub use rules::{Key, Rules};
 pub use shown::Shown;

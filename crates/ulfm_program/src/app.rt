@@ -19,7 +19,7 @@ use std::time::Clock;
 use ulfm_finder::Finder;
 use ulfm_findings::{InputFault, read_front, write_whole};
 use ulfm_json::{Form, Wording};
-use ulfm_notes::{write_fault, write_notes, write_verdict};
+use ulfm_explain::{write_fault, write_notes, write_verdict};
 use ulfm_replies::{
     Asked, DONE, Failure, INPUT_FAILED, OUTPUT_FAILED, PAST_LIMIT, RUN_FAILED, Reply, USAGE,
     Unfollowed, asked_for, failed_line,

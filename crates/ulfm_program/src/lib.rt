@@ -24,7 +24,7 @@
 //! - `page.rt`: the page of `--html`, beside the reply
 //! - `progress.rt`, `far.rt`: how far a search is, on standard error
 //!
-//! Not here: how words are read (`ulfm_replies`), and what standard error says of a reply (`ulfm_notes`). No contract speaks of standard error
+//! Not here: how words are read (`ulfm_replies`), and what standard error says of a reply (`ulfm_explain`). No contract speaks of standard error
 //! or of the page. That the bytes of a file are those on the disk isn't promised either: no contract can say it.
 #![tactic(auto)]
 

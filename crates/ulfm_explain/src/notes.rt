@@ -3,11 +3,11 @@
 use crate::goal::goal_reason;
 use crate::misplaced::{misplaced_line, place_of};
 use crate::naming::name_line;
-use crate::told::{remarks_told, verdict_line};
+use crate::told_steps::{remarks_told, verdict_line};
 use crate::unnamed::unnamed_line;
 use std::alloc::{AllocError, Global};
 use std::io::Write;
-use ulfm_explain::{Explanation, explain, warnings};
+use crate::{Explanation, explain, warnings};
 use ulfm_findings::write_whole;
 use ulfm_replies::{DONE, JOB_REFUSED, PAST_LIMIT, Remark, Reply, RunOptions, Wanted};
 

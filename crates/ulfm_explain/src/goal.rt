@@ -2,7 +2,7 @@
 
 use crate::misplaced::place_of;
 use std::alloc::{AllocError, Global};
-use ulfm_explain::answers_at;
+use crate::answers_at;
 use ulfm_reader::{Reading, name_at};
 use ulfm_replies::{Form, Wanted, Wording, asked_at};
 use ulfm_stops::Place;
