@@ -8,9 +8,9 @@ ghost use Rattle.ulfm_finder.specs.Told.{IsLook};
 
 use std::alloc::Global;
 use ulfm_base::OutOfMemory;
-use ulfm_found::Goals;
+use ulfm_list::Goals;
 use ulfm_job::Job;
-use ulfm_lists::Told;
+use ulfm_list::Told;
 use ulfm_reach::{Reach, Watch};
 
 /// Finds what the steps of a job may be answered, and schedules that show answers. `ulfm_outcomes` has the one of the program. What is

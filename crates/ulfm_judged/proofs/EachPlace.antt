@@ -11,26 +11,26 @@ use Rattle.ulfm_stops.specs.Place.{IsPlaceOf, job_at}
 use Rattle.ulfm_stops.specs.declared.place.Place.{Place}
 use Rattle.ulfm_stops.specs.declared.place.Place.TheVariants.{Nowhere}
 use Rattle.ulfm_judged.specs.Lists.{AreLists, IsListedAt, job_asked_at}
-use Rattle.ulfm_lists.specs.declared.listed.Listed.{Listed}
+use Rattle.ulfm_list.specs.declared.listed.Listed.{Listed}
 use Rattle.ulfm_job.specs.declared.clause.Clause.{Clause}
 use Rattle.ulfm_stops.specs.Places.{places_of}
 use Rattle.ulfm_json.specs.declared.form.Form.{Form}
 use Rattle.ulfm_replies.specs.Stopped.{Asked, IsAskedAt, asked_at}
 use Rattle.ulfm_replies.specs.Wish.{ChoiceView}
 use Rattle.ulfm_replies.specs.declared.command.ListOptions.{ListOptions}
-use Rattle.ulfm_found.specs.declared.judgement.Judgement.{Judgement}
-use Rattle.ulfm_found.specs.declared.judgement.Judgement.TheVariants.{NotKnown}
+use Rattle.ulfm_list.specs.declared.judgement.Judgement.{Judgement}
+use Rattle.ulfm_list.specs.declared.judgement.Judgement.TheVariants.{NotKnown}
 use Rattle.ulfm_judged.specs.declared.finding.Finding.{Finding}
 use Rattle.ulfm_judged.specs.EachPlace.{IsEachPlaceReply, IsJudgedEach, IsUndrawn, listed_all, past_limit_at, places_in}
-use Rattle.ulfm_lists.specs.Told.{row_in}
+use Rattle.ulfm_list.specs.Told.{row_in}
 use Rattle.ulfm_judged.specs.Chosen.{unknown_part}
 use Rattle.ulfm_judged.specs.Outcomes.{goals_asked}
 use Rattle.ulfm_judged.specs.ShowEach.{IsFirstPlace, IsShowEachReply, nowhere_at_all, shown_at, told_at_place, too_many_at}
 use Rattle.ulfm_judged.specs.Wanted.{HasList, IsToldOf, together, unsearched}
 use Rattle.ulfm_judged.specs.declared.looking.FirstRow.{FirstRow}
 use Rattle.ulfm_judged.specs.declared.show_each.LookAt.{LookAt}
-use Rattle.ulfm_lists.specs.declared.told.Told.{Told}
-use Rattle.ulfm_lists.specs.declared.told.Told.TheVariants as told
+use Rattle.ulfm_list.specs.declared.told.Told.{Told}
+use Rattle.ulfm_list.specs.declared.told.Told.TheVariants as told
 use Rattle.ulfm_judged.specs.inside.Judging.{AreListedOf, IsFirstLook, IsInside, IsListedOf, IsLookAtText, IsUnwanted, IsUnwantedAt, judgement_past, look_at_status, status_past, text_past}
 use Rattle.ulfm_finder.specs.Told.{IsLook}
 use Rattle.ulfm_judged.specs.inside.Looking.{IsFirstRow, IsLookText, look_status, row_judgement, row_status}

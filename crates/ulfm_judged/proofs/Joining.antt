@@ -9,7 +9,7 @@ use Rattle.ulfm_stops.specs.declared.place.Place.{Place}
 use Rattle.ulfm_judged.specs.Lists.{AreLists, job_asked_at}
 use Rattle.ulfm_judged.specs.inside.Parts.{AreJoined, AreJoinedSoFar, AreParts, GoesOn, IsPart}
 use Rattle.ulfm_replies.specs.Stopped.{Asked}
-use Rattle.ulfm_lists.specs.declared.listed.Listed.{Listed}
+use Rattle.ulfm_list.specs.declared.listed.Listed.{Listed}
 use Rattle.ulfm_judged.specs.declared.lists.Lists.{Lists}
 
 module _ (asked : Asked) (limit : ℕ) where

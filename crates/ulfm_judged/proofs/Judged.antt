@@ -11,14 +11,14 @@ use Rattle.ulfm_job.specs.declared.clause.Clause.{Clause}
 use Rattle.ulfm_json.specs.declared.form.Form.{Form}
 use Rattle.ulfm_replies.specs.Stopped.{Asked, IsAskedAt}
 use Rattle.ulfm_replies.specs.declared.command.ListOptions.{ListOptions}
-use Rattle.ulfm_found.specs.Goals.{AreOfClauses}
+use Rattle.ulfm_list.specs.Goals.{AreOfClauses}
 use Rattle.ulfm_finder.specs.Told.{IsLook}
-use Rattle.ulfm_found.specs.declared.goals.Goals.{Goals}
+use Rattle.ulfm_list.specs.declared.goals.Goals.{Goals}
 use Rattle.ulfm_judged.specs.Outcomes.{IsShowReply, goals_asked, nowhere, shown, too_many}
 use Rattle.ulfm_judged.specs.Wanted.{NeverComes, NoneComes}
-use Rattle.ulfm_lists.specs.Told.{told_in}
-use Rattle.ulfm_lists.specs.declared.told.Told.{Told}
-use Rattle.ulfm_lists.specs.declared.told.Told.TheVariants as told
+use Rattle.ulfm_list.specs.Told.{told_in}
+use Rattle.ulfm_list.specs.declared.told.Told.{Told}
+use Rattle.ulfm_list.specs.declared.told.Told.TheVariants as told
 use Rattle.ulfm_judged.specs.inside.Looking.{IsLookText, look_status}
 
 -- those of which that holds, with one more

@@ -2,10 +2,10 @@
 use Rattle.std.proofs.Common.{◌≡◌, ℕ, Bool, true, List, Option, Some, None}
 use Rattle.ulfm_job.specs.Job.{JobView}
 use Rattle.ulfm_job.specs.declared.clause.Clause.{Clause}
-use Rattle.ulfm_found.specs.Goals.{AreOfClauses}
-use Rattle.ulfm_found.specs.declared.goals.Goals.{Goals}
+use Rattle.ulfm_list.specs.Goals.{AreOfClauses}
+use Rattle.ulfm_list.specs.declared.goals.Goals.{Goals}
 use Rattle.ulfm_replies.specs.Asking.{is_looked_at}
-use Rattle.ulfm_lists.specs.declared.told.Told.{Told}
+use Rattle.ulfm_list.specs.declared.told.Told.{Told}
 use Rattle.ulfm_finder.specs.Told.{IsLook}
 use Rattle.ulfm_judged.specs.inside.Looking.{IsLookForRow}
 

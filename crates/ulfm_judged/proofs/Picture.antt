@@ -8,20 +8,20 @@ use Rattle.std.specs.Option.{option_or}
 use Rattle.ulfm_finder.proofs.Judging.{left_judged}
 use Rattle.ulfm_finder.specs.Told.{IsTold}
 use Rattle.ulfm_finder.specs.Unmet.{Judges}
-use Rattle.ulfm_found.specs.Listed.{StepView, all_steps, step_view}
-use Rattle.ulfm_found.specs.declared.job_step.JobStep.{JobStep}
-use Rattle.ulfm_found.specs.Text.{never_ends}
-use Rattle.ulfm_found.specs.Unmet.{IsUnmet}
-use Rattle.ulfm_found.specs.declared.goals.Goals.{Goals}
-use Rattle.ulfm_found.specs.declared.unmet.Unmet.{Unmet}
+use Rattle.ulfm_list.specs.Listed.{StepView, all_steps, step_view}
+use Rattle.ulfm_list.specs.declared.job_step.JobStep.{JobStep}
+use Rattle.ulfm_list.specs.Text.{never_ends}
+use Rattle.ulfm_list.specs.Unmet.{IsUnmet}
+use Rattle.ulfm_list.specs.declared.goals.Goals.{Goals}
+use Rattle.ulfm_list.specs.declared.unmet.Unmet.{Unmet}
 use Rattle.ulfm_job.specs.Job.{JobView}
 use Rattle.ulfm_json.specs.declared.form.Form.{Form}
 use Rattle.ulfm_json.specs.declared.style.Style.{Style}
-use Rattle.ulfm_lists.proofs.Telling.{drop-item}
-use Rattle.ulfm_lists.specs.Told.{told_in}
-use Rattle.ulfm_lists.specs.declared.listed.Listed.{Listed}
-use Rattle.ulfm_lists.specs.declared.told.Told.{Told}
-use Rattle.ulfm_lists.specs.declared.told.Told.TheVariants as told
+use Rattle.ulfm_list.proofs.Telling.{drop-item}
+use Rattle.ulfm_list.specs.Told.{told_in}
+use Rattle.ulfm_list.specs.declared.listed.Listed.{Listed}
+use Rattle.ulfm_list.specs.declared.told.Told.{Told}
+use Rattle.ulfm_list.specs.declared.told.Told.TheVariants as told
 use Rattle.ulfm_replies.specs.Stopped.{Asked, asked_at}
 use Rattle.ulfm_replies.specs.declared.reply.Reply.{Reply}
 use Rattle.ulfm_judged.specs.EachPlace.{IsUndrawn}

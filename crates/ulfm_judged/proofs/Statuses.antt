@@ -2,11 +2,11 @@
 use Rattle.std.proofs.Common.{ℕ, Bool, true, false, List, Option, Some, None}
 use Rattle.ulfm_stops.specs.declared.place.Place.{Place}
 use Rattle.ulfm_stops.specs.declared.place.Place.TheVariants.{Nowhere}
-use Rattle.ulfm_found.specs.Text.{some_never_ends}
-use Rattle.ulfm_found.specs.declared.judgement.Judgement.{Judgement}
-use Rattle.ulfm_found.specs.declared.unmet.Unmet.{Unmet}
+use Rattle.ulfm_list.specs.Text.{some_never_ends}
+use Rattle.ulfm_list.specs.declared.judgement.Judgement.{Judgement}
+use Rattle.ulfm_list.specs.declared.unmet.Unmet.{Unmet}
 use Rattle.ulfm_reach.specs.declared.reached.Reached.{Reached}
-use Rattle.ulfm_lists.specs.Union.{some_never_ends as each_never_ends}
+use Rattle.ulfm_list.specs.Union.{some_never_ends as each_never_ends}
 use Rattle.ulfm_json.specs.declared.form.Form.{Form}
 use Rattle.ulfm_replies.proofs.Statuses as statuses
 use Rattle.ulfm_replies.proofs.Statuses.{IsKnown, no_play}

@@ -2,16 +2,16 @@
 use Rattle.std.specs.Prelude.{◌≡◌, ℕ, nat_lt, ◌&&◌, true, List, [], ◌∷◌, Option, Some, None, if◌then◌else◌}
 use Rattle.std.specs.Option.{option_or}
 use Rattle.ulfm_finder.specs.Told.{IsTold}
-use Rattle.ulfm_found.specs.Listed.{StepView, all_steps}
-use Rattle.ulfm_found.specs.Text.{never_ends}
-use Rattle.ulfm_found.specs.Unmet.{IsUnmet}
-use Rattle.ulfm_found.specs.declared.goals.Goals.{Goals}
-use Rattle.ulfm_found.specs.declared.unmet.Unmet.{Unmet}
+use Rattle.ulfm_list.specs.Listed.{StepView, all_steps}
+use Rattle.ulfm_list.specs.Text.{never_ends}
+use Rattle.ulfm_list.specs.Unmet.{IsUnmet}
+use Rattle.ulfm_list.specs.declared.goals.Goals.{Goals}
+use Rattle.ulfm_list.specs.declared.unmet.Unmet.{Unmet}
 use Rattle.ulfm_job.specs.Job.{JobView}
 use Rattle.ulfm_json.specs.declared.form.Form.{Form}
 use Rattle.ulfm_json.specs.declared.style.Style.{Style}
-use Rattle.ulfm_lists.specs.Told.{told_in}
-use Rattle.ulfm_lists.specs.declared.told.Told.TheVariants as told
+use Rattle.ulfm_list.specs.Told.{told_in}
+use Rattle.ulfm_list.specs.declared.told.Told.TheVariants as told
 use Rattle.ulfm_moves.specs.declared.schedule.Schedule.{Schedule}
 use Rattle.ulfm_replies.specs.Stopped.{Asked}
 use Rattle.ulfm_replies.specs.declared.command.ListOptions.{ListOptions}

@@ -6,18 +6,18 @@ use Rattle.ulfm_stops.specs.Places.{places_of}
 use Rattle.ulfm_stops.specs.declared.place.Place.{Place}
 use Rattle.ulfm_stops.specs.declared.place.Place.TheVariants.{Nowhere}
 use Rattle.ulfm_judged.specs.Lists.{AreLists}
-use Rattle.ulfm_lists.specs.Told.{more_at}
-use Rattle.ulfm_lists.specs.Union.{some_never_ends}
-use Rattle.ulfm_lists.specs.declared.listed.Listed.{Listed}
-use Rattle.ulfm_found.specs.declared.judgement.Judgement.{Judgement}
-use Rattle.ulfm_found.specs.declared.judgement.Judgement.TheVariants.{NotKnown}
+use Rattle.ulfm_list.specs.Told.{more_at}
+use Rattle.ulfm_list.specs.Union.{some_never_ends}
+use Rattle.ulfm_list.specs.declared.listed.Listed.{Listed}
+use Rattle.ulfm_list.specs.declared.judgement.Judgement.{Judgement}
+use Rattle.ulfm_list.specs.declared.judgement.Judgement.TheVariants.{NotKnown}
 use Rattle.ulfm_json.specs.declared.form.Form.{Form}
 use Rattle.ulfm_replies.specs.Failure.{out_of_memory_in}
 use Rattle.ulfm_replies.specs.Replies.{refused_in}
 use Rattle.ulfm_replies.specs.Stopped.{Asked, IsAskedAt, IsRefusal, asked_at}
 use Rattle.ulfm_replies.specs.declared.command.ListOptions.{ListOptions}
 use Rattle.ulfm_replies.specs.Wish.{ChoiceView}
-use Rattle.ulfm_found.specs.declared.unmet.Unmet.{Unmet}
+use Rattle.ulfm_list.specs.declared.unmet.Unmet.{Unmet}
 use Rattle.ulfm_judged.specs.Chosen.{lists_in, no_name, unknown_part}
 use Rattle.ulfm_judged.specs.Drawn.{IsDrawn, left_drawn}
 use Rattle.ulfm_judged.specs.Hangs.{judgement_of_all}

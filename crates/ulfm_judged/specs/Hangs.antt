@@ -1,12 +1,12 @@
 -- What lists come to where nothing is told below them.
 use Rattle.std.specs.Prelude.{ℕ, ◌&&◌, ◌||◌, not, Bool, List}
 use Rattle.std.specs.List.{list_any}
-use Rattle.ulfm_found.specs.Judgement.{good_judgement}
-use Rattle.ulfm_found.specs.Listed.{StepView, all_steps}
-use Rattle.ulfm_found.specs.Text.{never_ends}
-use Rattle.ulfm_found.specs.declared.judgement.Judgement.{Judgement}
-use Rattle.ulfm_lists.specs.Numbers.{number_at}
-use Rattle.ulfm_lists.specs.declared.listed.Listed.{Listed}
+use Rattle.ulfm_list.specs.Judgement.{good_judgement}
+use Rattle.ulfm_list.specs.Listed.{StepView, all_steps}
+use Rattle.ulfm_list.specs.Text.{never_ends}
+use Rattle.ulfm_list.specs.declared.judgement.Judgement.{Judgement}
+use Rattle.ulfm_list.specs.Numbers.{number_at}
+use Rattle.ulfm_list.specs.declared.listed.Listed.{Listed}
 use Rattle.ulfm_replies.specs.Holding.{expects, stops_at}
 use Rattle.ulfm_replies.specs.Stopped.{Asked}
 use Rattle.ulfm_stops.specs.declared.place.Place.{Place}

@@ -5,23 +5,23 @@ use Rattle.ulfm_reader.specs.Goals.{goals_of}
 use Rattle.ulfm_reach.specs.declared.reach.Reach.TheVariants.{All, More}
 use Rattle.ulfm_reach.specs.declared.reached.Reached.{Reached}
 use Rattle.ulfm_finder.specs.Goals.{IsPossible}
-use Rattle.ulfm_found.specs.Goals.{AreOfClauses}
+use Rattle.ulfm_list.specs.Goals.{AreOfClauses}
 use Rattle.ulfm_finder.specs.Outcomes.{IsList}
 use Rattle.ulfm_finder.specs.Told.{IsTold}
-use Rattle.ulfm_found.specs.Text.{some_never_ends}
-use Rattle.ulfm_found.specs.declared.goals.Goals.{Goals}
+use Rattle.ulfm_list.specs.Text.{some_never_ends}
+use Rattle.ulfm_list.specs.declared.goals.Goals.{Goals}
 use Rattle.ulfm_json.specs.declared.form.Form.{Form}
 use Rattle.ulfm_json.specs.declared.form.Form.TheVariants.{Words, Json}
-use Rattle.ulfm_found.specs.Objects.{more_in}
-use Rattle.ulfm_found.specs.declared.judgement.Judgement.{Judgement}
-use Rattle.ulfm_lists.specs.Told.{told_in}
-use Rattle.ulfm_lists.specs.declared.told.Told.TheVariants as told
+use Rattle.ulfm_list.specs.Objects.{more_in}
+use Rattle.ulfm_list.specs.declared.judgement.Judgement.{Judgement}
+use Rattle.ulfm_list.specs.Told.{told_in}
+use Rattle.ulfm_list.specs.declared.told.Told.TheVariants as told
 use Rattle.ulfm_moves.specs.declared.schedule.Schedule.{Schedule}
 use Rattle.ulfm_replies.specs.Failure.{out_of_memory_in}
 use Rattle.ulfm_replies.specs.Stopped.{Asked, IsAskedAt, IsRefusal, reading_as}
 use Rattle.ulfm_replies.specs.declared.command.ListOptions.{ListOptions}
 use Rattle.ulfm_replies.specs.Wish.{ChoiceView}
-use Rattle.ulfm_found.specs.declared.unmet.Unmet.{Unmet}
+use Rattle.ulfm_list.specs.declared.unmet.Unmet.{Unmet}
 use Rattle.ulfm_judged.specs.Drawn.{IsDrawn, left_drawn}
 use Rattle.ulfm_judged.specs.Hangs.{judgement_alone}
 use Rattle.ulfm_judged.specs.Chosen.{list_in, no_name, unknown_part}

@@ -10,17 +10,17 @@ use Rattle.ulfm_stops.specs.declared.place.Place.TheVariants.{Nowhere, One, Two}
 use Rattle.ulfm_stops.specs.declared.stop.Stop.{Stop}
 use Rattle.ulfm_finder.specs.Goals.{IsPossible}
 use Rattle.ulfm_finder.specs.Told.{IsTold}
-use Rattle.ulfm_found.specs.Goals.{AreOfClauses}
-use Rattle.ulfm_found.specs.declared.goals.Goals.{Goals}
+use Rattle.ulfm_list.specs.Goals.{AreOfClauses}
+use Rattle.ulfm_list.specs.declared.goals.Goals.{Goals}
 use Rattle.ulfm_json.specs.declared.form.Form.{Form}
 use Rattle.ulfm_replies.specs.Failure.{out_of_memory_in}
 use Rattle.ulfm_replies.specs.Replies.{refused_in}
 use Rattle.ulfm_replies.specs.Stopped.{Asked, IsAskedAt, IsRefusal, asked_at, clauses_beside}
 use Rattle.ulfm_replies.specs.declared.command.ListOptions.{ListOptions}
 use Rattle.ulfm_judged.specs.Outcomes.{goals_asked, no_goal, nowhere_in}
-use Rattle.ulfm_lists.specs.Told.{told_in}
-use Rattle.ulfm_lists.specs.declared.told.Told.{Told}
-use Rattle.ulfm_lists.specs.declared.told.Told.TheVariants as told
+use Rattle.ulfm_list.specs.Told.{told_in}
+use Rattle.ulfm_list.specs.declared.told.Told.{Told}
+use Rattle.ulfm_list.specs.declared.told.Told.TheVariants as told
 use Rattle.ulfm_moves.specs.declared.schedule.Schedule.{Schedule}
 
 -- clauses of the file's steps, by the numbers that these have beside a stop

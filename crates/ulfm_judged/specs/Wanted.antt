@@ -8,18 +8,18 @@ use Rattle.ulfm_finder.specs.Goals.{IsPossible}
 use Rattle.ulfm_finder.specs.Outcomes.{IsList}
 use Rattle.ulfm_finder.specs.Told.{IsTold}
 use Rattle.ulfm_finder.specs.Unmet.{MeetsExpected}
-use Rattle.ulfm_found.specs.Goals.{AreOfClauses}
-use Rattle.ulfm_found.specs.Judgement.{unmet_judgement}
-use Rattle.ulfm_found.specs.Unmet.{IsUnmet, first_unmet}
-use Rattle.ulfm_found.specs.declared.goals.Goals.{Goals}
-use Rattle.ulfm_found.specs.declared.judgement.Judgement.{Judgement}
-use Rattle.ulfm_found.specs.declared.judgement.Judgement.TheVariants.{ComeTogether, NotKnown}
-use Rattle.ulfm_found.specs.declared.unmet.Unmet.{Unmet}
+use Rattle.ulfm_list.specs.Goals.{AreOfClauses}
+use Rattle.ulfm_list.specs.Judgement.{unmet_judgement}
+use Rattle.ulfm_list.specs.Unmet.{IsUnmet, first_unmet}
+use Rattle.ulfm_list.specs.declared.goals.Goals.{Goals}
+use Rattle.ulfm_list.specs.declared.judgement.Judgement.{Judgement}
+use Rattle.ulfm_list.specs.declared.judgement.Judgement.TheVariants.{ComeTogether, NotKnown}
+use Rattle.ulfm_list.specs.declared.unmet.Unmet.{Unmet}
 use Rattle.ulfm_json.specs.declared.form.Form.{Form}
-use Rattle.ulfm_lists.specs.Numbers.{filed_number}
-use Rattle.ulfm_lists.specs.Told.{row_in, unmet_in}
-use Rattle.ulfm_lists.specs.declared.told.Told.{Told}
-use Rattle.ulfm_lists.specs.declared.told.Told.TheVariants as told
+use Rattle.ulfm_list.specs.Numbers.{filed_number}
+use Rattle.ulfm_list.specs.Told.{row_in, unmet_in}
+use Rattle.ulfm_list.specs.declared.told.Told.{Told}
+use Rattle.ulfm_list.specs.declared.told.Told.TheVariants as told
 use Rattle.ulfm_moves.specs.declared.schedule.Schedule.{Schedule}
 use Rattle.ulfm_replies.specs.Asking.{is_looked_at}
 use Rattle.ulfm_replies.specs.Stopped.{Asked}

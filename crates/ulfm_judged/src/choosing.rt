@@ -1,15 +1,15 @@
 //! The steps whose lines a list has.
 ghost use Rattle.std.specs.Prelude.{◌≡◌, ◌==◌, ◌++◌, ◌∷◌, [], if◌then◌else◌, not, IfOk, OnOk, filter, map, option_map, string_bytes};
 ghost use Rattle.std.specs.List.{find, flat_map, list_any, slice_split};
-ghost use Rattle.ulfm_found.specs.Listed.{list_view, step_view};
-ghost use Rattle.ulfm_found.specs.Objects.{printed};
+ghost use Rattle.ulfm_list.specs.Listed.{list_view, step_view};
+ghost use Rattle.ulfm_list.specs.Objects.{printed};
 ghost use Rattle.ulfm_replies.specs.Stopped.{asked_view};
 ghost use Rattle.ulfm_replies.specs.Wish.{choice_view};
 ghost use Rattle.ulfm_judged.specs.Chosen.{are_called, chosen, is_all, is_called, is_chosen, is_note, is_part, labels, named_labels, no_name, parts_of, unknown_part};
 
 use crate::search::Search;
 use std::alloc::{AllocError, Global};
-use ulfm_found::{JobStep, StepList, push_list, steps_of};
+use ulfm_list::{JobStep, StepList, push_list, steps_of};
 use ulfm_job::Step;
 use ulfm_reader::{Name, Reading, name_at};
 use ulfm_replies::{Choice, JOB_REFUSED, Remark, Reply};

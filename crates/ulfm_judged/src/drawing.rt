@@ -1,7 +1,7 @@
 //! The step that `--draw` draws where no answers are to be shown: the first one that never ends.
 ghost use Rattle.std.specs.Prelude.{◌≡◌, Some, IfOk, map, string_bytes};
 ghost use Rattle.ulfm_finder.specs.Unmet.{Judges};
-ghost use Rattle.ulfm_found.specs.Listed.{step_view};
+ghost use Rattle.ulfm_list.specs.Listed.{step_view};
 ghost use Rattle.ulfm_replies.specs.Stopped.{asked_at, asked_view};
 ghost use Rattle.ulfm_judged.specs.Drawn.{IsDrawn, first_left, left_drawn, left_of};
 ghost use Rattle.ulfm_judged.specs.Wanted.{HasList};
@@ -14,8 +14,8 @@ use crate::shown::told_reply;
 use crate::unwanted::told_of;
 use std::alloc::AllocError;
 use ulfm_finder::Finder;
-use ulfm_found::{JobStep, Unmet, is_stuck, steps_of};
-use ulfm_lists::Listed;
+use ulfm_list::{JobStep, Unmet, is_stuck, steps_of};
+use ulfm_list::Listed;
 use ulfm_reach::{Rows, Watch};
 use ulfm_reader::Reading;
 use ulfm_replies::{Place, Reply, stopped_at};

@@ -1,7 +1,7 @@
 //! The reply of `outcomes --stops`: what each step may be answered wherever ranks stop, and below it what the job doesn't want at the first
 //! place where it comes.
 ghost use Rattle.std.specs.Prelude.{◌≡◌, ◌<◌, ◌≤◌, ℕ, List, None, IfOk, string_bytes};
-ghost use Rattle.ulfm_lists.specs.Told.{more_at};
+ghost use Rattle.ulfm_list.specs.Told.{more_at};
 ghost use Rattle.ulfm_stops.specs.declared.place.Place.TheVariants.{Nowhere};
 ghost use Rattle.ulfm_replies.specs.Stopped.{IsAskedAt, asked_view};
 ghost use Rattle.ulfm_replies.specs.Wish.{choice_view};
@@ -24,9 +24,9 @@ use std::alloc::AllocError;
 use std::thread;
 use std::thread::Threads;
 use ulfm_finder::Finder;
-use ulfm_found::Judgement;
+use ulfm_list::Judgement;
 use ulfm_job::{JobFault, MOST_STEPS};
-use ulfm_lists::{lists_of, push_more_at, some_never_ends};
+use ulfm_list::{lists_of, push_more_at, some_never_ends};
 use ulfm_reader::Reading;
 use ulfm_replies::{ListOptions, MOST_THREADS, PAST_LIMIT, Place, Reply, asked_at, refusal};
 use ulfm_stops::places;

@@ -3,7 +3,7 @@ ghost use Rattle.std.specs.Prelude.{◌≡◌};
 ghost use Rattle.ulfm_replies.specs.Stopped.{asked_view};
 ghost use Rattle.ulfm_judged.specs.Wanted.{asks};
 
-use ulfm_found::Judgement;
+use ulfm_list::Judgement;
 use ulfm_reader::Reading;
 use ulfm_replies::Reply;
 

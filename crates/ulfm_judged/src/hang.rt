@@ -2,15 +2,15 @@
 //! is promised.
 ghost use Rattle.std.specs.Prelude.{◌≡◌, IfOk, map};
 ghost use Rattle.std.specs.List.{list_any};
-ghost use Rattle.ulfm_found.specs.Listed.{step_view};
+ghost use Rattle.ulfm_list.specs.Listed.{step_view};
 ghost use Rattle.ulfm_replies.specs.Stopped.{asked_view};
 ghost use Rattle.ulfm_judged.specs.Hangs.{hangs_at, hangs_somewhere, is_hang, judgement_alone, judgement_of_all};
 
 use crate::finding::asks;
 use crate::search::Search;
 use std::alloc::AllocError;
-use ulfm_found::{JobStep, Judgement, OpenStep, is_stuck, steps_of};
-use ulfm_lists::{Listed, number_at};
+use ulfm_list::{JobStep, Judgement, OpenStep, is_stuck, steps_of};
+use ulfm_list::{Listed, number_at};
 use ulfm_reach::Rows;
 use ulfm_reader::Reading;
 use ulfm_replies::{expects, stops_at};

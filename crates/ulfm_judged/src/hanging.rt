@@ -3,9 +3,9 @@
 use crate::search::Search;
 use std::alloc::{AllocError, Global};
 use ulfm_finder::Finder;
-use ulfm_found::{Goals, OpenStep};
+use ulfm_list::{Goals, OpenStep};
 use ulfm_job::Job;
-use ulfm_lists::{Told, push_schedule_in};
+use ulfm_list::{Told, push_schedule_in};
 use ulfm_reach::Watch;
 use ulfm_replies::Remark;
 

@@ -10,7 +10,7 @@ use crate::onlooker::{Onlooker, Seen};
 use crate::search::Search;
 use ulfm_base::OutOfMemory;
 use ulfm_finder::Finder;
-use ulfm_lists::Listed;
+use ulfm_list::Listed;
 use ulfm_reach::Reach;
 use ulfm_reader::Reading;
 use ulfm_replies::stopped_at;

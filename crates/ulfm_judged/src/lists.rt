@@ -1,6 +1,6 @@
 //! The lists of places.
 
-use ulfm_lists::Listed;
+use ulfm_list::Listed;
 use ulfm_stops::Place;
 
 /// The lists of places in their order, as far as they go.

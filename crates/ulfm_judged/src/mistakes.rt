@@ -2,9 +2,9 @@
 
 use std::alloc::{AllocError, Global};
 use ulfm_answer::{ToldAnswer, begins_told};
-use ulfm_found::code_at;
+use ulfm_list::code_at;
 use ulfm_job::{Job, Step};
-use ulfm_lists::{Listed, number_at};
+use ulfm_list::{Listed, number_at};
 use ulfm_reach::Rows;
 use ulfm_reader::Reading;
 use ulfm_replies::{Place, Remark, StepTold};

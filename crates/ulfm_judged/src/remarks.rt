@@ -2,9 +2,9 @@
 
 use std::alloc::{AllocError, Global};
 use ulfm_answer::{StepAnswer, StepReport, ToldAnswer, holds_of};
-use ulfm_found::code_at;
+use ulfm_list::code_at;
 use ulfm_job::{Clause, Job};
-use ulfm_lists::Told;
+use ulfm_list::Told;
 use ulfm_moves::{Course, Schedule};
 use ulfm_reach::Rows;
 use ulfm_reader::Reading;

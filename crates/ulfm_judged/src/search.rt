@@ -6,10 +6,10 @@ ghost use Rattle.ulfm_finder.specs.Told.{IsLook};
 use std::alloc::Global;
 use ulfm_base::OutOfMemory;
 use ulfm_finder::Finder;
-use ulfm_found::Goals;
+use ulfm_list::Goals;
 use ulfm_job::Job;
 use ulfm_json::Form;
-use ulfm_lists::Told;
+use ulfm_list::Told;
 use ulfm_reach::{Reach, Watch};
 use ulfm_replies::{Choice, ListOptions};
 

@@ -2,7 +2,7 @@
 ghost use Rattle.std.specs.Prelude.{◌≡◌, string_bytes};
 
 use std::alloc::{AllocError, Global};
-use ulfm_lists::Listed;
+use ulfm_list::Listed;
 use ulfm_reader::{Proviso, Reading};
 use ulfm_replies::{Remark, Reply, holds_at};
 

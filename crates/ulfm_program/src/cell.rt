@@ -2,7 +2,7 @@
 
 use std::alloc::{AllocError, Global};
 use ulfm_answer::{ToldAnswer, push_told};
-use ulfm_found::{code_at, is_expected};
+use ulfm_list::{code_at, is_expected};
 use ulfm_job::Job;
 use ulfm_reach::Rows;
 

@@ -7,7 +7,7 @@ use std::alloc::{AllocError, Global};
 use ulfm_finder::Finder;
 use ulfm_job::Job;
 use ulfm_judged::Search;
-use ulfm_lists::number_at;
+use ulfm_list::number_at;
 use ulfm_reach::{Reach, Reached};
 use ulfm_reader::Reading;
 use ulfm_replies::{Place, stopped_at};

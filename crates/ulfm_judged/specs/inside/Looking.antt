@@ -3,15 +3,15 @@ use Rattle.std.specs.Prelude.{◌≡◌, ℕ, Bool, List, Option, Some, None, sl
 use Rattle.ulfm_job.specs.declared.clause.Clause.{Clause}
 use Rattle.ulfm_job.specs.Job.{JobView}
 use Rattle.ulfm_finder.specs.Told.{IsLook}
-use Rattle.ulfm_found.specs.declared.goals.Goals.{Goals}
-use Rattle.ulfm_found.specs.declared.unmet.Unmet.{Unmet}
-use Rattle.ulfm_found.specs.declared.judgement.Judgement.{Judgement}
-use Rattle.ulfm_found.specs.declared.judgement.Judgement.TheVariants.{ComeTogether, NotKnown}
+use Rattle.ulfm_list.specs.declared.goals.Goals.{Goals}
+use Rattle.ulfm_list.specs.declared.unmet.Unmet.{Unmet}
+use Rattle.ulfm_list.specs.declared.judgement.Judgement.{Judgement}
+use Rattle.ulfm_list.specs.declared.judgement.Judgement.TheVariants.{ComeTogether, NotKnown}
 use Rattle.ulfm_json.specs.declared.style.Style.{Style}
 use Rattle.ulfm_json.specs.declared.form.Form.{Form}
-use Rattle.ulfm_lists.specs.Told.{told_in}
-use Rattle.ulfm_lists.specs.declared.told.Told.{Told}
-use Rattle.ulfm_lists.specs.declared.told.Told.TheVariants.{Schedule, Many}
+use Rattle.ulfm_list.specs.Told.{told_in}
+use Rattle.ulfm_list.specs.declared.told.Told.{Told}
+use Rattle.ulfm_list.specs.declared.told.Told.TheVariants.{Schedule, Many}
 use Rattle.ulfm_replies.specs.Stopped.{Asked}
 use Rattle.ulfm_replies.specs.declared.command.ListOptions.{ListOptions}
 use Rattle.ulfm_replies.specs.declared.reply.Reply.{Reply}

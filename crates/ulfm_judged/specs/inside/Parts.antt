@@ -6,7 +6,7 @@ use Rattle.ulfm_reach.specs.declared.reach.Reach.TheVariants.{More}
 use Rattle.ulfm_stops.specs.declared.place.Place.{Place}
 use Rattle.ulfm_judged.specs.Lists.{AreLists, IsListedAt, job_asked_at}
 use Rattle.ulfm_replies.specs.Stopped.{Asked}
-use Rattle.ulfm_lists.specs.declared.listed.Listed.{Listed}
+use Rattle.ulfm_list.specs.declared.listed.Listed.{Listed}
 use Rattle.ulfm_judged.specs.declared.lists.Lists.{Lists}
 
 -- the list of a place, or that the job has more states there than the limit

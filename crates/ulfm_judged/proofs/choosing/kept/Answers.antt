@@ -1,5 +1,5 @@
 use Rattle.std.proofs.Common.{Bool, List, [], ◌∷◌, ◌++◌, ◌∙◌, ap, cond, filter, map}
-use Rattle.ulfm_found.specs.Listed.{StepView, step_view}
+use Rattle.ulfm_list.specs.Listed.{StepView, step_view}
 use Rattle.ulfm_replies.specs.Wish.{choice_view}
 use Rattle.ulfm_judged.specs.Chosen.{is_chosen}
 use Rattle.ulfm_judged.proofs.Judged.{filter-more}

@@ -1,5 +1,5 @@
 use Rattle.std.proofs.Common.{◌≡◌, filter, map, take}
-use Rattle.ulfm_found.specs.Listed.{step_view}
+use Rattle.ulfm_list.specs.Listed.{step_view}
 use Rattle.ulfm_replies.specs.Wish.{choice_view}
 use Rattle.ulfm_judged.specs.Chosen.{is_chosen}
 use Rattle.ulfm_judged.proofs.choosing.kept.Given as goal

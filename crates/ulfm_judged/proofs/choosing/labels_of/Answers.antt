@@ -1,6 +1,6 @@
 use Rattle.std.proofs.Common.{[], map, string_bytes}
-use Rattle.ulfm_found.proofs.Lines.{one-more}
-use Rattle.ulfm_found.specs.Listed.{step_view}
+use Rattle.ulfm_list.proofs.Lines.{one-more}
+use Rattle.ulfm_list.specs.Listed.{step_view}
 use Rattle.ulfm_judged.specs.Chosen.{labels}
 use Rattle.ulfm_judged.proofs.choosing.labels_of.Goals as goal
 

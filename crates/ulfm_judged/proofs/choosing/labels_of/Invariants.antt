@@ -1,6 +1,6 @@
 use Rattle.std.proofs.Common.{◌≡◌, map, string_bytes, take}
 use Rattle.std.specs.List.{flat_map}
-use Rattle.ulfm_found.specs.Listed.{step_view}
+use Rattle.ulfm_list.specs.Listed.{step_view}
 use Rattle.ulfm_judged.specs.Chosen.{labels}
 use Rattle.ulfm_judged.proofs.choosing.labels_of.Given as goal
 

@@ -1,5 +1,5 @@
 use Rattle.std.proofs.Common.{◌≡◌, drop, map}
-use Rattle.ulfm_found.specs.Listed.{step_view}
+use Rattle.ulfm_list.specs.Listed.{step_view}
 use Rattle.ulfm_judged.specs.Drawn.{first_left}
 use Rattle.ulfm_judged.proofs.drawing.first_left.Given as goal
 

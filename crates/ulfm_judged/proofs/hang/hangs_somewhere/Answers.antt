@@ -2,9 +2,9 @@ use Rattle.std.proofs.Common.{Bool, Some, ap, map, sym, ◌∙◌}
 use Rattle.std.proofs.lemmas.List.{drop_all}
 use Rattle.std.proofs.lemmas.Option.{slice_get-get_or}
 use Rattle.std.specs.List.{list_any}
-use Rattle.ulfm_found.proofs.Any.{any_here, any_on}
-use Rattle.ulfm_found.specs.Listed.{step_view}
-use Rattle.ulfm_lists.specs.declared.listed.Listed.{Listed}
+use Rattle.ulfm_list.proofs.Any.{any_here, any_on}
+use Rattle.ulfm_list.specs.Listed.{step_view}
+use Rattle.ulfm_list.specs.declared.listed.Listed.{Listed}
 use Rattle.ulfm_replies.specs.Stopped.{asked_view}
 use Rattle.ulfm_judged.specs.Hangs.{hangs_at}
 use Rattle.ulfm_judged.proofs.hang.hangs_somewhere.Goals as goal

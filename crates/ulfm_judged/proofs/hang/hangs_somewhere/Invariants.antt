@@ -1,5 +1,5 @@
 use Rattle.std.proofs.Common.{◌≡◌, drop, map}
-use Rattle.ulfm_found.specs.Listed.{step_view}
+use Rattle.ulfm_list.specs.Listed.{step_view}
 use Rattle.ulfm_replies.specs.Stopped.{asked_view}
 use Rattle.ulfm_judged.specs.Hangs.{hangs_somewhere}
 use Rattle.ulfm_judged.proofs.hang.hangs_somewhere.Given as goal

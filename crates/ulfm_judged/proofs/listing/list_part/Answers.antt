@@ -4,7 +4,7 @@ use Rattle.ulfm_stops.specs.declared.place.Place.TheVariants.{Nowhere}
 use Rattle.ulfm_replies.specs.Stopped.{asked_view}
 use Rattle.ulfm_judged.specs.inside.Parts.{IsListOf}
 use Rattle.ulfm_judged.proofs.Joining.{goes_on-end, goes_on-past}
-use Rattle.ulfm_lists.proofs.Telling.{drop-get_or}
+use Rattle.ulfm_list.proofs.Telling.{drop-get_or}
 use Rattle.ulfm_judged.proofs.listing.list_part.Goals as goal
 
 pub returns-in-None : goal.returns-in-None

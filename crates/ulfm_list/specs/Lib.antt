@@ -1,0 +1,15 @@
+pub mod Text
+pub mod Judgement
+pub mod Listed
+pub mod Words
+pub mod Objects
+pub mod Goals
+pub mod Unmet
+pub mod Numbers
+pub mod Union
+pub mod List
+pub mod Events
+pub mod Waits
+pub mod Scheduled
+pub mod Worded
+pub mod Told
