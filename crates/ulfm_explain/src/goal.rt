@@ -5,7 +5,7 @@ use std::alloc::{AllocError, Global};
 use crate::answers_at;
 use ulfm_reader::{Reading, name_at};
 use ulfm_replies::{Form, Wanted, Wording, asked_at};
-use ulfm_stops::Place;
+use ulfm_job::Place;
 
 /// How an answer is named.
 const NAMED: &str =

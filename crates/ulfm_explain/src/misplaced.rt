@@ -4,7 +4,7 @@ use std::alloc::{AllocError, Global};
 use ulfm_job::Job;
 use ulfm_reader::ReadJob;
 use ulfm_replies::Wanted;
-use ulfm_stops::{Place, Stop};
+use ulfm_job::{Place, Stop};
 
 /// Where the words stop ranks.
 pub(crate) fn place_of(wanted: Wanted) -> Place {

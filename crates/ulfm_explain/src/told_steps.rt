@@ -4,7 +4,7 @@ use crate::counted::Counted;
 use std::alloc::{AllocError, Global};
 use ulfm_job::Text;
 use ulfm_replies::{Remark, Verdict};
-use ulfm_stops::Place;
+use ulfm_job::Place;
 
 /// What stands above the lines of each kind, in their order.
 const HEADS: [&str; 6] = [UNMET, CAME, UNFINISHED, MISTAKEN, SKIPPED, UNHELD];

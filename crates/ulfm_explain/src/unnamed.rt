@@ -4,7 +4,7 @@ use crate::goal::{is_number, no_step};
 use crate::naming::nearest_of;
 use std::alloc::{AllocError, Global};
 use ulfm_reader::{ReadJob, Reading, named};
-use ulfm_stops::Place;
+use ulfm_job::Place;
 
 /// How a place is written.
 const WRITTEN: &str =

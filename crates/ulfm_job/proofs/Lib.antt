@@ -3,3 +3,9 @@ pub mod Same
 pub mod Scripts
 pub mod WithStop
 pub mod Rounds
+pub mod Beside
+pub mod Listed
+pub mod Inside
+pub mod Numbers
+pub mod Starred
+pub mod Written

@@ -7,13 +7,13 @@ use Rattle.ulfm_reach.specs.declared.reach.Reach.TheVariants as reach
 use Rattle.ulfm_finder.specs.Outcomes.{IsList}
 use Rattle.ulfm_job.specs.Job.{JobView}
 use Rattle.ulfm_finder.specs.Unmet.{MeetsExpected}
-use Rattle.ulfm_stops.specs.Place.{IsPlaceOf, job_at}
-use Rattle.ulfm_stops.specs.declared.place.Place.{Place}
-use Rattle.ulfm_stops.specs.declared.place.Place.TheVariants.{Nowhere}
+use Rattle.ulfm_job.specs.Place.{IsPlaceOf, job_at}
+use Rattle.ulfm_job.specs.declared.place.Place.{Place}
+use Rattle.ulfm_job.specs.declared.place.Place.TheVariants.{Nowhere}
 use Rattle.ulfm_judged.specs.Lists.{AreLists, IsListedAt, job_asked_at}
 use Rattle.ulfm_list.specs.declared.listed.Listed.{Listed}
 use Rattle.ulfm_job.specs.declared.clause.Clause.{Clause}
-use Rattle.ulfm_stops.specs.Places.{places_of}
+use Rattle.ulfm_job.specs.Places.{places_of}
 use Rattle.ulfm_json.specs.declared.form.Form.{Form}
 use Rattle.ulfm_replies.specs.Stopped.{Asked, IsAskedAt, asked_at}
 use Rattle.ulfm_replies.specs.Wish.{ChoiceView}

@@ -5,7 +5,7 @@ use Rattle.std.proofs.lemmas.Bool.{false≢true}
 use Rattle.std.specs.declared.alloc.AllocError.{AllocError}
 use Rattle.ulfm_finder.specs.Outcomes.{IsList}
 use Rattle.ulfm_reach.specs.declared.reach.Reach.TheVariants.{More}
-use Rattle.ulfm_stops.specs.declared.place.Place.{Place}
+use Rattle.ulfm_job.specs.declared.place.Place.{Place}
 use Rattle.ulfm_judged.specs.Lists.{AreLists, job_asked_at}
 use Rattle.ulfm_judged.specs.inside.Parts.{AreJoined, AreJoinedSoFar, AreParts, GoesOn, IsPart}
 use Rattle.ulfm_replies.specs.Stopped.{Asked}

@@ -6,7 +6,7 @@ use Rattle.std.proofs.lemmas.Nat.{div-add-mod'}
 use Rattle.std.specs.Fork.{slice_chunk}
 use Rattle.std.specs.declared.alloc.AllocError.{AllocError}
 use Rattle.ulfm_replies.specs.Stopped.{Asked}
-use Rattle.ulfm_stops.specs.declared.place.Place.{Place}
+use Rattle.ulfm_job.specs.declared.place.Place.{Place}
 use Rattle.ulfm_judged.specs.inside.Parts.{AreParts, IsPart}
 use Rattle.ulfm_judged.specs.declared.lists.Lists.{Lists}
 

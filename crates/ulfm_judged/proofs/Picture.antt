@@ -27,7 +27,7 @@ use Rattle.ulfm_replies.specs.declared.reply.Reply.{Reply}
 use Rattle.ulfm_judged.specs.EachPlace.{IsUndrawn}
 use Rattle.ulfm_judged.specs.inside.Judging.{IsDrawnThere, IsFirstDrawn}
 use Rattle.ulfm_replies.specs.declared.command.ListOptions.{ListOptions}
-use Rattle.ulfm_stops.specs.declared.place.Place.{Place}
+use Rattle.ulfm_job.specs.declared.place.Place.{Place}
 use Rattle.ulfm_judged.specs.Drawn.{IsDrawn, first_left, left_drawn, left_of, no_picture, picture}
 use Rattle.ulfm_judged.specs.Wanted.{HasList}
 use Rattle.ulfm_judged.specs.inside.Looking.{IsLookText, look_status}

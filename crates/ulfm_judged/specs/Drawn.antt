@@ -15,7 +15,7 @@ use Rattle.ulfm_list.specs.declared.told.Told.TheVariants as told
 use Rattle.ulfm_moves.specs.declared.schedule.Schedule.{Schedule}
 use Rattle.ulfm_replies.specs.Stopped.{Asked}
 use Rattle.ulfm_replies.specs.declared.command.ListOptions.{ListOptions}
-use Rattle.ulfm_stops.specs.declared.place.Place.{Place}
+use Rattle.ulfm_job.specs.declared.place.Place.{Place}
 
 -- a step that never ends, by the rows of a list, if it doesn't: no job has 65,536
 abbrev pub left_of : List (List ℕ) → StepView → Option Unmet

@@ -2,9 +2,9 @@
 use Rattle.std.specs.Prelude.{◌≡◌, ◌<◌, ◌⊎◌, ℕ, ◌+◌, List, [], ◌++◌, Option, Some, None, All, map, slice_get, take}
 use Rattle.ulfm_job.specs.declared.fault.JobFault.TheVariants.{TooLarge}
 use Rattle.ulfm_job.specs.Job.{step_count}
-use Rattle.ulfm_stops.specs.Places.{places_of}
-use Rattle.ulfm_stops.specs.declared.place.Place.{Place}
-use Rattle.ulfm_stops.specs.declared.place.Place.TheVariants.{Nowhere}
+use Rattle.ulfm_job.specs.Places.{places_of}
+use Rattle.ulfm_job.specs.declared.place.Place.{Place}
+use Rattle.ulfm_job.specs.declared.place.Place.TheVariants.{Nowhere}
 use Rattle.ulfm_judged.specs.Lists.{AreLists}
 use Rattle.ulfm_list.specs.Told.{more_at}
 use Rattle.ulfm_list.specs.Union.{some_never_ends}

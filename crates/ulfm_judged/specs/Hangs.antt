@@ -9,9 +9,9 @@ use Rattle.ulfm_list.specs.Numbers.{number_at}
 use Rattle.ulfm_list.specs.declared.listed.Listed.{Listed}
 use Rattle.ulfm_replies.specs.Holding.{expects, stops_at}
 use Rattle.ulfm_replies.specs.Stopped.{Asked}
-use Rattle.ulfm_stops.specs.declared.place.Place.{Place}
-use Rattle.ulfm_stops.specs.declared.place.Place.TheVariants.{Nowhere}
-use Rattle.ulfm_stops.specs.declared.stop.Stop.{Stop}
+use Rattle.ulfm_job.specs.declared.place.Place.{Place}
+use Rattle.ulfm_job.specs.declared.place.Place.TheVariants.{Nowhere}
+use Rattle.ulfm_job.specs.declared.stop.Stop.{Stop}
 use Rattle.ulfm_judged.specs.Wanted.{asks}
 
 -- A step of the file never ends at a place, where these stops are, by the rows of its list. One that expects something there doesn't count, since it

@@ -3,11 +3,11 @@ use Rattle.std.specs.Prelude.{◌≡◌, ◌<◌, ℕ, ◌+◌, List, None, Ok, 
 use Rattle.ulfm_job.specs.declared.clause.Clause.{Clause}
 use Rattle.ulfm_job.specs.declared.fault.JobFault.TheVariants.{TooLarge}
 use Rattle.ulfm_job.specs.Job.{JobView, script_at, step_count}
-use Rattle.ulfm_stops.specs.Place.{job_at}
-use Rattle.ulfm_stops.specs.Places.{places_of}
-use Rattle.ulfm_stops.specs.declared.place.Place.{Place}
-use Rattle.ulfm_stops.specs.declared.place.Place.TheVariants.{Nowhere, One, Two}
-use Rattle.ulfm_stops.specs.declared.stop.Stop.{Stop}
+use Rattle.ulfm_job.specs.Place.{job_at}
+use Rattle.ulfm_job.specs.Places.{places_of}
+use Rattle.ulfm_job.specs.declared.place.Place.{Place}
+use Rattle.ulfm_job.specs.declared.place.Place.TheVariants.{Nowhere, One, Two}
+use Rattle.ulfm_job.specs.declared.stop.Stop.{Stop}
 use Rattle.ulfm_finder.specs.Goals.{IsPossible}
 use Rattle.ulfm_finder.specs.Told.{IsTold}
 use Rattle.ulfm_list.specs.Goals.{AreOfClauses}

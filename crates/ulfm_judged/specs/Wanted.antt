@@ -3,7 +3,7 @@ use Rattle.std.specs.Prelude.{◌≡◌, ℕ, ◌==◌, ◌&&◌, not, Bool, tru
 use Rattle.ulfm_job.specs.declared.clause.Clause.{Clause}
 use Rattle.ulfm_job.specs.Job.{JobView}
 use Rattle.ulfm_reach.specs.declared.reach.Reach.TheVariants.{All}
-use Rattle.ulfm_stops.specs.declared.place.Place.{Place}
+use Rattle.ulfm_job.specs.declared.place.Place.{Place}
 use Rattle.ulfm_finder.specs.Goals.{IsPossible}
 use Rattle.ulfm_finder.specs.Outcomes.{IsList}
 use Rattle.ulfm_finder.specs.Told.{IsTold}

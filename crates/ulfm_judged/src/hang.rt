@@ -14,7 +14,7 @@ use ulfm_list::{Listed, number_at};
 use ulfm_reach::Rows;
 use ulfm_reader::Reading;
 use ulfm_replies::{expects, stops_at};
-use ulfm_stops::{Place, Stop};
+use ulfm_job::{Place, Stop};
 
 /// A step that never ends in some schedule.
 #[derive(Clone, Copy)]

@@ -1,6 +1,6 @@
 //! The lists of some places, one after another.
 ghost use Rattle.std.specs.Prelude.{All, IfOk};
-ghost use Rattle.ulfm_stops.specs.Place.{IsPlaceOf};
+ghost use Rattle.ulfm_job.specs.Place.{IsPlaceOf};
 ghost use Rattle.ulfm_judged.specs.Lists.{AreLists};
 ghost use Rattle.ulfm_judged.specs.inside.Parts.{IsListOf};
 ghost use Rattle.ulfm_replies.specs.Stopped.{asked_view};
@@ -14,7 +14,7 @@ use ulfm_list::Listed;
 use ulfm_reach::Reach;
 use ulfm_reader::Reading;
 use ulfm_replies::stopped_at;
-use ulfm_stops::Place;
+use ulfm_job::Place;
 
 /// The list of a place, or nothing where the job has more states there than the limit.
 fn list_place<F: Finder, L: Onlooker>(

@@ -1,7 +1,7 @@
 //! The lists of places.
 
 use ulfm_list::Listed;
-use ulfm_stops::Place;
+use ulfm_job::Place;
 
 /// The lists of places in their order, as far as they go.
 #[derive(Drop)]

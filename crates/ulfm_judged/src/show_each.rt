@@ -1,11 +1,11 @@
 //! The reply of `outcomes --stops --show`: the first place at which a schedule shows answers, and that schedule.
 ghost use Rattle.std.specs.Prelude.{◌≡◌, ℕ, All, List, IfOk, Some, string_bytes};
-ghost use Rattle.ulfm_stops.specs.Place.{IsPlaceOf, job_at};
+ghost use Rattle.ulfm_job.specs.Place.{IsPlaceOf, job_at};
 ghost use Rattle.ulfm_judged.specs.ShowEach.{AreGoalsAt, IsShowEachReply, beside};
 ghost use Rattle.ulfm_judged.specs.inside.Judging.{IsFirstLook, IsInside, IsLookAt, IsLookAtText, look_at_status};
 ghost use Rattle.ulfm_judged.specs.inside.Looking.{IsLookText, look_status};
 ghost use Rattle.ulfm_replies.specs.Stopped.{IsAskedAt, asked_at, asked_view};
-ghost use Rattle.ulfm_stops.specs.declared.place.Place.TheVariants.{Nowhere};
+ghost use Rattle.ulfm_job.specs.declared.place.Place.TheVariants.{Nowhere};
 
 use crate::onlooker::{Onlooker, Seen};
 use crate::search::Search;
@@ -17,7 +17,7 @@ use ulfm_job::{Clause, Job, JobFault, MOST_STEPS};
 use ulfm_list::Told;
 use ulfm_reader::Reading;
 use ulfm_replies::{Place, Reply, asked_at, refusal, stopped_at};
-use ulfm_stops::{Stop, places};
+use ulfm_job::{Stop, places};
 
 /// The reply of `outcomes --stops --show` by this search, with these answers. The onlooker is told how far the searches are.
 pub fn show_each_reply<F: Finder, L: Onlooker>(

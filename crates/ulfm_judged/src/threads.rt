@@ -1,7 +1,7 @@
 //! The lists of places, by threads.
 ghost use Rattle.std.specs.Prelude.{◌≡◌, ◌<◌, All, IfOk, max};
 ghost use Rattle.std.specs.Int.{div_ceil};
-ghost use Rattle.ulfm_stops.specs.Place.{IsPlaceOf};
+ghost use Rattle.ulfm_job.specs.Place.{IsPlaceOf};
 ghost use Rattle.ulfm_judged.specs.Lists.{AreLists};
 ghost use Rattle.ulfm_replies.specs.Stopped.{asked_view};
 ghost use Rattle.ulfm_judged.specs.inside.Parts.{AreJoined, AreParts, IsPart};
@@ -16,7 +16,7 @@ use std::thread::Threads;
 use ulfm_base::OutOfMemory;
 use ulfm_finder::Finder;
 use ulfm_reader::Reading;
-use ulfm_stops::Place;
+use ulfm_job::Place;
 
 /// The lists of all outcomes of what was asked for at these places, in their order, up to the first where the job has more states than the limit. So
 /// many threads share the places. The onlooker is told how far they are.

@@ -2,9 +2,9 @@
 use Rattle.std.specs.Prelude.{ℕ, ◌-◌, ◌==◌, ◌&&◌, nat_lt, if◌then◌else◌, length}
 use Rattle.std.specs.List.{fold}
 use Rattle.ulfm_job.specs.Job.{JobView, moved_number, script_at}
-use Rattle.ulfm_stops.specs.Place.{before, stops_of}
-use Rattle.ulfm_stops.specs.declared.place.Place.{Place}
-use Rattle.ulfm_stops.specs.declared.stop.Stop.{Stop}
+use Rattle.ulfm_job.specs.Place.{before, stops_of}
+use Rattle.ulfm_job.specs.declared.place.Place.{Place}
+use Rattle.ulfm_job.specs.declared.stop.Stop.{Stop}
 
 -- the number of the step k of the rank r, whose script has n steps, once the stop is there
 abbrev pub moved_by : ℕ → ℕ → ℕ → Stop → ℕ

@@ -8,8 +8,8 @@ use Rattle.ulfm_json.specs.declared.form.Form.TheVariants.{Words, Json}
 use Rattle.ulfm_json.specs.declared.wording.Wording.{Wording}
 use Rattle.ulfm_moves.specs.declared.schedule.Schedule.{Schedule as Scheduled}
 use Rattle.ulfm_reader.specs.declared.name.Name.{Name}
-use Rattle.ulfm_stops.specs.Text.{place_text}
-use Rattle.ulfm_stops.specs.declared.place.Place.{Place}
+use Rattle.ulfm_job.specs.Text.{place_text}
+use Rattle.ulfm_job.specs.declared.place.Place.{Place}
 use Rattle.ulfm_list.specs.Scheduled.{schedule_json}
 use Rattle.ulfm_list.specs.Worded.{schedule_in}
 use Rattle.ulfm_list.specs.declared.told.Told.{Told}

@@ -6,7 +6,7 @@ use Rattle.ulfm_answer.specs.declared.told_answer.ToldAnswer.{ToldAnswer}
 use Rattle.ulfm_job.specs.Job.{JobView}
 use Rattle.ulfm_list.specs.Text as one_list
 use Rattle.ulfm_list.specs.Text.{codes_found, with_answer}
-use Rattle.ulfm_stops.specs.declared.place.Place.{Place}
+use Rattle.ulfm_job.specs.declared.place.Place.{Place}
 use Rattle.ulfm_list.specs.Numbers.{number_at}
 use Rattle.ulfm_list.specs.declared.listed.Listed.{Listed}
 

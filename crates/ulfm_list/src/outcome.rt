@@ -1,7 +1,7 @@
 //! An answer, and where it is one.
 
 use crate::worded::Worded;
-use ulfm_stops::Place;
+use ulfm_job::Place;
 
 /// An answer of a step, and where it is one.
 #[derive(Drop)]

@@ -1,7 +1,7 @@
 //! What a list tells of a step.
 
 use crate::outcome::Outcome;
-use ulfm_stops::Place;
+use ulfm_job::Place;
 
 /// What a list tells of a step.
 #[derive(Drop)]

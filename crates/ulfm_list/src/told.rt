@@ -10,7 +10,7 @@ use crate::Unmet;
 use ulfm_json::{Form, Wording};
 use ulfm_moves::Schedule;
 use ulfm_reader::Reading;
-use ulfm_stops::Place;
+use ulfm_job::Place;
 
 /// What a search came to that may show a schedule.
 #[derive(Drop)]

@@ -10,7 +10,7 @@ use ulfm_base::OutOfMemory;
 use crate::{Worded, add_answers, in_order, some_never_end};
 use ulfm_job::Job;
 use ulfm_reach::Rows;
-use ulfm_stops::Place;
+use ulfm_job::Place;
 
 /// The answers that these lists have for a step of the file, each once.
 fn answer_set<'a>(

@@ -1,7 +1,7 @@
 -- The statuses of what is played.
 use Rattle.std.proofs.Common.{ℕ, Bool, true, false, List, Option}
 use Rattle.std.specs.List.{list_all, list_any}
-use Rattle.ulfm_stops.specs.declared.place.Place.{Place}
+use Rattle.ulfm_job.specs.declared.place.Place.{Place}
 use Rattle.ulfm_json.specs.declared.form.Form.{Form}
 use Rattle.ulfm_replies.proofs.Statuses.{IsKnown, done, left_open, no_job, no_play, not_wanted, run_fails}
 use Rattle.ulfm_played.specs.Asking.{as_asked}

@@ -12,7 +12,7 @@ use Rattle.ulfm_replies.specs.Named.{IsNamed, IsUnnamed, wanted_at}
 use Rattle.ulfm_replies.specs.Places.{IsPlacesReply}
 use Rattle.ulfm_replies.specs.Replies.{IsCheckReply}
 use Rattle.ulfm_replies.specs.Wish.{WishView}
-use Rattle.ulfm_stops.specs.declared.place.Place.{Place}
+use Rattle.ulfm_job.specs.declared.place.Place.{Place}
 use Rattle.ulfm_played.specs.Played.{IsDrawReply, IsReplayReply, IsRunReply}
 
 -- the reply in this form to what is asked for, with ranks stopped by the numbers of steps, and with what of outcomes is told

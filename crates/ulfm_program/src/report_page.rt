@@ -11,7 +11,7 @@ use ulfm_finder::Finder;
 use ulfm_job::{Job, MOST_STEPS};
 use ulfm_judged::Search;
 use ulfm_reader::{ReadJob, Reading, name_at};
-use ulfm_stops::places;
+use ulfm_job::places;
 
 /// What stands above all else, up to the name of the job.
 const HEAD: &str = "<!doctype html>

@@ -1,9 +1,9 @@
 -- What is asked for without a stop.
 use Rattle.std.proofs.Common.{◌≡◌, ℕ, true, List, Ok, ap, sym, ◌∙◌}
 use Rattle.std.proofs.lemmas.List.{append-nil}
-use Rattle.ulfm_stops.specs.Places.{own_stops}
-use Rattle.ulfm_stops.specs.declared.place.Place.TheVariants.{Nowhere}
-use Rattle.ulfm_stops.specs.declared.stop.Stop.{Stop}
+use Rattle.ulfm_job.specs.Places.{own_stops}
+use Rattle.ulfm_job.specs.declared.place.Place.TheVariants.{Nowhere}
+use Rattle.ulfm_job.specs.declared.stop.Stop.{Stop}
 use Rattle.ulfm_reader.specs.Goals.{goals_in, goals_of, goals_of_bytes}
 use Rattle.ulfm_reader.specs.JobText.{reading_of_bytes}
 use Rattle.ulfm_replies.specs.Holding.{all_hold, held}

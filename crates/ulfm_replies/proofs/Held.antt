@@ -5,8 +5,8 @@ use Rattle.std.proofs.lemmas.List.{take_all, take_more}
 use Rattle.std.proofs.lemmas.List.FromFn.{map-range_with_len_more}
 use Rattle.std.specs.List.{list_all, range_with_len}
 use Rattle.ulfm_job.specs.declared.clause.Clause.{Clause}
-use Rattle.ulfm_stops.specs.Places.{own_stops}
-use Rattle.ulfm_stops.specs.declared.stop.Stop.{Stop}
+use Rattle.ulfm_job.specs.Places.{own_stops}
+use Rattle.ulfm_job.specs.declared.stop.Stop.{Stop}
 use Rattle.ulfm_reader.specs.declared.name.Name.{Name}
 use Rattle.ulfm_reader.specs.declared.proviso.Proviso.{Proviso}
 use Rattle.ulfm_reader.specs.declared.subject.Subject.{Subject}

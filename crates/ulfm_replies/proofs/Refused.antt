@@ -11,7 +11,7 @@ use Rattle.ulfm_replies.specs.Places.{IsPlacesReply, unheld, unplaced}
 use Rattle.ulfm_replies.specs.Replies.{IsCheckReply, refused, no_memory, refused_in}
 use Rattle.ulfm_replies.specs.Stopped.{IsRefusal, no_job}
 use Rattle.ulfm_replies.specs.Stopped as stopped
-use Rattle.ulfm_stops.specs.declared.place.Place.{Place}
+use Rattle.ulfm_job.specs.declared.place.Place.{Place}
 
 -- a fault is that memory ran out, or another one
 by_memory : (f : JobFault) → (f ≡ OutOfMemory) ⊎ (f ≢ OutOfMemory)

@@ -1,6 +1,6 @@
 -- The statuses that replies have.
 use Rattle.std.proofs.Common.{◌≢◌, ◌≤◌, ℕ, List, arith}
-use Rattle.ulfm_stops.specs.declared.place.Place.{Place}
+use Rattle.ulfm_job.specs.declared.place.Place.{Place}
 use Rattle.ulfm_json.specs.declared.form.Form.{Form}
 use Rattle.ulfm_replies.specs.Expanded as expanded
 use Rattle.ulfm_replies.specs.Expanded.{IsExpandReply}

@@ -5,10 +5,10 @@ use Rattle.std.specs.Option.{option_map_or}
 use Rattle.ulfm_answer.specs.Reacting.{is_of}
 use Rattle.ulfm_job.specs.declared.clause.Clause.{Clause}
 use Rattle.ulfm_job.specs.Job.{JobView}
-use Rattle.ulfm_stops.specs.Place.{before, expecting, stops_of}
-use Rattle.ulfm_stops.specs.Places.{own_stops}
-use Rattle.ulfm_stops.specs.declared.place.Place.{Place}
-use Rattle.ulfm_stops.specs.declared.stop.Stop.{Stop}
+use Rattle.ulfm_job.specs.Place.{before, expecting, stops_of}
+use Rattle.ulfm_job.specs.Places.{own_stops}
+use Rattle.ulfm_job.specs.declared.place.Place.{Place}
+use Rattle.ulfm_job.specs.declared.stop.Stop.{Stop}
 use Rattle.ulfm_reader.specs.Reacting.{named}
 use Rattle.ulfm_reader.specs.declared.name.Name.{Name}
 use Rattle.ulfm_reader.specs.declared.proviso.Proviso.{Proviso}

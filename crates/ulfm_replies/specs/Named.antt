@@ -12,7 +12,7 @@ use Rattle.ulfm_replies.specs.Replies.{refused_in}
 use Rattle.ulfm_replies.specs.declared.command.Wanted.{Wanted}
 use Rattle.ulfm_replies.specs.declared.command.Wanted.TheVariants.{Replay, Run, Outcomes, Draw}
 use Rattle.ulfm_replies.specs.declared.reply.Reply.{Reply}
-use Rattle.ulfm_stops.specs.declared.place.Place.{Place}
+use Rattle.ulfm_job.specs.declared.place.Place.{Place}
 
 -- the same asked for with the stops of a place
 abbrev pub wanted_at : Place → Wanted → Wanted

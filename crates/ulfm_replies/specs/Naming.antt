@@ -6,10 +6,10 @@ use Rattle.std.specs.List.{after_first, before_first, find, list_all, position_o
 use Rattle.std.specs.Option.{option_or}
 use Rattle.std.specs.Str.{bytes_eq}
 use Rattle.ulfm_reader.specs.declared.name.Name.{Name}
-use Rattle.ulfm_stops.specs.Text.{is_starred, place_of_text, two_by, unstarred}
-use Rattle.ulfm_stops.specs.declared.place.Place.{Place}
-use Rattle.ulfm_stops.specs.declared.place.Place.TheVariants.{One}
-use Rattle.ulfm_stops.specs.declared.stop.Stop.{Stop}
+use Rattle.ulfm_job.specs.Text.{is_starred, place_of_text, two_by, unstarred}
+use Rattle.ulfm_job.specs.declared.place.Place.{Place}
+use Rattle.ulfm_job.specs.declared.place.Place.TheVariants.{One}
+use Rattle.ulfm_job.specs.declared.stop.Stop.{Stop}
 
 -- a byte of a place: one of a name, a dot, a star or a plus
 abbrev pub is_place_byte : ℕ → Bool

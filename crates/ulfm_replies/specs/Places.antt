@@ -4,9 +4,9 @@ use Rattle.std.specs.List.{flat_map}
 use Rattle.ulfm_job.specs.declared.fault.JobFault.{JobFault}
 use Rattle.ulfm_job.specs.declared.fault.JobFault.TheVariants.{TooLarge, OutOfMemory}
 use Rattle.ulfm_job.specs.Job.{JobView, step_count}
-use Rattle.ulfm_stops.specs.Places.{places_of}
-use Rattle.ulfm_stops.specs.Text.{place_text}
-use Rattle.ulfm_stops.specs.declared.place.Place.{Place}
+use Rattle.ulfm_job.specs.Places.{places_of}
+use Rattle.ulfm_job.specs.Text.{place_text}
+use Rattle.ulfm_job.specs.declared.place.Place.{Place}
 use Rattle.ulfm_reader.specs.Plan.{plan_of}
 use Rattle.ulfm_reader.specs.JobText.{job_of_bytes}
 use Rattle.ulfm_json.specs.declared.form.Form.{Form}

@@ -4,11 +4,11 @@ use Rattle.ulfm_job.specs.declared.clause.Clause.{Clause}
 use Rattle.ulfm_job.specs.declared.fault.JobFault.{JobFault}
 use Rattle.ulfm_job.specs.declared.fault.JobFault.TheVariants.{TooLarge, OutOfMemory}
 use Rattle.ulfm_job.specs.Job.{JobView, moved_clause, moved_number, script_at, step_count}
-use Rattle.ulfm_stops.specs.Place.{IsPlaceOf, before, stopped, stops_of}
-use Rattle.ulfm_stops.specs.Text.{place_text}
-use Rattle.ulfm_stops.specs.declared.place.Place.{Place}
-use Rattle.ulfm_stops.specs.declared.place.Place.TheVariants.{Nowhere, One, Two}
-use Rattle.ulfm_stops.specs.declared.stop.Stop.{Stop}
+use Rattle.ulfm_job.specs.Place.{IsPlaceOf, before, stopped, stops_of}
+use Rattle.ulfm_job.specs.Text.{place_text}
+use Rattle.ulfm_job.specs.declared.place.Place.{Place}
+use Rattle.ulfm_job.specs.declared.place.Place.TheVariants.{Nowhere, One, Two}
+use Rattle.ulfm_job.specs.declared.stop.Stop.{Stop}
 use Rattle.ulfm_reader.specs.JobText.{job_of_bytes, reading_of_bytes}
 use Rattle.ulfm_reader.specs.Plan.{plan_of}
 use Rattle.ulfm_reader.specs.declared.filed.Filed.{Filed}

@@ -2,7 +2,7 @@
 use Rattle.std.specs.Prelude.{Bool, false, List, Option, Some, None, codes, is_some, option_map, if◌then◌else◌}
 use Rattle.clap.specs.Words.{Row, Text, first_of}
 use Rattle.ulfm_replies.specs.CommandLine.{asked, is_flagged}
-use Rattle.ulfm_stops.specs.Text.{place_of_text}
+use Rattle.ulfm_job.specs.Text.{place_of_text}
 use Rattle.ulfm_replies.specs.declared.wish.Choice.{Choice}
 use Rattle.ulfm_replies.specs.declared.wish.Wish.{Wish}
 

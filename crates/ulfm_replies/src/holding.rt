@@ -2,7 +2,7 @@
 ghost use Rattle.std.specs.Prelude.{◌≡◌, ◌&&◌, ◌++◌, IfOk, OnOk, filter, length, map};
 ghost use Rattle.std.specs.List.{list_all, range_with_len};
 ghost use Rattle.ulfm_answer.specs.Reacting.{is_of};
-ghost use Rattle.ulfm_stops.specs.Place.{stops_of};
+ghost use Rattle.ulfm_job.specs.Place.{stops_of};
 ghost use Rattle.ulfm_replies.specs.Holding.{expects, held, held_at, held_row, holds, holds_at, holds_if_about, is_about, is_expected, lie_before, lies_before, stops_at};
 ghost use Rattle.ulfm_reader.specs.JobText.{rows_of};
 ghost use Rattle.ulfm_replies.specs.Stopped.{asked_view};
@@ -13,7 +13,7 @@ use crate::copied::{
 use std::alloc::{AllocError, Global};
 use ulfm_job::{Clause, Job};
 use ulfm_reader::{Name, Proviso, Reading, Subject, named};
-use ulfm_stops::{Place, Stop, expecting, own_stops};
+use ulfm_job::{Place, Stop, expecting, own_stops};
 
 /// Whether a stop lies before the steps of a name: its rank has one, and no more steps come before the stop than before that step.
 fn lies_before(names: &[Name], text: &str, stop: Stop) -> bool

@@ -1,7 +1,7 @@
 //! What is asked for without a stop.
 ghost use Rattle.std.specs.Prelude.{◌≡◌, ℕ, true, List, [], Ok};
-ghost use Rattle.ulfm_stops.specs.Places.{own_stops};
-ghost use Rattle.ulfm_stops.specs.declared.place.Place.TheVariants.{Nowhere};
+ghost use Rattle.ulfm_job.specs.Places.{own_stops};
+ghost use Rattle.ulfm_job.specs.declared.place.Place.TheVariants.{Nowhere};
 ghost use Rattle.ulfm_reader.specs.Goals.{goals_of, goals_of_bytes};
 ghost use Rattle.ulfm_reader.specs.JobText.{job_of_bytes, never_of_bytes};
 ghost use Rattle.ulfm_reader.specs.Plan.{plan_of};

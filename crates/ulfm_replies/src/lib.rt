@@ -64,7 +64,7 @@ pub use reply::{
 };
 pub use stopped::{asked_at, stopped_at};
 pub use ulfm_json::{Form, Wording};
-pub use ulfm_stops::Place;
+pub use ulfm_job::Place;
 pub use unmet::push_unmet_answers;
 pub use verdict::{Extent, Verdict, Where};
 pub use wish::{Choice, Wish};

@@ -9,7 +9,7 @@ use crate::number::number_given;
 use crate::options::{MOST_STATES, USUAL_STATES};
 use crate::placed::{are_together, stops_in, threads_in};
 use clap::ArgMatches;
-use ulfm_stops::Place;
+use ulfm_job::Place;
 
 /// What `outcomes` is asked for, where its options go together.
 pub(crate) fn listed(options: &ArgMatches<'_>, place: Place) -> Option<Wanted>

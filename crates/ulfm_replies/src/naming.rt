@@ -2,12 +2,12 @@
 ghost use Rattle.std.specs.Prelude.{◌≡◌, IfOk, option_map};
 ghost use Rattle.std.specs.List.{list_all};
 ghost use Rattle.ulfm_replies.specs.Naming.{is_labelled, is_place_byte, may_name, only_stop, place_named, stop_by_name, stop_named};
-ghost use Rattle.ulfm_stops.specs.Text.{is_starred, two_by, unstarred};
-ghost use Rattle.ulfm_stops.specs.declared.place.Place.TheVariants.{One};
+ghost use Rattle.ulfm_job.specs.Text.{is_starred, two_by, unstarred};
+ghost use Rattle.ulfm_job.specs.declared.place.Place.TheVariants.{One};
 
 use std::alloc::{AllocError, Global};
 use ulfm_reader::Name;
-use ulfm_stops::{Place, Stop};
+use ulfm_job::{Place, Stop};
 
 /// Whether a byte may stand in a place: one of a name, a dot, a star or a plus.
 fn is_place_byte(byte: u8) -> bool

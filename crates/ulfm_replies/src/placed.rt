@@ -8,7 +8,7 @@ use crate::naming::may_name;
 use crate::number::number_given;
 use crate::options::{MOST_STOPS, MOST_THREADS};
 use clap::ArgMatches;
-use ulfm_stops::Place;
+use ulfm_job::Place;
 
 /// Where `--stop` stops ranks by the numbers of steps: nowhere if it is left out. Nothing where its text can't be a place.
 pub(crate) fn place_in(options: &ArgMatches<'_>) -> Option<Place>

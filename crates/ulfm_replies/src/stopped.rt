@@ -1,6 +1,6 @@
 //! What a text asks for, with the stops of a place.
 ghost use Rattle.std.specs.Prelude.{◌≡◌, ◌≤◌, ℕ, List, Ok, IfOk, map, string_bytes};
-ghost use Rattle.ulfm_stops.specs.Place.{IsPlaceOf, IsStopOf};
+ghost use Rattle.ulfm_job.specs.Place.{IsPlaceOf, IsStopOf};
 ghost use Rattle.ulfm_reader.specs.JobText.{reading_of_bytes, rows_of};
 ghost use Rattle.ulfm_replies.specs.Stopped.{IsAsked, asked_at, asked_beside, asked_view, beside_stops, clauses_beside, filed_beside, name_beside, no_place_in, no_place_json, no_place_text, number_beside, reading_as};
 
@@ -11,7 +11,7 @@ use std::alloc::{AllocError, Global};
 use ulfm_job::{Clause, JobFault, MOST_STEPS};
 use ulfm_json::Form;
 use ulfm_reader::{Filed, Name, ReadJob, Reading};
-use ulfm_stops::{Place, Stop};
+use ulfm_job::{Place, Stop};
 
 /// What a text asks for, with the stops of a place, or the reply that its job is refused, or hasn't this place.
 pub fn asked_at(

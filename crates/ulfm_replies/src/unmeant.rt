@@ -7,7 +7,7 @@ use crate::naming::may_name;
 use clap::error::ErrorKind;
 use clap::{ArgMatches, Command, Error};
 use std::alloc::{AllocError, Global};
-use ulfm_stops::Place;
+use ulfm_job::Place;
 
 /// The error of a command line that clap takes, and that asks for nothing all the same.
 pub(crate) fn unmeant(

@@ -2,7 +2,7 @@
 
 use crate::remark::StepTold;
 use std::fmt;
-use ulfm_stops::{Place, Stop};
+use ulfm_job::{Place, Stop};
 
 /// At how many places a list was made, where it is one of places.
 #[derive(Clone, Copy)]

@@ -6,7 +6,7 @@ ghost use Rattle.ulfm_replies.specs.Wish.{choice_of, choice_view, unnumbered, wi
 use crate::command::value_of;
 use crate::flagged::is_flagged;
 use clap::ArgMatches;
-use ulfm_stops::Place;
+use ulfm_job::Place;
 
 /// Which lines of steps a list has: each, or where some are asked for those alone.
 #[derive(Clone, Copy)]

@@ -7,7 +7,7 @@ use std::alloc::{AllocError, Global};
 use ulfm_job::{Job, JobFault, MOST_STEPS};
 use ulfm_json::Form;
 use ulfm_reader::ReadJob;
-use ulfm_stops::{Place, places};
+use ulfm_job::{Place, places};
 
 /// The reply of `places`, with at most so many stops, 1 or 2.
 pub fn places_reply(alloc: Global, form: Form, stops: u8, bytes: &[u8]) -> Result<Reply, AllocError>

@@ -4,7 +4,7 @@ use std::alloc::Global;
 use std::test::Fail;
 use ulfm_job::{Job, Step};
 use ulfm_reader::ReadJob;
-use ulfm_stops::{Place, places};
+use ulfm_job::{Place, places};
 
 /// Texts, each with the place that it is as it is written once more.
 const TEXTS: [(&str, Option<&str>); 30] = [

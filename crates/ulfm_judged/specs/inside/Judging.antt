@@ -2,8 +2,8 @@
 use Rattle.std.specs.Prelude.{◌≡◌, ◌≤◌, ℕ, ⊤, ◌==◌, ◌++◌, Bool, false, List, Option, Some, None, All, max, option_map, slice_get, string_bytes, take}
 use Rattle.ulfm_job.specs.declared.clause.Clause.{Clause}
 use Rattle.ulfm_job.specs.Job.{JobView}
-use Rattle.ulfm_stops.specs.Place.{IsPlaceOf, job_at}
-use Rattle.ulfm_stops.specs.declared.place.Place.{Place}
+use Rattle.ulfm_job.specs.Place.{IsPlaceOf, job_at}
+use Rattle.ulfm_job.specs.declared.place.Place.{Place}
 use Rattle.ulfm_list.specs.Union.{some_never_ends}
 use Rattle.ulfm_list.specs.declared.listed.Listed.{Listed}
 use Rattle.ulfm_judged.specs.declared.lists.Lists.{Lists}

@@ -15,7 +15,7 @@ use Rattle.ulfm_list.specs.declared.told.Told.TheVariants.{Schedule, Many}
 use Rattle.ulfm_replies.specs.Stopped.{Asked}
 use Rattle.ulfm_replies.specs.declared.command.ListOptions.{ListOptions}
 use Rattle.ulfm_replies.specs.declared.reply.Reply.{Reply}
-use Rattle.ulfm_stops.specs.declared.place.Place.{Place}
+use Rattle.ulfm_job.specs.declared.place.Place.{Place}
 use Rattle.ulfm_judged.specs.Drawn.{IsDrawn, left_drawn}
 use Rattle.ulfm_judged.specs.Outcomes.{nowhere_in}
 use Rattle.ulfm_judged.specs.Wanted.{AreOfRow, NeverComes, NoneComes}

@@ -3,7 +3,7 @@ use Rattle.std.specs.Prelude.{◌≡◌, ℕ, ⊤, List, [], ◌∷◌, ◌++◌
 use Rattle.std.specs.declared.alloc.AllocError.{AllocError}
 use Rattle.ulfm_finder.specs.Outcomes.{IsList}
 use Rattle.ulfm_reach.specs.declared.reach.Reach.TheVariants.{More}
-use Rattle.ulfm_stops.specs.declared.place.Place.{Place}
+use Rattle.ulfm_job.specs.declared.place.Place.{Place}
 use Rattle.ulfm_judged.specs.Lists.{AreLists, IsListedAt, job_asked_at}
 use Rattle.ulfm_replies.specs.Stopped.{Asked}
 use Rattle.ulfm_list.specs.declared.listed.Listed.{Listed}

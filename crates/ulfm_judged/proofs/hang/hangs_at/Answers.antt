@@ -2,7 +2,7 @@ use Rattle.std.proofs.Common.{List, map, ap, sym, ◌∙◌}
 use Rattle.ulfm_list.specs.Listed.{step_view}
 use Rattle.ulfm_reader.proofs.Keys.{list_any-map}
 use Rattle.ulfm_replies.specs.Stopped.{asked_view}
-use Rattle.ulfm_stops.specs.declared.stop.Stop.{Stop}
+use Rattle.ulfm_job.specs.declared.stop.Stop.{Stop}
 use Rattle.std.specs.List.{list_any}
 use Rattle.ulfm_judged.specs.Hangs.{is_hang}
 use Rattle.ulfm_judged.proofs.hang.hangs_at.Goals as goal

@@ -1,6 +1,6 @@
 use Rattle.std.proofs.Common.{◌+◌, drop, get_or, subst}
 use Rattle.std.proofs.lemmas.List.{drop_all}
-use Rattle.ulfm_stops.specs.declared.place.Place.TheVariants.{Nowhere}
+use Rattle.ulfm_job.specs.declared.place.Place.TheVariants.{Nowhere}
 use Rattle.ulfm_replies.specs.Stopped.{asked_view}
 use Rattle.ulfm_judged.specs.inside.Parts.{IsListOf}
 use Rattle.ulfm_judged.proofs.Joining.{goes_on-end, goes_on-past}

@@ -1,7 +1,7 @@
 use Rattle.std.proofs.Common.{All, get_or, subst, take_all}
 use Rattle.std.proofs.lemmas.List.Elements.{All-more}
 use Rattle.std.proofs.lemmas.Option.{slice_get-get_or}
-use Rattle.ulfm_stops.specs.declared.place.Place.TheVariants.{Nowhere}
+use Rattle.ulfm_job.specs.declared.place.Place.TheVariants.{Nowhere}
 use Rattle.ulfm_judged.specs.ShowEach.{IsNowhereAt}
 use Rattle.ulfm_judged.specs.inside.Judging.{IsLookAt}
 use Rattle.ulfm_judged.proofs.show_each.first_look.Goals as goal

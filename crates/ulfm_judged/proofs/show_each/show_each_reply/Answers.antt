@@ -1,6 +1,6 @@
 use Rattle.std.proofs.Common.{subst}
 use Rattle.ulfm_replies.specs.Stopped.{IsAsked}
-use Rattle.ulfm_stops.specs.declared.place.Place.TheVariants.{Nowhere}
+use Rattle.ulfm_job.specs.declared.place.Place.TheVariants.{Nowhere}
 use Rattle.ulfm_judged.specs.ShowEach.{not_shown_at_all}
 use Rattle.ulfm_judged.proofs.show_each.show_each_reply.Goals as goal
 

@@ -2,8 +2,8 @@ use Rattle.std.proofs.Common.{List, All, ap, string_bytes, subst, sym, ◌∙◌
 use Rattle.std.proofs.lemmas.Result.{IfOk-weaker}
 use Rattle.ulfm_job.specs.declared.clause.Clause.{Clause}
 use Rattle.ulfm_reader.specs.Goals.{goals_view}
-use Rattle.ulfm_stops.specs.Place.{IsPlaceOf}
-use Rattle.ulfm_stops.specs.declared.place.Place.{Place}
+use Rattle.ulfm_job.specs.Place.{IsPlaceOf}
+use Rattle.ulfm_job.specs.declared.place.Place.{Place}
 use Rattle.ulfm_replies.specs.Stopped.{asked_view}
 use Rattle.ulfm_judged.specs.ShowEach.{no_room_to_show, unnamed_at_all}
 use Rattle.ulfm_judged.specs.inside.Judging.{IsFirstLook}

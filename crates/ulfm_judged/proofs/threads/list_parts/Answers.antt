@@ -1,5 +1,5 @@
 use Rattle.std.proofs.Common.{◌≤◌, ◌*◌, List, length, subst, arith, slice_index_or}
-use Rattle.ulfm_stops.specs.declared.place.Place.{Place}
+use Rattle.ulfm_job.specs.declared.place.Place.{Place}
 use Rattle.ulfm_replies.specs.Stopped.{asked_view}
 use Rattle.ulfm_judged.specs.inside.Parts.{IsPart}
 use Rattle.ulfm_judged.proofs.Parting.{parted, parts-enough}

@@ -2,7 +2,7 @@ use Rattle.std.proofs.Common.{◌≡◌, ℕ, Bool, true, false, List, Some, ap,
 use Rattle.std.proofs.lemmas.List.{drop_all}
 use Rattle.std.proofs.lemmas.Option.{slice_get-get_or}
 use Rattle.std.specs.List.{find}
-use Rattle.ulfm_stops.specs.Text.{is_starred, unstarred}
+use Rattle.ulfm_job.specs.Text.{is_starred, unstarred}
 use Rattle.ulfm_replies.specs.Naming.{is_labelled, stop_at}
 use Rattle.ulfm_replies.proofs.Labels.{first_here, first_on}
 use Rattle.ulfm_replies.proofs.naming.stop_by_name.Goals as goal

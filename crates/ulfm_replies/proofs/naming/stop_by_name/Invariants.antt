@@ -1,7 +1,7 @@
 use Rattle.std.proofs.Common.{◌≡◌, drop}
 use Rattle.std.specs.List.{find}
 use Rattle.ulfm_replies.specs.Naming.{is_labelled}
-use Rattle.ulfm_stops.specs.Text.{unstarred}
+use Rattle.ulfm_job.specs.Text.{unstarred}
 use Rattle.ulfm_replies.proofs.naming.stop_by_name.Given as goal
 
 abbrev pub invariant-loop-name : goal.invariant-loop-name

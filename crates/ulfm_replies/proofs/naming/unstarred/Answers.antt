@@ -1,6 +1,6 @@
 use Rattle.std.proofs.Common.{rules, ◌≡◌, length, Some, None, arith}
 use Rattle.std.proofs.lemmas.Str.Pattern.{split_once_first}
-use Rattle.ulfm_stops.proofs.Starred.{cut_last, cut_never}
+use Rattle.ulfm_job.proofs.Starred.{cut_last, cut_never}
 use Rattle.ulfm_replies.proofs.naming.unstarred.Goals as goal
 
 pub returns-then-is_empty-clause-kept : goal.returns-then-is_empty-clause-kept

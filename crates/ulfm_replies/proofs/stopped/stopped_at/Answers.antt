@@ -1,8 +1,8 @@
 use Rattle.std.proofs.Common.{ap, filter, subst, sym, ◌∙◌}
 use Rattle.std.proofs.lemmas.Result.{IfOk-weaker}
 use Rattle.ulfm_job.specs.Job.{JobView}
-use Rattle.ulfm_stops.proofs.Beside.{inside-expecting}
-use Rattle.ulfm_stops.specs.Place.{IsPlaceOf}
+use Rattle.ulfm_job.proofs.Beside.{inside-expecting}
+use Rattle.ulfm_job.specs.Place.{IsPlaceOf}
 use Rattle.ulfm_replies.specs.AskedFor.{Asked}
 use Rattle.ulfm_replies.specs.Holding.{is_expected, stops_at}
 use Rattle.ulfm_replies.specs.Stopped.{asked_view, beside_stops}

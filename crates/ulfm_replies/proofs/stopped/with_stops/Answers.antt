@@ -1,7 +1,7 @@
 use Rattle.std.proofs.Common.{ap, sym, ◌∙◌}
 use Rattle.std.proofs.lemmas.Result.{IfOk-weaker}
 use Rattle.ulfm_replies.specs.Stopped.{asked_beside, asked_view, beside_stops}
-use Rattle.ulfm_stops.specs.declared.place.Place.{Place}
+use Rattle.ulfm_job.specs.declared.place.Place.{Place}
 use Rattle.ulfm_replies.proofs.stopped.with_stops.Goals as goal
 
 pub returns-in_ok-read-in-Two : goal.returns-in_ok-read-in-Two

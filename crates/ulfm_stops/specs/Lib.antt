@@ -1,4 +1,0 @@
-pub mod Place
-pub mod Places
-pub mod Text
-pub mod inside

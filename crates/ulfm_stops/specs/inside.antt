@@ -1,2 +1,0 @@
--- What private functions and proofs cite of places.
-pub mod Digits
