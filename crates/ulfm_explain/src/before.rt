@@ -11,7 +11,7 @@ use crate::shown::Shown;
 use crate::steps::place_of;
 use std::alloc::AllocError;
 use toml::{Table, Value};
-use ulfm_expand::MOST_ROWS;
+use ulfm_reader::MOST_ROWS;
 
 /// The rows of `never` as they stand in the file, where they are read.
 fn rows_of<'a>(findings: &Findings<'_>, table: &'a Table) -> &'a [Value] {

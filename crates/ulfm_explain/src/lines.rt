@@ -4,7 +4,7 @@ use crate::keys::{list_at, list_in};
 use crate::steps::steps_of;
 use std::alloc::{AllocError, Global};
 use toml::{Table, Value};
-use ulfm_expand::{Line, Unwritten, ranks_in, rows_out, written_out};
+use ulfm_reader::{Line, Unwritten, ranks_in, rows_out, written_out};
 use ulfm_job::limits::MOST_ITEMS;
 
 /// The steps of a job, written out, and the place in the file of the step from which each comes.

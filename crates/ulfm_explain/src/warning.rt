@@ -11,7 +11,7 @@ use crate::script::kept_name;
 use crate::steps::place_of;
 use std::alloc::{AllocError, Global};
 use toml::{Table, Value};
-use ulfm_expand::ranks_in;
+use ulfm_reader::ranks_in;
 
 /// The steps of a good job that will surely be refused, up to ten, in the order of the file. Steps after a stop of their
 /// rank aren't run, so nothing is said of them. A text that is no TOML has none.

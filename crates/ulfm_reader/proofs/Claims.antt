@@ -10,10 +10,10 @@ use Rattle.std.specs.Str.{all_ascii_digits}
 use Rattle.std.specs.Str.Parse.{IsNumeral, digits_value, without_leading_plus}
 use Rattle.toml.specs.Data.{Data, as_array, as_str}
 use Rattle.toml.proofs.Views.{items_view-drop}
-use Rattle.ulfm_expand.proofs.Blocks.{items_of-view}
-use Rattle.ulfm_expand.proofs.Values.{listed-view}
-use Rattle.ulfm_expand.specs.Lines.{Line}
-use Rattle.ulfm_expand.specs.Rows.{rows_out}
+use Rattle.ulfm_reader.proofs.Blocks.{items_of-view}
+use Rattle.ulfm_reader.proofs.Values.{listed-view}
+use Rattle.ulfm_reader.specs.Lines.{Line}
+use Rattle.ulfm_reader.specs.Rows.{rows_out}
 use Rattle.ulfm_job.specs.declared.fault.Fault.{Fault}
 use Rattle.ulfm_job.specs.declared.fault.JobFault.TheVariants.{InJob}
 use Rattle.ulfm_job.specs.declared.fault.Fault.TheVariants.{BadKey, OutOfRange}

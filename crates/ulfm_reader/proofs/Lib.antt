@@ -1,3 +1,12 @@
+pub mod WrittenOut
+pub mod Values
+pub mod Behind
+pub mod Items
+pub mod Unguarded
+pub mod Iterations
+pub mod Blocks
+pub mod Beside
+pub mod Over
 pub mod Common
 pub mod Jobs
 pub mod Keys

@@ -4,7 +4,7 @@ use Rattle.std.proofs.lemmas.Bool.{false≢true, ltb-false}
 use Rattle.ulfm_reader.proofs.Common.{Draft, JobFault, nat_tests, is_utf8, parse_document, ◌>>=◌}
 use Rattle.std.proofs.lemmas.Str.{is_utf8-from_IsUtf8}
 use Rattle.toml.specs.Data.{Members, as_table}
-use Rattle.ulfm_expand.specs.Lines.{Line}
+use Rattle.ulfm_reader.specs.Lines.{Line}
 use Rattle.ulfm_job.specs.declared.fault.Fault.{Fault}
 use Rattle.ulfm_job.specs.declared.fault.JobFault.TheVariants.{NotToml, TooLarge}
 use Rattle.ulfm_reader.specs.JobText.{blank, draft_of, in_job, in_step, lines_of, step_in, steps_of, head_of, job_in, job_of_bytes, Reading, reading_of, reading_of_document, reading_of_bytes, IsNoDocument}

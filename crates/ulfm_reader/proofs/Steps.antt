@@ -1,10 +1,10 @@
 -- The steps of an array, one after the other.
 use Rattle.std.proofs.Common.{◌≡◌, ℕ, ◌+◌, ◌<◌, ◌≤◌, List, [], ◌∷◌, length, map, get_or, drop, Bool, cond, ◌&&◌, Option, Some, is_some, Result, Ok, Err, refl, sym, ap, ◌∙◌, arith}
 use Rattle.std.proofs.lemmas.List.{drop_all, drop_more}
-use Rattle.ulfm_expand.proofs.Values.{listed-view}
-use Rattle.ulfm_expand.specs.Lines.{line_view, written_out}
-use Rattle.ulfm_expand.specs.Members.{listed}
-use Rattle.ulfm_expand.specs.declared.line.Line.{Line as Kept}
+use Rattle.ulfm_reader.proofs.Values.{listed-view}
+use Rattle.ulfm_reader.specs.Lines.{line_view, written_out}
+use Rattle.ulfm_reader.specs.Members.{listed}
+use Rattle.ulfm_reader.specs.declared.line.Line.{Line as Kept}
 use Rattle.ulfm_reader.proofs.Common.{Value, view, items_view, JobFault, Draft, items_len, list_all, ◌>>=◌}
 use Rattle.toml.specs.Data.{Data, as_table, as_array}
 use Rattle.ulfm_job.specs.declared.fault.Fault.TheVariants.{BadKey}

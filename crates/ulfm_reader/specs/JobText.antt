@@ -7,8 +7,8 @@ use Rattle.ulfm_job.specs.declared.fault.Fault.{Fault}
 use Rattle.ulfm_job.specs.declared.fault.Fault.TheVariants.{BadKey}
 use Rattle.ulfm_job.specs.declared.fault.JobFault.{JobFault}
 use Rattle.ulfm_job.specs.declared.fault.JobFault.TheVariants as refused
-use Rattle.ulfm_expand.specs.Lines.{Line, written_out}
-use Rattle.ulfm_expand.specs.Members.{listed}
+use Rattle.ulfm_reader.specs.Lines.{Line, written_out}
+use Rattle.ulfm_reader.specs.Members.{listed}
 use Rattle.ulfm_reader.specs.Keys.{◌>>=◌, required_number, only_keys, in_range}
 use Rattle.ulfm_job.specs.declared.clause.Clause.{Clause}
 use Rattle.ulfm_job.specs.declared.condition.Condition.{Condition}

@@ -1,3 +1,14 @@
+pub mod Members
+pub mod Ranks
+pub mod Line
+pub mod Shared
+pub mod Iterations
+pub mod Blocks
+pub mod Together
+pub mod Guards
+pub mod Lines
+pub mod Rows
+pub mod Documents
 pub mod Plan
 pub mod Keys
 pub mod Beginnings

@@ -6,9 +6,9 @@ use Rattle.std.specs.Char.{is_ascii_digit}
 use Rattle.std.specs.Str.Parse.{digits_value}
 use Rattle.toml.specs.Data.{Data, Items, no_items, item, Members, get_member, as_array, as_str, as_table}
 use Rattle.toml.specs.View.{items_of}
-use Rattle.ulfm_expand.specs.Lines.{Line}
-use Rattle.ulfm_expand.specs.Members.{listed, text_at}
-use Rattle.ulfm_expand.specs.Rows.{rows_out}
+use Rattle.ulfm_reader.specs.Lines.{Line}
+use Rattle.ulfm_reader.specs.Members.{listed, text_at}
+use Rattle.ulfm_reader.specs.Rows.{rows_out}
 use Rattle.ulfm_job.specs.declared.clause.Clause.{Clause}
 use Rattle.ulfm_job.specs.declared.fault.Fault.{Fault}
 use Rattle.ulfm_job.specs.declared.fault.Fault.TheVariants.{BadKey, OutOfRange}

@@ -4,7 +4,7 @@
 //! public for it. The rows of `never` stand beside the job, since no rank's play depends on them: a job with a stop more needs none.
 ghost use Rattle.std.specs.Prelude.{◌≡◌, ◌≤◌, ◌<◌, ℕ, List, Err, IfOk, length, map, option_map};
 ghost use Rattle.toml.specs.View.{items_view, table_view};
-ghost use Rattle.ulfm_expand.specs.Lines.{line_view};
+ghost use Rattle.ulfm_reader.specs.Lines.{line_view};
 ghost use Rattle.ulfm_reader.specs.inside.Reading.{IsHead, draft_view, head_view};
 ghost use Rattle.ulfm_job.specs.Job.{lists_of, step_count};
 ghost use Rattle.ulfm_reader.specs.JobText.{Gives, blank, steps_of, job_of_bytes, lines_of, never_of, reading_of, reading_of_bytes, reading_view, rest_of, IsNoDocument};
@@ -18,7 +18,7 @@ use crate::proviso::{Proviso, push_provisos};
 use crate::rows::{never_out, rows_in, texts_in};
 use std::alloc::Global;
 use toml::{Table, Value};
-use ulfm_expand::{Line, Unwritten, written_out};
+use crate::{Line, Unwritten, written_out};
 use ulfm_job::limits::MOST_BYTES;
 use ulfm_job::{Clause, Job, JobFault, Text};
 

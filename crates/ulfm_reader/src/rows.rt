@@ -3,7 +3,7 @@ ghost use Rattle.std.specs.Prelude.{◌≡◌, [], IfErr, codes, is_some, map, o
 ghost use Rattle.std.specs.List.{list_all};
 ghost use Rattle.toml.specs.Data.{as_str};
 ghost use Rattle.toml.specs.View.{view, table_view, items_view};
-ghost use Rattle.ulfm_expand.specs.Lines.{line_view};
+ghost use Rattle.ulfm_reader.specs.Lines.{line_view};
 ghost use Rattle.ulfm_reader.specs.JobText.{Gives, in_job, rows_of};
 ghost use Rattle.ulfm_reader.specs.Never.{are_texts, claims_onto, has_before, is_row, is_within, never_items, never_out, row_in, rows_in, rows_onto};
 ghost use Rattle.ulfm_reader.specs.Provisos.{items_by};
@@ -15,7 +15,7 @@ use crate::fields::value_at;
 use crate::proviso::items_by;
 use std::alloc::Global;
 use toml::{Table, Value};
-use ulfm_expand::{Line, MOST_ROWS, rows_out};
+use crate::{Line, MOST_ROWS, rows_out};
 use ulfm_job::limits::{FEWEST_OF_ROW, MOST_OF_ROW};
 use ulfm_job::{Clause, Fault, JobFault, Text};
 

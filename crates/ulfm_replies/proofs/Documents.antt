@@ -8,7 +8,7 @@ use Rattle.toml.specs.Data.{Data, Members, table}
 use Rattle.toml.specs.Parse.{parse_document}
 use Rattle.toml.specs.View.{table_view, view}
 use Rattle.toml.specs.declared.value.Value.{Value, Table}
-use Rattle.ulfm_expand.specs.Documents.{written_job}
+use Rattle.ulfm_reader.specs.Documents.{written_job}
 use Rattle.ulfm_replies.specs.Expanded.{document_in}
 
 pub no_document : (bytes : List ℕ) → (IsUtf8 bytes → ⊥) → None ≡ document_in bytes

@@ -4,13 +4,13 @@ ghost use Rattle.std.specs.Option.{option_and_then};
 ghost use Rattle.toml.specs.Data.{as_table, members_depth, table as as_data};
 ghost use Rattle.toml.specs.Parse.{parse_document};
 ghost use Rattle.toml.specs.View.{table_view, view};
-ghost use Rattle.ulfm_expand.specs.Documents.{written_job};
+ghost use Rattle.ulfm_reader.specs.Documents.{written_job};
 ghost use Rattle.ulfm_replies.specs.Expanded.{IsExpandReply, IsTextOf, document_in};
 
 use crate::reply::{DONE, Reply, refusal};
 use std::alloc::{AllocError, Global};
 use toml::{Table, Value};
-use ulfm_expand::written_job;
+use ulfm_reader::written_job;
 use ulfm_job::Job;
 use ulfm_json::Form;
 use ulfm_reader::ReadJob;

@@ -1,5 +1,5 @@
 use Rattle.std.proofs.Common.{◌≡◌, drop, length, map}
-use Rattle.ulfm_expand.specs.Lines.{line_view}
+use Rattle.ulfm_reader.specs.Lines.{line_view}
 use Rattle.ulfm_reader.proofs.Common.{lists_of, step_count}
 use Rattle.ulfm_reader.specs.JobText.{blank, steps_of}
 use Rattle.ulfm_reader.specs.inside.Reading.{draft_view}

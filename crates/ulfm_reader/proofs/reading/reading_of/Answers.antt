@@ -1,8 +1,8 @@
 use Rattle.std.proofs.Common.{◌≤◌, Ok, Err, length, map, refl, ap, sym, ◌∙◌, arith}
 use Rattle.std.proofs.lemmas.List.{length-map}
 use Rattle.std.proofs.lemmas.Result.{err_from_is_err_and}
-use Rattle.ulfm_expand.proofs.Values.{listed-view}
-use Rattle.ulfm_expand.specs.Lines.{line_view, written_out}
+use Rattle.ulfm_reader.proofs.Values.{listed-view}
+use Rattle.ulfm_reader.specs.Lines.{line_view, written_out}
 use Rattle.ulfm_reader.proofs.Common.{head_view}
 use Rattle.ulfm_reader.specs.JobText.{blank, lines_of, steps_of}
 use Rattle.ulfm_reader.specs.inside.Reading.{draft_view}

@@ -1,6 +1,6 @@
 use Rattle.std.proofs.Common.{◌≡◌, Option, Vec, Global, map, option_map, subst}
-use Rattle.ulfm_expand.specs.Lines.{line_view}
-use Rattle.ulfm_expand.specs.Rows.{rows_out}
+use Rattle.ulfm_reader.specs.Lines.{line_view}
+use Rattle.ulfm_reader.specs.Rows.{rows_out}
 use Rattle.ulfm_reader.proofs.Claims.{rows_found, rows_many}
 use Rattle.ulfm_reader.proofs.Common.{Value, view}
 use Rattle.ulfm_reader.proofs.rows.never_out.Goals as goal

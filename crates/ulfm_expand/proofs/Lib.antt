@@ -1,9 +1,0 @@
-pub mod Common
-pub mod Values
-pub mod Behind
-pub mod Items
-pub mod Unguarded
-pub mod Iterations
-pub mod Blocks
-pub mod Beside
-pub mod Over

@@ -1,7 +1,0 @@
-use Rattle.std.proofs.Common.{◌≡◌, map, take}
-use Rattle.ulfm_expand.proofs.Common.{line_view, view}
-use Rattle.ulfm_expand.specs.Line.{steps_of}
-use Rattle.ulfm_expand.proofs.line.steps_of.Given as goal
-
-abbrev pub invariant-loop-line : goal.invariant-loop-line
-invariant-loop-line l = map view l.steps.items ≡ steps_of (map line_view (take l.line-index l.lines))

@@ -1,8 +1,0 @@
-use Rattle.std.proofs.Common.{ap, ◌∙◌}
-use Rattle.ulfm_expand.proofs.Common.{members_view, view}
-use Rattle.ulfm_expand.proofs.Values.{put-view}
-use Rattle.ulfm_expand.specs.Members.{put}
-use Rattle.ulfm_expand.proofs.members.put.Goals as goal
-
-pub returns : goal.returns
-returns c = ap members_view c.in_ok-insert.ensures.entries ∙ put-view c.args.table.now.entries c.in_ok-name.name c.args.value ∙ ap (λ key. put key (view c.args.value) (members_view c.args.table.now.entries)) c.in_ok-name.ensures.ok

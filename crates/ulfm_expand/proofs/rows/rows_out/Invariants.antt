@@ -1,7 +1,0 @@
-use Rattle.std.proofs.Common.{◌≡◌, map, drop}
-use Rattle.ulfm_expand.proofs.Common.{line_view, view}
-use Rattle.ulfm_expand.specs.Rows.{rows_behind, rows_out}
-use Rattle.ulfm_expand.proofs.rows.rows_out.Given as goal
-
-abbrev pub invariant-loop-value : goal.invariant-loop-value
-invariant-loop-value l = rows_behind (map line_view l.lines) l.ranks (map view l.rows.items) (map view (drop l.value-index l.values)) ≡ rows_out (map line_view l.lines) l.ranks (map view l.values)

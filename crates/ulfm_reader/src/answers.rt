@@ -1,0 +1,91 @@
+//! How the answers begin with which steps go well.
+ghost use Rattle.std.specs.Prelude.{◌≡◌, ◌∷◌, [], Some, map, codes, IfOk};
+ghost use Rattle.std.specs.List.{slice_get};
+ghost use Rattle.std.specs.Option.{option_copied};
+ghost use Rattle.toml.specs.Data.{string};
+ghost use Rattle.toml.specs.View.{view};
+ghost use Rattle.ulfm_reader.specs.Guards.{answers_of, fine_answers, good_answers, has_own};
+ghost use Rattle.ulfm_reader.specs.Line.{line_view};
+
+use crate::line::Line;
+use crate::members::text_in;
+use std::alloc::{AllocError, Global};
+use toml::Value;
+
+/// One word.
+fn one(alloc: Global, word: &str) -> Result<Vec<Value>, AllocError>
+    ensures { IfOk result (λ found. map view found.items ≡ string word.now ∷ []) }
+{
+    let mut found = Vec::new(alloc);
+    found.push(Value::String(String::from_str(alloc, word)?))?;
+    Ok(found)
+}
+
+/// The answers of a cancel that ended what it was to end.
+fn cancelled(alloc: Global) -> Result<Vec<Value>, AllocError>
+    ensures { IfOk result (λ found. map view found.items ≡ map string (codes "cancelled" ∷ codes "done" ∷ [])) }
+{
+    let mut found = one(alloc, "cancelled")?;
+    found.push(Value::String(String::from_str(alloc, "done")?))?;
+    Ok(found)
+}
+
+/// How the answers begin with which a step of this op goes well.
+fn good_answers(alloc: Global, op: &str) -> Result<Vec<Value>, AllocError>
+    ensures { IfOk result (λ found. map view found.items ≡ map string (good_answers op.now)) }
+{
+    match op {
+        "send" => one(alloc, "sent"),
+        "recv" => one(alloc, "posted"),
+        "wait" => one(alloc, "done"),
+        "probe" => one(alloc, "found"),
+        "mrecv" => one(alloc, "done"),
+        "cancel" => cancelled(alloc),
+        "failed" => one(alloc, "ranks"),
+        "ack" => one(alloc, "acked"),
+        "revoke" => one(alloc, "revoked"),
+        "dup" => one(alloc, "comm"),
+        "shrink" => one(alloc, "comm"),
+        "agree" => one(alloc, "agreed"),
+        "note" => one(alloc, "noted"),
+        _ => one(alloc, "stopped"),
+    }
+}
+
+/// The good answers of a step, if it has an op.
+fn answers_of(alloc: Global, op: Option<&str>) -> Result<Vec<Value>, AllocError>
+    ensures { IfOk result (λ found. map view found.items ≡ map string (answers_of (option_copied op.entry))) }
+{
+    match op {
+        Some(op) => good_answers(alloc, op),
+        None => Ok(Vec::new(alloc)),
+    }
+}
+
+/// Whether a step has a condition of its own.
+pub fn has_own(step: &Value) -> bool
+    ensures { result ≡ has_own (view step.now) }
+{
+    step.get("if").is_some()
+}
+
+/// The answers with which a line leads nowhere.
+fn fine_answers(alloc: Global, line: &Line) -> Result<Vec<Value>, AllocError>
+    ensures { IfOk result (λ found. map view found.items ≡ map string (fine_answers (Some (line_view line.now)))) }
+{
+    let mut found = answers_of(alloc, text_in(&line.step, "op"))?;
+    if has_own(&line.step) {
+        found.push(Value::String(String::from_str(alloc, "skipped")?))?;
+    }
+    Ok(found)
+}
+
+/// The same of the line with this number.
+pub fn fine_answers_at(alloc: Global, lines: &[Line], at: u16) -> Result<Vec<Value>, AllocError>
+    ensures { IfOk result (λ found. map view found.items ≡ map string (fine_answers (slice_get (map line_view lines.now) at))) }
+{
+    match lines.get(usize::from(at)) {
+        Some(line) => fine_answers(alloc, line),
+        None => Ok(Vec::new(alloc)),
+    }
+}
