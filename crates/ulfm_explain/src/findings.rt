@@ -7,7 +7,7 @@ use crate::marks::{Mark, marks_of};
 use crate::place::place_at;
 use crate::script::kept_name;
 use std::alloc::{AllocError, Global};
-use ulfm_findings::FirstTen;
+use crate::first_ten::FirstTen;
 
 /// What was found in a text with these steps: its first ten explanations.
 #[derive(Drop)]

@@ -43,6 +43,7 @@ mod doom;
 mod explanation;
 mod fate;
 mod findings;
+mod first_ten;
 mod goal;
 mod keys;
 mod kind;

@@ -8,7 +8,7 @@ use crate::unnamed::unnamed_line;
 use std::alloc::{AllocError, Global};
 use std::io::Write;
 use crate::{Explanation, explain, warnings};
-use ulfm_findings::write_whole;
+use ulfm_reader::write_whole;
 use ulfm_replies::{DONE, JOB_REFUSED, PAST_LIMIT, Remark, Reply, RunOptions, Wanted};
 
 /// Why no stop can be put into a good job.

@@ -2,7 +2,7 @@
 
 use std::alloc::{AllocError, Global};
 use std::io::Write;
-use ulfm_findings::write_whole;
+use ulfm_reader::write_whole;
 
 /// How far a search came.
 #[derive(Clone, Copy)]

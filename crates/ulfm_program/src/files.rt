@@ -19,7 +19,7 @@ use std::sync::Wait;
 use std::thread::Threads;
 use std::time::Clock;
 use ulfm_finder::Finder;
-use ulfm_findings::write_whole;
+use ulfm_reader::write_whole;
 use ulfm_json::{Form, Wording};
 use ulfm_replies::{Asked, DONE, INPUT_FAILED, OUTPUT_FAILED, Unfollowed, asked_for};
 

@@ -5,7 +5,7 @@ use std::fs::File;
 use std::io::Write;
 use std::rt::Files;
 use ulfm_finder::Finder;
-use ulfm_findings::{read_front, write_whole};
+use ulfm_reader::{read_front, write_whole};
 use ulfm_json::{Form, Wording};
 use ulfm_judged::Search;
 use crate::page_of;

@@ -8,7 +8,7 @@ use std::io::Write;
 use std::sync::Mutex;
 use std::sync::atomic::{AtomicUsize, Ordering};
 use std::time::{Clock, Instant};
-use ulfm_findings::write_whole;
+use ulfm_reader::write_whole;
 use ulfm_judged::Onlooker;
 use ulfm_reach::Watch;
 use ulfm_replies::{ListOptions, Place, Wanted};

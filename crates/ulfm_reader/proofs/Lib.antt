@@ -19,3 +19,4 @@ pub mod Claims
 pub mod Naming
 pub mod Drafting
 pub mod Labels
+pub mod Streams

@@ -11,7 +11,6 @@ ghost use Rattle.ulfm_reader.specs.Reacting.{reference_in, required_reference};
 
 use crate::reference::Reference;
 use toml::{Table, Value};
-use ulfm_findings::is_among;
 use ulfm_job::Fault;
 
 /// The value at a key.
@@ -91,6 +90,13 @@ fn reference_in(value: &Value) -> Result<Reference<'_>, Fault>
         Some(text) => Ok(Reference::Name(text)),
         None => Err(Fault::BadKey),
     }
+}
+
+/// Whether a key is one of these names.
+pub(crate) fn is_among(names: &[&str], key: &str) -> bool
+    ensures { result ≡ list_any (λ name. bytes_eq name.now key.now) names.now }
+{
+    names.iter().any(|name| *name == key)
 }
 
 /// Whether each key of a table is one of these names.

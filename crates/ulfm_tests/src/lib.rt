@@ -11,7 +11,7 @@
 //! - `run.rt`: jobs that threads run, a subject a file in `run/`; `run/laid.rt` is the carrier that these tests lay over another one
 //! - `reach.rt`: the search, over the two counters of `reach/counters.rt`
 //! - `stops.rt`: places as they are written, and the job at one
-//! - `streams.rt`: reading and writing whole texts, of `ulfm_findings`
+//! - `streams.rt`: reading and writing whole texts, of `ulfm_reader`
 //!
 //! Not here: what the program prints (tools/gate/replies, jobs and outcomes-check), C (tools/gate/c-tests), and wrong bodies, which stand in
 //! `wrong-bodies/` of each crate.

@@ -4,7 +4,7 @@ use std::alloc::Global;
 use std::io;
 use std::io::{ErrorKind, Read, Write};
 use std::test::Fail;
-use ulfm_findings::{InputFault, read_front, write_whole};
+use ulfm_reader::{InputFault, read_front, write_whole};
 
 /// What is read and written.
 const TEXT: &str = "0 0 send 1 tag 5 comm 0: sent\n";

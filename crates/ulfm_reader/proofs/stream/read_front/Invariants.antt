@@ -1,6 +1,6 @@
 use Rattle.std.proofs.Common.{◌≤◌, ◌-◌, vec_len}
 use Rattle.std.specs.Io.KnownBytes.{Consumes}
-use Rattle.ulfm_findings.proofs.stream.read_front.Given as goal
+use Rattle.ulfm_reader.proofs.stream.read_front.Given as goal
 
 abbrev pub decreases-loop-bytes : goal.decreases-loop-bytes
 decreases-loop-bytes g l = 1048577 - vec_len l.bytes

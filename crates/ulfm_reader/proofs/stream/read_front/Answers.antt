@@ -1,6 +1,6 @@
 use Rattle.std.proofs.Common.{arith, ◌∙◌}
-use Rattle.ulfm_findings.proofs.Written.{read_most, read_none}
-use Rattle.ulfm_findings.proofs.stream.read_front.Goals as goal
+use Rattle.ulfm_reader.proofs.Streams.{read_most, read_none}
+use Rattle.ulfm_reader.proofs.stream.read_front.Goals as goal
 
 pub returns-then-branch-eq0 : goal.returns-then-branch-eq0
 returns-then-branch-eq0 g c =
