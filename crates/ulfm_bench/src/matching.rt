@@ -7,7 +7,7 @@ use std::rt::Runtime;
 use std::time::{Clock, Instant};
 use ulfm_base::{Body, CallError, Letter};
 use ulfm_match::Matcher;
-use ulfm_plain::Plain;
+use ulfm_match::plain::Plain;
 
 /// How many letters a case has.
 const COUNTS: [u16; 3] = [100, 1_000, 10_000];

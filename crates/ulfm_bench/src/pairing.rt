@@ -4,7 +4,7 @@ ghost use Rattle.ulfm_match.specs.State.{is_cleared};
 
 use ulfm_base::{Context, Letter, Pattern};
 use ulfm_match::{Arrived, Matcher};
-use ulfm_plain::Plain;
+use ulfm_match::plain::Plain;
 
 /// What pairs letters with receives.
 pub trait Pairing: Drop {

@@ -15,6 +15,7 @@
 //! - where entries stand: `recent.rt` (the last ones), `pool.rt`, `bucket.rt`, `buckets.rt`, `key.rt`, `near.rt` (those before them)
 //! - `search.rt`, `glance.rt`: which is the least that fits; `settling.rt`, `taking.rt`, `removal.rt`: how entries come and go
 //! - `copying.rt`: all of it once more
+//! - `plain.rt`: matching by two plain lists, which promises nothing: tests and measures compare with it
 //!
 //! Not here: that a search is fast, which is measured. Nor what a receive of a failed rank is answered: `ulfm_rank` ends it.
 #![tactic(auto)]
@@ -28,6 +29,7 @@ mod key;
 mod law;
 mod matcher;
 mod near;
+pub mod plain;
 mod pool;
 mod recent;
 mod removal;

@@ -5,7 +5,7 @@
 //! a row for each case, and names it. `rt try --test` runs them all without proofs. Begin with world.
 //!
 //! - `world.rt`: events of a world one by one, in `world/`: rows of events, which decisions are adopted, and a whole recovery round by round
-//! - `matching.rt`: the matcher of `ulfm_match`; `matchers.rt`: the same calls to it and to the two plain lists of `ulfm_plain`
+//! - `matching.rt`: the matcher of `ulfm_match`; `matchers.rt`: the same calls to it and to its two plain lists
 //! - `base.rt`, `board.rt`: groups and bodies; seats of one board
 //! - `carrier.rt`: the ends of both carriers, by what `carrier/` lets ranks do with them
 //! - `run.rt`: jobs that threads run, a subject a file in `run/`; `run/laid.rt` is the carrier that these tests lay over another one

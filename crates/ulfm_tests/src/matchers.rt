@@ -11,7 +11,7 @@ use ulfm_base::{
     WorldRank,
 };
 use ulfm_match::{Arrived, Matcher};
-use ulfm_plain::Plain;
+use ulfm_match::plain::Plain;
 
 /// How many lists of calls are drawn.
 const LISTS: u32 = 1000;

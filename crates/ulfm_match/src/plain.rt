@@ -1,4 +1,4 @@
-//! Matching by two plain lists: what the matcher of `ulfm_match` is compared with, by its answers and by its time.
+//! Matching by two plain lists: what the matcher is compared with, by its answers and by its time.
 //!
 //! A [`Plain`] has the calls of a `Matcher`. It searches the receives that wait, and the letters that it keeps, from the front:
 //!
@@ -6,8 +6,6 @@
 //!     let receive = plain.arrive(letter)?;
 //!
 //! `ulfm_tests` makes the same calls to both, and `ulfm_bench` takes the time of both. Nothing else stands on it, and it promises nothing.
-#![tactic(auto)]
-
 ghost use Rattle.std.specs.Prelude.{◌<◌, length, IfSome};
 
 use std::alloc::Global;
