@@ -1,7 +1,7 @@
 //! Who finds outcomes.
 //!
 //! A schedule comes from it as a value, so that no function above lets go of a world, which is dear to prove. The definitions of events stand in
-//! `ulfm_late` and those of keys in `ulfm_late`, so that what is replied needs neither `ulfm_outcomes` nor `ulfm_outcomes`.
+//! `ulfm_reduction` and those of keys in `ulfm_reduction`, so that what is replied needs neither `ulfm_outcomes` nor `ulfm_outcomes`.
 ghost use Rattle.std.specs.Prelude.{IfOk};
 ghost use Rattle.ulfm_finder.specs.Outcomes.{IsList};
 ghost use Rattle.ulfm_finder.specs.Told.{IsLook};
