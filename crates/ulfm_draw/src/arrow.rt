@@ -1,6 +1,6 @@
 //! Items on their way.
 
-use ulfm_moves::Cargo;
+use ulfm_schedule::Cargo;
 
 /// An item between two ranks.
 #[derive(Clone, Copy, Debug)]

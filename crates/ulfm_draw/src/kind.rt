@@ -1,6 +1,6 @@
 //! Items by what they are.
 
-use ulfm_moves::Cargo;
+use ulfm_schedule::Cargo;
 
 /// What an item is.
 #[derive(Clone, Copy, Debug, PartialEq, Eq)]

@@ -12,7 +12,7 @@ use Rattle.ulfm_json.specs.declared.form.Form.{Form}
 use Rattle.ulfm_json.specs.declared.style.Style.{Style}
 use Rattle.ulfm_list.specs.Told.{told_in}
 use Rattle.ulfm_list.specs.declared.told.Told.TheVariants as told
-use Rattle.ulfm_moves.specs.declared.schedule.Schedule.{Schedule}
+use Rattle.ulfm_schedule.specs.declared.schedule.Schedule.{Schedule}
 use Rattle.ulfm_replies.specs.Stopped.{Asked}
 use Rattle.ulfm_replies.specs.declared.command.ListOptions.{ListOptions}
 use Rattle.ulfm_job.specs.declared.place.Place.{Place}

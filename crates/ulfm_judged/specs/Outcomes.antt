@@ -16,7 +16,7 @@ use Rattle.ulfm_list.specs.Objects.{more_in}
 use Rattle.ulfm_list.specs.declared.judgement.Judgement.{Judgement}
 use Rattle.ulfm_list.specs.Told.{told_in}
 use Rattle.ulfm_list.specs.declared.told.Told.TheVariants as told
-use Rattle.ulfm_moves.specs.declared.schedule.Schedule.{Schedule}
+use Rattle.ulfm_schedule.specs.declared.schedule.Schedule.{Schedule}
 use Rattle.ulfm_replies.specs.Failure.{out_of_memory_in}
 use Rattle.ulfm_replies.specs.Stopped.{Asked, IsAskedAt, IsRefusal, reading_as}
 use Rattle.ulfm_replies.specs.declared.command.ListOptions.{ListOptions}

@@ -21,7 +21,7 @@ use Rattle.ulfm_judged.specs.Outcomes.{goals_asked, no_goal, nowhere_in}
 use Rattle.ulfm_list.specs.Told.{told_in}
 use Rattle.ulfm_list.specs.declared.told.Told.{Told}
 use Rattle.ulfm_list.specs.declared.told.Told.TheVariants as told
-use Rattle.ulfm_moves.specs.declared.schedule.Schedule.{Schedule}
+use Rattle.ulfm_schedule.specs.declared.schedule.Schedule.{Schedule}
 
 -- clauses of the file's steps, by the numbers that these have beside a stop
 abbrev pub beside : JobView → Stop → List Clause → List Clause

@@ -20,7 +20,7 @@ use Rattle.ulfm_list.specs.Numbers.{filed_number}
 use Rattle.ulfm_list.specs.Told.{row_in, unmet_in}
 use Rattle.ulfm_list.specs.declared.told.Told.{Told}
 use Rattle.ulfm_list.specs.declared.told.Told.TheVariants as told
-use Rattle.ulfm_moves.specs.declared.schedule.Schedule.{Schedule}
+use Rattle.ulfm_schedule.specs.declared.schedule.Schedule.{Schedule}
 use Rattle.ulfm_replies.specs.Asking.{is_looked_at}
 use Rattle.ulfm_replies.specs.Stopped.{Asked}
 use Rattle.ulfm_replies.specs.declared.command.ListOptions.{ListOptions}

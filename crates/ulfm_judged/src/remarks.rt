@@ -5,7 +5,7 @@ use ulfm_answer::{StepAnswer, StepReport, ToldAnswer, holds_of};
 use ulfm_list::code_at;
 use ulfm_job::{Clause, Job};
 use ulfm_list::Told;
-use ulfm_moves::{Course, Schedule};
+use ulfm_schedule::{Course, Schedule};
 use ulfm_reach::Rows;
 use ulfm_reader::Reading;
 use ulfm_replies::{Remark, StepTold, is_looked_at, push_unmet_answers};

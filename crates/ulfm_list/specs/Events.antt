@@ -7,11 +7,11 @@ use Rattle.ulfm_base.specs.declared.tag.Tag.{Tag}
 use Rattle.ulfm_job.specs.Job.{JobView, script_at}
 use Rattle.ulfm_json.specs.Call.{comm_json}
 use Rattle.ulfm_json.specs.Trace.{answered_json, head_json}
-use Rattle.ulfm_moves.specs.declared.cargo.Cargo.{Cargo}
-use Rattle.ulfm_moves.specs.declared.cargo.Cargo.TheVariants.{Message, Notice, Revocation, Shrink, Agreement}
-use Rattle.ulfm_moves.specs.declared.moved.Deed.{Deed}
-use Rattle.ulfm_moves.specs.declared.moved.Deed.TheVariants.{Left, Took, Opened, Answered}
-use Rattle.ulfm_moves.specs.declared.moved.Move.{Move}
+use Rattle.ulfm_schedule.specs.declared.cargo.Cargo.{Cargo}
+use Rattle.ulfm_schedule.specs.declared.cargo.Cargo.TheVariants.{Message, Notice, Revocation, Shrink, Agreement}
+use Rattle.ulfm_schedule.specs.declared.moved.Deed.{Deed}
+use Rattle.ulfm_schedule.specs.declared.moved.Deed.TheVariants.{Left, Took, Opened, Answered}
+use Rattle.ulfm_schedule.specs.declared.moved.Move.{Move}
 use Rattle.ulfm_reader.specs.declared.name.Name.{Name}
 
 -- a message

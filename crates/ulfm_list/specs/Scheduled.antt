@@ -10,12 +10,12 @@ use Rattle.ulfm_job.specs.Job.{JobView, script_at}
 use Rattle.ulfm_job.specs.declared.step.Step.{Step}
 use Rattle.ulfm_json.specs.Parts.{objects_json}
 use Rattle.ulfm_json.specs.Trace.{answered_json, ended_json}
-use Rattle.ulfm_moves.specs.declared.course.Course.{Course}
-use Rattle.ulfm_moves.specs.declared.course.End.{End}
-use Rattle.ulfm_moves.specs.declared.course.End.TheVariants.{Done, Stopped, Unreached}
-use Rattle.ulfm_moves.specs.declared.schedule.Schedule.{Schedule}
+use Rattle.ulfm_schedule.specs.declared.course.Course.{Course}
+use Rattle.ulfm_schedule.specs.declared.course.End.{End}
+use Rattle.ulfm_schedule.specs.declared.course.End.TheVariants.{Done, Stopped, Unreached}
+use Rattle.ulfm_schedule.specs.declared.schedule.Schedule.{Schedule}
 use Rattle.ulfm_reader.specs.declared.name.Name.{Name}
-use Rattle.ulfm_moves.specs.declared.wait.Wait.{Wait}
+use Rattle.ulfm_schedule.specs.declared.wait.Wait.{Wait}
 use Rattle.ulfm_list.specs.Events.{move_json}
 use Rattle.ulfm_list.specs.Waits.{wait_json}
 

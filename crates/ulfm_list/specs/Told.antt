@@ -6,7 +6,7 @@ use Rattle.ulfm_job.specs.Job.{JobView}
 use Rattle.ulfm_json.specs.declared.form.Form.{Form}
 use Rattle.ulfm_json.specs.declared.form.Form.TheVariants.{Words, Json}
 use Rattle.ulfm_json.specs.declared.wording.Wording.{Wording}
-use Rattle.ulfm_moves.specs.declared.schedule.Schedule.{Schedule as Scheduled}
+use Rattle.ulfm_schedule.specs.declared.schedule.Schedule.{Schedule as Scheduled}
 use Rattle.ulfm_reader.specs.declared.name.Name.{Name}
 use Rattle.ulfm_job.specs.Text.{place_text}
 use Rattle.ulfm_job.specs.declared.place.Place.{Place}

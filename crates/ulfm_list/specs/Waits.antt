@@ -8,12 +8,12 @@ use Rattle.ulfm_job.specs.Job.{JobView, script_at}
 use Rattle.ulfm_json.specs.Call.{comm_json, tag_json}
 use Rattle.ulfm_json.specs.Trace.{answered_json, head_json}
 use Rattle.ulfm_reader.specs.declared.name.Name.{Name}
-use Rattle.ulfm_moves.specs.declared.bearer.Bearer.{Bearer}
-use Rattle.ulfm_moves.specs.declared.bearer.Fate.{Fate}
-use Rattle.ulfm_moves.specs.declared.bearer.Fate.TheVariants.{Answered, Open, Unreached}
-use Rattle.ulfm_moves.specs.declared.need.Need.{Need}
-use Rattle.ulfm_moves.specs.declared.need.Need.TheVariants.{Message, Shrink, Agreement}
-use Rattle.ulfm_moves.specs.declared.wait.Wait.{Wait}
+use Rattle.ulfm_schedule.specs.declared.bearer.Bearer.{Bearer}
+use Rattle.ulfm_schedule.specs.declared.bearer.Fate.{Fate}
+use Rattle.ulfm_schedule.specs.declared.bearer.Fate.TheVariants.{Answered, Open, Unreached}
+use Rattle.ulfm_schedule.specs.declared.need.Need.{Need}
+use Rattle.ulfm_schedule.specs.declared.need.Need.TheVariants.{Message, Shrink, Agreement}
+use Rattle.ulfm_schedule.specs.declared.wait.Wait.{Wait}
 
 -- a message of the rank s
 abbrev pub letter_from_json : ℕ → Option Tag → Context → List ℕ

@@ -10,12 +10,12 @@ use Rattle.ulfm_json.specs.Worded.{answer_in}
 use Rattle.ulfm_json.specs.WordedTrace.{call_at, line_in, lines_in}
 use Rattle.ulfm_json.specs.declared.wording.Wording.{Wording}
 use Rattle.ulfm_json.specs.declared.wording.Wording.TheVariants.{Plain, Mpi}
-use Rattle.ulfm_moves.specs.Words.{end_text, open_text, passed_text, schedule_text}
-use Rattle.ulfm_moves.specs.declared.course.Course.{Course}
-use Rattle.ulfm_moves.specs.declared.moved.Deed.{Deed}
-use Rattle.ulfm_moves.specs.declared.moved.Deed.TheVariants.{Left, Took, Opened, Answered}
-use Rattle.ulfm_moves.specs.declared.moved.Move.{Move}
-use Rattle.ulfm_moves.specs.declared.schedule.Schedule.{Schedule}
+use Rattle.ulfm_schedule.specs.Words.{end_text, open_text, passed_text, schedule_text}
+use Rattle.ulfm_schedule.specs.declared.course.Course.{Course}
+use Rattle.ulfm_schedule.specs.declared.moved.Deed.{Deed}
+use Rattle.ulfm_schedule.specs.declared.moved.Deed.TheVariants.{Left, Took, Opened, Answered}
+use Rattle.ulfm_schedule.specs.declared.moved.Move.{Move}
+use Rattle.ulfm_schedule.specs.declared.schedule.Schedule.{Schedule}
 
 -- the step k of the rank r of a job, by its place
 abbrev pub placed_call : Wording → JobView → ℕ → ℕ → List ℕ

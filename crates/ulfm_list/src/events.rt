@@ -8,7 +8,7 @@ use std::alloc::{AllocError, Global};
 use ulfm_answer::StepAnswer;
 use ulfm_base::{Context, Tag};
 use ulfm_json::{push_answered, push_comm, push_head};
-use ulfm_moves::{Cargo, Deed, Move};
+use ulfm_schedule::{Cargo, Deed, Move};
 use ulfm_reader::Reading;
 
 /// Puts a message.

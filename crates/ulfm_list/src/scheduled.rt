@@ -12,9 +12,9 @@ use std::alloc::{AllocError, Global};
 use ulfm_answer::{StepAnswer, StepReport};
 use ulfm_job::NotedStep;
 use ulfm_json::{push_ended, push_objects};
-use ulfm_moves::{Course, End, Move, Schedule};
+use ulfm_schedule::{Course, End, Move, Schedule};
 use ulfm_reader::Reading;
-use ulfm_moves::Wait;
+use ulfm_schedule::Wait;
 
 /// The objects of moves.
 fn moves_of(alloc: Global, asked: &Reading, moves: &[Move]) -> Result<Vec<String>, AllocError>

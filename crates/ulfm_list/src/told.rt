@@ -8,7 +8,7 @@ use crate::worded_places::push_schedule_in;
 use std::alloc::AllocError;
 use crate::Unmet;
 use ulfm_json::{Form, Wording};
-use ulfm_moves::Schedule;
+use ulfm_schedule::Schedule;
 use ulfm_reader::Reading;
 use ulfm_job::Place;
 

@@ -8,7 +8,7 @@ use ulfm_answer::StepAnswer;
 use ulfm_base::{Context, Tag};
 use ulfm_json::{push_comm, push_tag};
 use ulfm_reader::Reading;
-use ulfm_moves::{Bearer, Fate, Need, Wait};
+use ulfm_schedule::{Bearer, Fate, Need, Wait};
 
 /// Puts a message of the rank `s`.
 fn push_letter_from(

@@ -2,15 +2,15 @@
 ghost use Rattle.std.specs.Prelude.{◌≡◌, ◌++◌, OnOk, codes, string_bytes};
 ghost use Rattle.std.specs.List.{flat_map};
 ghost use Rattle.ulfm_list.specs.Worded.{answered_in, course_in, deed_in, move_in, left_in, mpi_schedule, placed_call, schedule_in};
-ghost use Rattle.ulfm_moves.specs.Words.{end_text, open_text, passed_text};
-ghost use Rattle.ulfm_moves.specs.Values.{wait_text};
+ghost use Rattle.ulfm_schedule.specs.Words.{end_text, open_text, passed_text};
+ghost use Rattle.ulfm_schedule.specs.Values.{wait_text};
 
 use std::alloc::AllocError;
 use ulfm_answer::{StepAnswer, push_closing};
 use ulfm_job::{Job, NotedStep};
 use ulfm_json::{Wording, push_answer_in, push_call_at, push_line_in, push_lines_in};
-use ulfm_moves::{Cargo, Course, Deed, End, Move, Schedule, push_cargo, push_schedule};
-use ulfm_moves::{Wait, push_wait};
+use ulfm_schedule::{Cargo, Course, Deed, End, Move, Schedule, push_cargo, push_schedule};
+use ulfm_schedule::{Wait, push_wait};
 
 /// Puts the step `k` of the rank `r` of a job, by its place.
 fn push_placed(

@@ -4,8 +4,8 @@ use Rattle.std.proofs.lemmas.Option.{none-some, same_Some}
 use Rattle.std.specs.Prelude.{codes}
 use Rattle.std.specs.Fmt.{decimal}
 use Rattle.ulfm_base.specs.declared.item.Item.{Item}
-use Rattle.ulfm_moves.specs.Words.{cargo_text, item_text}
-use Rattle.ulfm_moves.specs.declared.cargo.Cargo.{Cargo}
+use Rattle.ulfm_schedule.specs.Words.{cargo_text, item_text}
+use Rattle.ulfm_schedule.specs.declared.cargo.Cargo.{Cargo}
 use Rattle.ulfm_replay.specs.Lines.{moved_line}
 use Rattle.ulfm_replay.specs.Moves.{Brings}
 

@@ -1,9 +1,9 @@
 -- What moves say in words that may not be there.
 use Rattle.std.specs.Prelude.{◌≡◌, ℕ, List, [], Option, Some, None, option_map}
 use Rattle.ulfm_base.specs.declared.item.Item.{Item}
-use Rattle.ulfm_moves.specs.Words.{cargo_text, deed_text, item_text}
-use Rattle.ulfm_moves.specs.declared.cargo.Cargo.{Cargo}
-use Rattle.ulfm_moves.specs.declared.moved.Deed.{Deed}
+use Rattle.ulfm_schedule.specs.Words.{cargo_text, deed_text, item_text}
+use Rattle.ulfm_schedule.specs.declared.cargo.Cargo.{Cargo}
+use Rattle.ulfm_schedule.specs.declared.moved.Deed.{Deed}
 
 -- the line of what a rank does, if it does something
 abbrev pub moved_text : Option (ℕ × Deed) → List ℕ

@@ -10,7 +10,7 @@
 //! - `recorder.rt`: [`Recorder`], which keeps the moves; `lines.rt`: the move of an event
 //! - `ranks.rt`: [`courses_of`], what came of ranks; `waits.rt`: [`waits_of`], what open steps wait for
 //!
-//! Not here: the types of a schedule, and its text (`ulfm_moves`). No contract says which message a move has.
+//! Not here: the types of a schedule, and its text (`ulfm_schedule`). No contract says which message a move has.
 //!
 //! The replay of a job, round by round, and that of the job with one more stop, at each place in turn.
 //!

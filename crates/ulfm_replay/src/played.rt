@@ -1,6 +1,6 @@
 //! What comes of a replay.
 
-use ulfm_moves::Move;
+use ulfm_schedule::Move;
 use ulfm_script::RankReport;
 
 /// What came of a replay.

@@ -1,6 +1,6 @@
 //! What happens to a world, kept as moves.
 ghost use Rattle.std.specs.Prelude.{◌≡◌, ◌++◌, [], IfOk, OnOk};
-ghost use Rattle.ulfm_moves.specs.Words.{moves_text};
+ghost use Rattle.ulfm_schedule.specs.Words.{moves_text};
 ghost use Rattle.ulfm_replay.specs.Lines.{move_line};
 ghost use Rattle.ulfm_replay.specs.Moves.{moved_text};
 ghost use Rattle.ulfm_replay.specs.Turns.{turned_text, turning_of};
@@ -8,7 +8,7 @@ ghost use Rattle.ulfm_replay.specs.Turns.{turned_text, turning_of};
 use crate::lines::{moved, turned, turning};
 use std::alloc::{AllocError, Global};
 use ulfm_base::OutOfMemory;
-use ulfm_moves::{Before, Deed, Move, Numbers};
+use ulfm_schedule::{Before, Deed, Move, Numbers};
 use ulfm_world::{Event, World};
 
 /// An event that is about to happen.

@@ -4,7 +4,7 @@ ghost use Rattle.ulfm_world.specs.Flow.{IsWorld};
 ghost use Rattle.ulfm_world.specs.Safe.{KeepsDecisions};
 ghost use Rattle.ulfm_world.specs.World.{Happens, IsRefused, outcome_of};
 
-use ulfm_moves::Move;
+use ulfm_schedule::Move;
 use crate::{Recorder, Underway};
 use ulfm_world::{Event, Outcome, Refused, World};
 

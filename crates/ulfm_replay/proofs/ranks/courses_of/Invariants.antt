@@ -1,5 +1,5 @@
 use Rattle.std.proofs.Common.{◌≡◌, ◌++◌, flat_map, drop}
-use Rattle.ulfm_moves.specs.Words.{course_text}
+use Rattle.ulfm_schedule.specs.Words.{course_text}
 use Rattle.ulfm_replay.specs.Ranks.{players_trace}
 use Rattle.ulfm_replay.proofs.ranks.courses_of.Given as goal
 

@@ -1,6 +1,0 @@
-use Rattle.std.proofs.Common.{◌≡◌, ◌++◌, flat_map, string_bytes, take}
-use Rattle.ulfm_moves.specs.Values.{wait_text}
-use Rattle.ulfm_moves.proofs.schedule.push_lines.Given as goal
-
-abbrev pub invariant-loop-wait : goal.invariant-loop-wait
-invariant-loop-wait l = string_bytes l.text ≡ string_bytes l.initial.text ++ flat_map wait_text (take l.wait-index l.waits)

@@ -1,0 +1,61 @@
+//! What came of a rank.
+ghost use Rattle.std.specs.Prelude.{◌≡◌, ◌++◌, OnOk, string_bytes};
+ghost use Rattle.ulfm_schedule.specs.Words.{course_text, end_text, open_line};
+
+use std::alloc::AllocError;
+use ulfm_answer::{StepReport, push_steps};
+use ulfm_job::NotedStep;
+
+/// How a rank ended.
+#[derive(Clone, Copy, Debug, PartialEq, Eq)]
+pub enum End {
+    /// It came to the end of its script.
+    Done,
+    /// It stopped.
+    Stopped,
+    /// It has steps left.
+    Unreached,
+}
+
+/// What came of a rank: its answered steps, the one that stands open, and its end.
+#[derive(Drop)]
+pub struct Course {
+    /// Its number.
+    pub rank: u8,
+    /// The steps that have an answer, from the first on.
+    pub steps: Vec<StepReport>,
+    /// The one behind them, if it stands open.
+    pub open: Option<NotedStep>,
+    /// How the rank ended.
+    pub end: End,
+}
+
+/// Puts the line of a step that stands open, as of one that is given up.
+fn push_open(text: &mut String, r: u8, k: usize, open: &Option<NotedStep>) -> Result<(), AllocError>
+    ensures { OnOk result (string_bytes text.new ≡ string_bytes text.old ++ open_line r k open.now) }
+{
+    match open {
+        Some(step) => write!(text, "{r} {k} {step}: unfinished\n"),
+        None => Ok(()),
+    }
+}
+
+/// Puts the line of how a rank ended.
+fn push_end(text: &mut String, r: u8, end: End) -> Result<(), AllocError>
+    ensures { OnOk result (string_bytes text.new ≡ string_bytes text.old ++ end_text r end) }
+{
+    match end {
+        End::Done => write!(text, "{r} end: done\n"),
+        End::Stopped => write!(text, "{r} end: stopped\n"),
+        End::Unreached => write!(text, "{r} end: not reached\n"),
+    }
+}
+
+/// Puts the lines of a rank.
+pub(crate) fn push_course(text: &mut String, course: &Course) -> Result<(), AllocError>
+    ensures { OnOk result (string_bytes text.new ≡ string_bytes text.old ++ course_text course.now) }
+{
+    push_steps(text, course.rank, course.steps.as_slice())?;
+    push_open(text, course.rank, course.steps.len(), &course.open)?;
+    push_end(text, course.rank, course.end)
+}

@@ -1,0 +1,62 @@
+//! What a step waits for, as a value.
+ghost use Rattle.std.specs.Prelude.{◌≡◌, ◌++◌, IfOk, codes};
+ghost use Rattle.ulfm_schedule.specs.Waits.{wait_words};
+ghost use Rattle.ulfm_schedule.specs.Values.{wait_text};
+
+use crate::bearer::{Bearer, bearer_of};
+use crate::need::Need;
+use crate::remark::Remark;
+use std::alloc::AllocError;
+use ulfm_answer::StepReport;
+use ulfm_job::Step;
+
+/// What a step of a rank waits for.
+#[derive(Drop)]
+pub struct Wait {
+    /// The rank that waits.
+    pub rank: u8,
+    /// Its step, from 0.
+    pub step: usize,
+    /// What it waits for.
+    pub need: Need,
+    /// The rank that would have to bring it.
+    pub on: u8,
+    /// The step of that rank that would bring it, if one would.
+    pub bearer: Option<Bearer>,
+    /// Why it came too late, where it did.
+    pub remark: Option<Remark>,
+}
+
+impl Wait {
+    /// What the rank `r` waits for by its step `k`, which needs this, of the rank `s`, and which step of `s` would bring it, if one would: its
+    /// answer is among those of `s`, else it is the one that stands open there, or isn't reached.
+    ///
+    /// # Errors
+    ///
+    /// `AllocError` where a growth was refused, or `need` is no step that waits for something.
+    #[tactic(auto, using(crate::proofs::Waiting::wait_is))]
+    pub fn of(
+        r: u8,
+        k: usize,
+        need: &Step,
+        s: u8,
+        done: &[StepReport],
+        is_open: bool,
+        script: &[Step],
+        due: Option<usize>,
+    ) -> Result<Wait, AllocError>
+        ensures { IfOk result (λ wait. wait_text wait ≡ wait_words r k need.now s done.now is_open script.now due ++ codes "\n") }
+    {
+        let Some(need) = Need::of(need) else {
+            return Err(AllocError);
+        };
+        Ok(Wait {
+            rank: r,
+            step: k,
+            need,
+            on: s,
+            bearer: bearer_of(s, done, is_open, script, due)?,
+            remark: None,
+        })
+    }
+}
