@@ -12,7 +12,7 @@ use Rattle.ulfm_json.specs.declared.form.Form.{Form}
 use Rattle.ulfm_replies.specs.Stopped.{Asked, IsAskedAt}
 use Rattle.ulfm_replies.specs.declared.command.ListOptions.{ListOptions}
 use Rattle.ulfm_list.specs.Goals.{AreOfClauses}
-use Rattle.ulfm_finder.specs.Told.{IsLook}
+use Rattle.ulfm_outcomes_spec.specs.Told.{IsLook}
 use Rattle.ulfm_list.specs.declared.goals.Goals.{Goals}
 use Rattle.ulfm_judged.specs.Outcomes.{IsShowReply, goals_asked, nowhere, shown, too_many}
 use Rattle.ulfm_judged.specs.Wanted.{NeverComes, NoneComes}

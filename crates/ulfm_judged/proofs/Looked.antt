@@ -6,7 +6,7 @@ use Rattle.ulfm_list.specs.Goals.{AreOfClauses}
 use Rattle.ulfm_list.specs.declared.goals.Goals.{Goals}
 use Rattle.ulfm_replies.specs.Asking.{is_looked_at}
 use Rattle.ulfm_list.specs.declared.told.Told.{Told}
-use Rattle.ulfm_finder.specs.Told.{IsLook}
+use Rattle.ulfm_outcomes_spec.specs.Told.{IsLook}
 use Rattle.ulfm_judged.specs.inside.Looking.{IsLookForRow}
 
 -- what came of a search for the answers of a row that is looked at

@@ -5,9 +5,9 @@ use Rattle.std.proofs.lemmas.List.Elements.{All-more}
 use Rattle.std.proofs.lemmas.Option.{none-some, slice_get-get_or}
 use Rattle.std.specs.Prelude.{All}
 use Rattle.std.specs.Option.{option_or}
-use Rattle.ulfm_finder.proofs.Judging.{left_judged}
-use Rattle.ulfm_finder.specs.Told.{IsTold}
-use Rattle.ulfm_finder.specs.Unmet.{Judges}
+use Rattle.ulfm_outcomes_spec.proofs.Judging.{left_judged}
+use Rattle.ulfm_outcomes_spec.specs.Told.{IsTold}
+use Rattle.ulfm_outcomes_spec.specs.Unmet.{Judges}
 use Rattle.ulfm_list.specs.Listed.{StepView, all_steps, step_view}
 use Rattle.ulfm_list.specs.declared.job_step.JobStep.{JobStep}
 use Rattle.ulfm_list.specs.Text.{never_ends}

@@ -1,7 +1,7 @@
 -- The picture of a step that never ends.
 use Rattle.std.specs.Prelude.{◌≡◌, ℕ, nat_lt, ◌&&◌, true, List, [], ◌∷◌, Option, Some, None, if◌then◌else◌}
 use Rattle.std.specs.Option.{option_or}
-use Rattle.ulfm_finder.specs.Told.{IsTold}
+use Rattle.ulfm_outcomes_spec.specs.Told.{IsTold}
 use Rattle.ulfm_list.specs.Listed.{StepView, all_steps}
 use Rattle.ulfm_list.specs.Text.{never_ends}
 use Rattle.ulfm_list.specs.Unmet.{IsUnmet}

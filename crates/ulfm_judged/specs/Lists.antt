@@ -1,7 +1,7 @@
 -- The lists of all outcomes of what was asked for, at each of some places.
 use Rattle.std.specs.Prelude.{◌≡◌, ℕ, ⊤, List, [], ◌∷◌, Option, Some, None, length}
 use Rattle.ulfm_job.specs.Job.{JobView}
-use Rattle.ulfm_finder.specs.Outcomes.{IsList}
+use Rattle.ulfm_outcomes_spec.specs.Outcomes.{IsList}
 use Rattle.ulfm_reach.specs.declared.reach.Reach.TheVariants.{All, More}
 use Rattle.ulfm_reach.specs.declared.reached.Reached.{Reached}
 use Rattle.ulfm_job.specs.declared.place.Place.{Place}

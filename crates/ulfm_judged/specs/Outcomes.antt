@@ -4,10 +4,10 @@ use Rattle.ulfm_job.specs.declared.clause.Clause.{Clause}
 use Rattle.ulfm_reader.specs.Goals.{goals_of}
 use Rattle.ulfm_reach.specs.declared.reach.Reach.TheVariants.{All, More}
 use Rattle.ulfm_reach.specs.declared.reached.Reached.{Reached}
-use Rattle.ulfm_finder.specs.Goals.{IsPossible}
+use Rattle.ulfm_outcomes_spec.specs.Goals.{IsPossible}
 use Rattle.ulfm_list.specs.Goals.{AreOfClauses}
-use Rattle.ulfm_finder.specs.Outcomes.{IsList}
-use Rattle.ulfm_finder.specs.Told.{IsTold}
+use Rattle.ulfm_outcomes_spec.specs.Outcomes.{IsList}
+use Rattle.ulfm_outcomes_spec.specs.Told.{IsTold}
 use Rattle.ulfm_list.specs.Text.{some_never_ends}
 use Rattle.ulfm_list.specs.declared.goals.Goals.{Goals}
 use Rattle.ulfm_json.specs.declared.form.Form.{Form}

@@ -8,8 +8,8 @@ use Rattle.ulfm_job.specs.Places.{places_of}
 use Rattle.ulfm_job.specs.declared.place.Place.{Place}
 use Rattle.ulfm_job.specs.declared.place.Place.TheVariants.{Nowhere, One, Two}
 use Rattle.ulfm_job.specs.declared.stop.Stop.{Stop}
-use Rattle.ulfm_finder.specs.Goals.{IsPossible}
-use Rattle.ulfm_finder.specs.Told.{IsTold}
+use Rattle.ulfm_outcomes_spec.specs.Goals.{IsPossible}
+use Rattle.ulfm_outcomes_spec.specs.Told.{IsTold}
 use Rattle.ulfm_list.specs.Goals.{AreOfClauses}
 use Rattle.ulfm_list.specs.declared.goals.Goals.{Goals}
 use Rattle.ulfm_json.specs.declared.form.Form.{Form}

@@ -4,10 +4,10 @@ use Rattle.ulfm_job.specs.declared.clause.Clause.{Clause}
 use Rattle.ulfm_job.specs.Job.{JobView}
 use Rattle.ulfm_reach.specs.declared.reach.Reach.TheVariants.{All}
 use Rattle.ulfm_job.specs.declared.place.Place.{Place}
-use Rattle.ulfm_finder.specs.Goals.{IsPossible}
-use Rattle.ulfm_finder.specs.Outcomes.{IsList}
-use Rattle.ulfm_finder.specs.Told.{IsTold}
-use Rattle.ulfm_finder.specs.Unmet.{MeetsExpected}
+use Rattle.ulfm_outcomes_spec.specs.Goals.{IsPossible}
+use Rattle.ulfm_outcomes_spec.specs.Outcomes.{IsList}
+use Rattle.ulfm_outcomes_spec.specs.Told.{IsTold}
+use Rattle.ulfm_outcomes_spec.specs.Unmet.{MeetsExpected}
 use Rattle.ulfm_list.specs.Goals.{AreOfClauses}
 use Rattle.ulfm_list.specs.Judgement.{unmet_judgement}
 use Rattle.ulfm_list.specs.Unmet.{IsUnmet, first_unmet}

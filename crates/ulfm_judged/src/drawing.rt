@@ -1,6 +1,6 @@
 //! The step that `--draw` draws where no answers are to be shown: the first one that never ends.
 ghost use Rattle.std.specs.Prelude.{◌≡◌, Some, IfOk, map, string_bytes};
-ghost use Rattle.ulfm_finder.specs.Unmet.{Judges};
+ghost use Rattle.ulfm_outcomes_spec.specs.Unmet.{Judges};
 ghost use Rattle.ulfm_list.specs.Listed.{step_view};
 ghost use Rattle.ulfm_replies.specs.Stopped.{asked_at, asked_view};
 ghost use Rattle.ulfm_judged.specs.Drawn.{IsDrawn, first_left, left_drawn, left_of};
@@ -13,7 +13,7 @@ use crate::search::Search;
 use crate::shown::told_reply;
 use crate::unwanted::told_of;
 use std::alloc::AllocError;
-use ulfm_finder::Finder;
+use ulfm_outcomes_spec::Finder;
 use ulfm_list::{JobStep, Unmet, is_stuck, steps_of};
 use ulfm_list::Listed;
 use ulfm_reach::{Rows, Watch};

@@ -23,7 +23,7 @@ use crate::verdicts::lists_remarks;
 use std::alloc::AllocError;
 use std::thread;
 use std::thread::Threads;
-use ulfm_finder::Finder;
+use ulfm_outcomes_spec::Finder;
 use ulfm_list::Judgement;
 use ulfm_job::{JobFault, MOST_STEPS};
 use ulfm_list::{lists_of, push_more_at, some_never_ends};

@@ -2,7 +2,7 @@
 
 use crate::search::Search;
 use std::alloc::{AllocError, Global};
-use ulfm_finder::Finder;
+use ulfm_outcomes_spec::Finder;
 use ulfm_list::{Goals, OpenStep};
 use ulfm_job::Job;
 use ulfm_list::{Told, push_schedule_in};

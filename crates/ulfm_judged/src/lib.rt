@@ -6,7 +6,7 @@
 //! The theorem is the clause of [`list_reply`]: `IsListReply` of specs/ListReply.antt. It rests on the two contracts of `Finder`, and on nothing
 //! else of the search. Each place is explored by itself. The places are parted among threads, and the reply is the same whatever their number.
 //!
-//! Read specs/Wanted.antt first (what a job doesn't want, over `IsTold` of `ulfm_finder`), Chosen.antt (the list of the steps that are asked
+//! Read specs/Wanted.antt first (what a job doesn't want, over `IsTold` of `ulfm_outcomes_spec`), Chosen.antt (the list of the steps that are asked
 //! for) and Outcomes.antt (the reply to one job), then Lists.antt, EachPlace.antt and ShowEach.antt (wherever ranks stop), which ListReply.antt
 //! puts together.
 //!

@@ -3,7 +3,7 @@
 ghost use Rattle.std.specs.Prelude.{◌≡◌, ◌++◌, ℕ, List, None, IfOk, option_map, string_bytes};
 ghost use Rattle.ulfm_replies.specs.Stopped.{IsAskedAt, asked_view};
 ghost use Rattle.ulfm_reach.specs.declared.reach.Reach.TheVariants.{All};
-ghost use Rattle.ulfm_finder.specs.Outcomes.{IsList};
+ghost use Rattle.ulfm_outcomes_spec.specs.Outcomes.{IsList};
 ghost use Rattle.ulfm_list.specs.Objects.{more_in};
 ghost use Rattle.ulfm_list.specs.Text.{some_never_ends};
 ghost use Rattle.ulfm_replies.specs.Wish.{choice_view};
@@ -25,7 +25,7 @@ use crate::unwanted::unwanted;
 use crate::verdicts::list_remarks;
 use std::alloc::AllocError;
 use std::thread::Threads;
-use ulfm_finder::Finder;
+use ulfm_outcomes_spec::Finder;
 use ulfm_list::{Judgement, list_of, more_in, some_never_end};
 use ulfm_reach::{Reach, Reached, Watch};
 use ulfm_reader::Reading;

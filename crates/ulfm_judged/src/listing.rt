@@ -9,7 +9,7 @@ use crate::lists::Lists;
 use crate::onlooker::{Onlooker, Seen};
 use crate::search::Search;
 use ulfm_base::OutOfMemory;
-use ulfm_finder::Finder;
+use ulfm_outcomes_spec::Finder;
 use ulfm_list::Listed;
 use ulfm_reach::Reach;
 use ulfm_reader::Reading;

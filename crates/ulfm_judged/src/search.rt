@@ -1,11 +1,11 @@
 //! A search, how far it goes, and in which form it is told.
 ghost use Rattle.std.specs.Prelude.{IfOk};
-ghost use Rattle.ulfm_finder.specs.Outcomes.{IsList};
-ghost use Rattle.ulfm_finder.specs.Told.{IsLook};
+ghost use Rattle.ulfm_outcomes_spec.specs.Outcomes.{IsList};
+ghost use Rattle.ulfm_outcomes_spec.specs.Told.{IsLook};
 
 use std::alloc::Global;
 use ulfm_base::OutOfMemory;
-use ulfm_finder::Finder;
+use ulfm_outcomes_spec::Finder;
 use ulfm_list::Goals;
 use ulfm_job::Job;
 use ulfm_json::Form;

@@ -11,7 +11,7 @@ use crate::onlooker::{Onlooker, Seen};
 use crate::search::Search;
 use crate::shown::{no_goal, nowhere_reply, told_reply};
 use std::alloc::{AllocError, Global};
-use ulfm_finder::Finder;
+use ulfm_outcomes_spec::Finder;
 use ulfm_list::Goals;
 use ulfm_job::{Clause, Job, JobFault, MOST_STEPS};
 use ulfm_list::Told;

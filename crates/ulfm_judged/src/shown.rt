@@ -7,7 +7,7 @@ ghost use Rattle.ulfm_replies.specs.Stopped.{IsAskedAt, asked_view};
 use crate::search::Search;
 use std::alloc::{AllocError, Global};
 use ulfm_draw::drawn;
-use ulfm_finder::Finder;
+use ulfm_outcomes_spec::Finder;
 use ulfm_list::Goals;
 use ulfm_json::Form;
 use ulfm_list::{Told, push_told};

@@ -14,7 +14,7 @@ use std::alloc::Global;
 use std::thread;
 use std::thread::Threads;
 use ulfm_base::OutOfMemory;
-use ulfm_finder::Finder;
+use ulfm_outcomes_spec::Finder;
 use ulfm_reader::Reading;
 use ulfm_job::Place;
 

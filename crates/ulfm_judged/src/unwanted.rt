@@ -1,9 +1,9 @@
 //! What a job doesn't want, and the first place at which it comes.
 ghost use Rattle.std.specs.Prelude.{◌≡◌, ℕ, List, IfOk, Some, string_bytes};
 ghost use Rattle.std.specs.Option.{option_or};
-ghost use Rattle.ulfm_finder.specs.Goals.{IsPossible};
-ghost use Rattle.ulfm_finder.specs.Told.{IsTold};
-ghost use Rattle.ulfm_finder.specs.Unmet.{Judges};
+ghost use Rattle.ulfm_outcomes_spec.specs.Goals.{IsPossible};
+ghost use Rattle.ulfm_outcomes_spec.specs.Told.{IsTold};
+ghost use Rattle.ulfm_outcomes_spec.specs.Unmet.{Judges};
 ghost use Rattle.ulfm_list.specs.Unmet.{first_unmet};
 ghost use Rattle.ulfm_replies.specs.Stopped.{asked_at, asked_view};
 ghost use Rattle.ulfm_judged.specs.EachPlace.{places_in};
@@ -18,7 +18,7 @@ use crate::onlooker::{Onlooker, Seen};
 use crate::search::Search;
 use crate::verdicts::{row_remarks, unmet_remarks, where_of};
 use std::alloc::AllocError;
-use ulfm_finder::{Finder, first_unmet};
+use ulfm_outcomes_spec::{Finder, first_unmet};
 use ulfm_list::{Goals, Judgement, Unmet};
 use ulfm_job::Job;
 use ulfm_list::{Listed, Told, filed_number, push_row, push_unmet};

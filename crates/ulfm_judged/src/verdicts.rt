@@ -12,7 +12,7 @@ use crate::search::Search;
 use crate::unheld::push_unheld;
 use crate::unwanted::filed;
 use std::alloc::{AllocError, Global};
-use ulfm_finder::Finder;
+use ulfm_outcomes_spec::Finder;
 use ulfm_list::{Judgement, Unmet};
 use ulfm_list::{Listed, Told};
 use ulfm_reach::{Rows, Watch};

@@ -16,7 +16,7 @@ use std::io::{Read, Write};
 use std::sync::Wait;
 use std::thread::Threads;
 use std::time::Clock;
-use ulfm_finder::Finder;
+use ulfm_outcomes_spec::Finder;
 use ulfm_reader::{InputFault, read_front, write_whole};
 use ulfm_json::{Form, Wording};
 use ulfm_explain::{write_fault, write_notes, write_verdict};

@@ -4,7 +4,7 @@ use crate::cell::{Cell, Kind};
 use crate::nobody::Nobody;
 use crate::wanted::{Unwanted, unwanted_at};
 use std::alloc::{AllocError, Global};
-use ulfm_finder::Finder;
+use ulfm_outcomes_spec::Finder;
 use ulfm_job::Job;
 use ulfm_judged::Search;
 use ulfm_list::number_at;

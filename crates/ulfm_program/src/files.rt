@@ -18,7 +18,7 @@ use std::rt::Files;
 use std::sync::Wait;
 use std::thread::Threads;
 use std::time::Clock;
-use ulfm_finder::Finder;
+use ulfm_outcomes_spec::Finder;
 use ulfm_reader::write_whole;
 use ulfm_json::{Form, Wording};
 use ulfm_replies::{Asked, DONE, INPUT_FAILED, OUTPUT_FAILED, Unfollowed, asked_for};

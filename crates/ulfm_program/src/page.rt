@@ -4,7 +4,7 @@ use std::alloc::{AllocError, Global};
 use std::fs::File;
 use std::io::Write;
 use std::rt::Files;
-use ulfm_finder::Finder;
+use ulfm_outcomes_spec::Finder;
 use ulfm_reader::{read_front, write_whole};
 use ulfm_json::{Form, Wording};
 use ulfm_judged::Search;

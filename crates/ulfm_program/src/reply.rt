@@ -8,7 +8,7 @@ ghost use Rattle.ulfm_replies.specs.Wish.{WishView, wish_view};
 use std::alloc::{AllocError, Global};
 use std::sync::Wait;
 use std::thread::Threads;
-use ulfm_finder::Finder;
+use ulfm_outcomes_spec::Finder;
 use ulfm_json::Form;
 use ulfm_judged::{Onlooker, Search, list_reply};
 use ulfm_played::{draw_reply, replay_reply, run_reply, sweep_reply};

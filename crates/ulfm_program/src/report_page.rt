@@ -7,7 +7,7 @@ use crate::cell::{Cell, Kind};
 use crate::column::Column;
 use std::alloc::{AllocError, Global};
 use ulfm_draw::push_escaped;
-use ulfm_finder::Finder;
+use ulfm_outcomes_spec::Finder;
 use ulfm_job::{Job, MOST_STEPS};
 use ulfm_judged::Search;
 use ulfm_reader::{ReadJob, Reading, name_at};

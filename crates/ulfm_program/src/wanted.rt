@@ -5,7 +5,7 @@ use crate::column::Column;
 use crate::nobody::Nobody;
 use std::alloc::AllocError;
 use ulfm_draw::drawn;
-use ulfm_finder::{Finder, first_unmet};
+use ulfm_outcomes_spec::{Finder, first_unmet};
 use ulfm_list::{Goals, OpenStep, has_each};
 use ulfm_job::Clause;
 use ulfm_json::Style;

@@ -25,7 +25,7 @@ use Rattle.ulfm_judged.specs.ShowEach.{AreGoalsAt, IsNowhereAt}
 use Rattle.ulfm_judged.specs.Wanted.{HasList, IsToldOf, IsWanted}
 use Rattle.ulfm_judged.specs.declared.show_each.LookAt.{LookAt}
 use Rattle.ulfm_list.specs.declared.told.Told.{Told}
-use Rattle.ulfm_finder.specs.Told.{IsLook}
+use Rattle.ulfm_outcomes_spec.specs.Told.{IsLook}
 use Rattle.ulfm_judged.specs.inside.Looking.{IsDrawnOf, IsLookText, look_status}
 use Rattle.ulfm_list.specs.declared.goals.Goals.{Goals}
 use Rattle.ulfm_json.specs.declared.style.Style.{Style}

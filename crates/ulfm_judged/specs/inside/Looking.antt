@@ -2,7 +2,7 @@
 use Rattle.std.specs.Prelude.{◌≡◌, ℕ, Bool, List, Option, Some, None, slice_get, string_bytes, take}
 use Rattle.ulfm_job.specs.declared.clause.Clause.{Clause}
 use Rattle.ulfm_job.specs.Job.{JobView}
-use Rattle.ulfm_finder.specs.Told.{IsLook}
+use Rattle.ulfm_outcomes_spec.specs.Told.{IsLook}
 use Rattle.ulfm_list.specs.declared.goals.Goals.{Goals}
 use Rattle.ulfm_list.specs.declared.unmet.Unmet.{Unmet}
 use Rattle.ulfm_list.specs.declared.judgement.Judgement.{Judgement}

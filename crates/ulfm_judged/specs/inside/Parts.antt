@@ -1,7 +1,7 @@
 -- What single places and parts of the places come to.
 use Rattle.std.specs.Prelude.{◌≡◌, ℕ, ⊤, List, [], ◌∷◌, ◌++◌, Option, Some, None, Result, Ok, Err}
 use Rattle.std.specs.declared.alloc.AllocError.{AllocError}
-use Rattle.ulfm_finder.specs.Outcomes.{IsList}
+use Rattle.ulfm_outcomes_spec.specs.Outcomes.{IsList}
 use Rattle.ulfm_reach.specs.declared.reach.Reach.TheVariants.{More}
 use Rattle.ulfm_job.specs.declared.place.Place.{Place}
 use Rattle.ulfm_judged.specs.Lists.{AreLists, IsListedAt, job_asked_at}

@@ -1,7 +1,7 @@
 use Rattle.std.proofs.Common.{◌≡◌, false, rules, sym, ◌∙◌}
 use Rattle.std.proofs.lemmas.Bool.{false≢true}
 use Rattle.ulfm_list.specs.Goals.{has_each}
-use Rattle.ulfm_finder.proofs.Together.{each_listed}
+use Rattle.ulfm_outcomes_spec.proofs.Together.{each_listed}
 use Rattle.ulfm_judged.proofs.looking.look_for_row.Goals as goal
 
 pub returns-then-not-has_each : goal.returns-then-not-has_each

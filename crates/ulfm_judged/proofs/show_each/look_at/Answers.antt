@@ -1,6 +1,6 @@
 use Rattle.std.proofs.Common.{subst}
 use Rattle.ulfm_job.specs.Job.{JobView}
-use Rattle.ulfm_finder.specs.Told.{IsLook}
+use Rattle.ulfm_outcomes_spec.specs.Told.{IsLook}
 use Rattle.ulfm_judged.proofs.show_each.look_at.Goals as goal
 
 pub returns : goal.returns

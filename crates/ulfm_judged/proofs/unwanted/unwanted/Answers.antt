@@ -2,7 +2,7 @@ use Rattle.std.proofs.Common.{None, Some, List, Vec, subst, sym, ◌∙◌}
 use Rattle.std.specs.declared.alloc.Global.{Global}
 use Rattle.ulfm_job.specs.declared.clause.Clause.{Clause}
 use Rattle.ulfm_reader.specs.JobText.{rows_of}
-use Rattle.ulfm_finder.specs.Unmet.{Judges}
+use Rattle.ulfm_outcomes_spec.specs.Unmet.{Judges}
 use Rattle.ulfm_replies.specs.Stopped.{asked_view}
 use Rattle.ulfm_judged.specs.inside.Looking.{IsFirstRow}
 use Rattle.ulfm_judged.proofs.EachPlace.{row_told_as}

@@ -3,8 +3,8 @@
 //! A schedule comes from it as a value, so that no function above lets go of a world, which is dear to prove. The definitions of events stand in
 //! `ulfm_reduction` and those of keys in `ulfm_reduction`, so that what is replied needs neither `ulfm_outcomes` nor `ulfm_outcomes`.
 ghost use Rattle.std.specs.Prelude.{IfOk};
-ghost use Rattle.ulfm_finder.specs.Outcomes.{IsList};
-ghost use Rattle.ulfm_finder.specs.Told.{IsLook};
+ghost use Rattle.ulfm_outcomes_spec.specs.Outcomes.{IsList};
+ghost use Rattle.ulfm_outcomes_spec.specs.Told.{IsLook};
 
 use std::alloc::Global;
 use ulfm_base::OutOfMemory;
