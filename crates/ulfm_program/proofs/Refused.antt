@@ -10,7 +10,7 @@ use Rattle.ulfm_replies.specs.Named as named
 use Rattle.ulfm_replies.specs.Places as places
 use Rattle.ulfm_replies.specs.Replies.{starved}
 use Rattle.ulfm_replies.specs.Wish.{WishView}
-use Rattle.ulfm_judged.proofs.Statuses.{starved_list}
+use Rattle.ulfm_outcomes_reply.proofs.Statuses.{starved_list}
 use Rattle.ulfm_program.specs.Replies.{AreRead, IsReplyBy, IsReplyIn, IsReplyStopped, IsWhole, GetsReply, GetsBeginning, GetsFrontOf, unsettled}
 use Rattle.ulfm_played.specs.Played.{failed, undrawn, fell}
 use Rattle.ulfm_played.specs.Sweep.{unswept}

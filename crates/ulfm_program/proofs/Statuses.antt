@@ -6,7 +6,7 @@ use Rattle.ulfm_replies.specs.Named.{wanted_at}
 use Rattle.ulfm_replies.specs.declared.command.Wanted.{Wanted}
 use Rattle.ulfm_replies.specs.declared.command.Wanted.TheVariants.{Check, Replay, Run, Sweep, Outcomes, Places, Expand, Draw}
 use Rattle.ulfm_replies.specs.Wish.{WishView}
-use Rattle.ulfm_judged.proofs.Statuses.{reply_known}
+use Rattle.ulfm_outcomes_reply.proofs.Statuses.{reply_known}
 use Rattle.ulfm_program.specs.Replies.{IsReplyBy, IsReplyIn, IsReplyNaming, IsReplyStopped, settled, unsettled}
 use Rattle.ulfm_played.proofs.Statuses.{drawn_known, replayed, run_known, sweep_known}
 

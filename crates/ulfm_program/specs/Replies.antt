@@ -2,7 +2,7 @@
 use Rattle.std.specs.Prelude.{◌≡◌, ◌≢◌, ◌⊎◌, ℕ, List, take, Option, Some, None, IfSome, codes}
 use Rattle.std.specs.Io.KnownBytes.{Appends}
 use Rattle.ulfm_json.specs.declared.form.Form.{Form}
-use Rattle.ulfm_judged.specs.ListReply.{IsListReply}
+use Rattle.ulfm_outcomes_reply.specs.ListReply.{IsListReply}
 use Rattle.ulfm_played.specs.Sweep.{IsSweepReply}
 use Rattle.ulfm_replies.specs.declared.command.Wanted.{Wanted}
 use Rattle.ulfm_replies.specs.declared.command.Wanted.TheVariants.{Check, Replay, Run, Sweep, Outcomes, Places, Expand, Draw}

@@ -6,7 +6,7 @@ use crate::wanted::{Unwanted, unwanted_at};
 use std::alloc::{AllocError, Global};
 use ulfm_outcomes_spec::Finder;
 use ulfm_job::Job;
-use ulfm_judged::Search;
+use ulfm_outcomes_reply::Search;
 use ulfm_list::number_at;
 use ulfm_reach::{Reach, Reached};
 use ulfm_reader::Reading;

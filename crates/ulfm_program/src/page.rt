@@ -7,7 +7,7 @@ use std::rt::Files;
 use ulfm_outcomes_spec::Finder;
 use ulfm_reader::{read_front, write_whole};
 use ulfm_json::{Form, Wording};
-use ulfm_judged::Search;
+use ulfm_outcomes_reply::Search;
 use crate::page_of;
 use ulfm_replies::{Asked, JOB_REFUSED, ListOptions, Wanted};
 

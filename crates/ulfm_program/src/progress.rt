@@ -9,7 +9,7 @@ use std::sync::Mutex;
 use std::sync::atomic::{AtomicUsize, Ordering};
 use std::time::{Clock, Instant};
 use ulfm_reader::write_whole;
-use ulfm_judged::Onlooker;
+use ulfm_outcomes_reply::Onlooker;
 use ulfm_reach::Watch;
 use ulfm_replies::{ListOptions, Place, Wanted};
 

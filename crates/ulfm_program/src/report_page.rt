@@ -9,7 +9,7 @@ use std::alloc::{AllocError, Global};
 use ulfm_draw::push_escaped;
 use ulfm_outcomes_spec::Finder;
 use ulfm_job::{Job, MOST_STEPS};
-use ulfm_judged::Search;
+use ulfm_outcomes_reply::Search;
 use ulfm_reader::{ReadJob, Reading, name_at};
 use ulfm_job::places;
 

@@ -9,7 +9,7 @@ use ulfm_outcomes_spec::{Finder, first_unmet};
 use ulfm_list::{Goals, OpenStep, has_each};
 use ulfm_job::Clause;
 use ulfm_json::Style;
-use ulfm_judged::{Search, open_goals};
+use ulfm_outcomes_reply::{Search, open_goals};
 use ulfm_list::{Told, filed_number, number_at};
 use ulfm_reach::Rows;
 use ulfm_reader::Reading;

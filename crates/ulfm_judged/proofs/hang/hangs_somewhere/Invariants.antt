@@ -1,9 +1,0 @@
-use Rattle.std.proofs.Common.{◌≡◌, drop, map}
-use Rattle.ulfm_list.specs.Listed.{step_view}
-use Rattle.ulfm_replies.specs.Stopped.{asked_view}
-use Rattle.ulfm_judged.specs.Hangs.{hangs_somewhere}
-use Rattle.ulfm_judged.proofs.hang.hangs_somewhere.Given as goal
-
-abbrev pub invariant-loop-one : goal.invariant-loop-one
-invariant-loop-one g l =
-    hangs_somewhere l.search.options.is_strict (asked_view l.asked) (map step_view l.steps) (drop l.one-index l.listed) ≡ hangs_somewhere l.search.options.is_strict (asked_view l.asked) (map step_view l.steps) l.listed

@@ -1,6 +1,0 @@
-use Rattle.std.specs.Vec.Iter.{into_iter_items}
-use Rattle.ulfm_judged.specs.inside.Parts.{AreJoinedSoFar}
-use Rattle.ulfm_judged.proofs.threads.joined.Given as goal
-
-abbrev pub invariant-loop-part : goal.invariant-loop-part
-invariant-loop-part l = AreJoinedSoFar l.fn.parts.items l.listed.items (into_iter_items l.part-iterator)

@@ -1,6 +1,0 @@
-use Rattle.ulfm_replies.specs.Stopped.{asked_view}
-use Rattle.ulfm_judged.specs.inside.Judging.{IsUnfoundUpTo}
-use Rattle.ulfm_judged.proofs.unwanted.first_unwanted.Given as goal
-
-abbrev pub invariant-loop-one : goal.invariant-loop-one
-invariant-loop-one g l = IsUnfoundUpTo l.search.form l.search.options (asked_view l.asked) l.listed l.one-index l.first

@@ -1,0 +1,59 @@
+-- What single functions find that look for schedules.
+use Rattle.std.specs.Prelude.{◌≡◌, ℕ, Bool, List, Option, Some, None, slice_get, string_bytes, take}
+use Rattle.ulfm_job.specs.declared.clause.Clause.{Clause}
+use Rattle.ulfm_job.specs.Job.{JobView}
+use Rattle.ulfm_outcomes_spec.specs.Told.{IsLook}
+use Rattle.ulfm_list.specs.declared.goals.Goals.{Goals}
+use Rattle.ulfm_list.specs.declared.unmet.Unmet.{Unmet}
+use Rattle.ulfm_list.specs.declared.judgement.Judgement.{Judgement}
+use Rattle.ulfm_list.specs.declared.judgement.Judgement.TheVariants.{ComeTogether, NotKnown}
+use Rattle.ulfm_json.specs.declared.style.Style.{Style}
+use Rattle.ulfm_json.specs.declared.form.Form.{Form}
+use Rattle.ulfm_list.specs.Told.{told_in}
+use Rattle.ulfm_list.specs.declared.told.Told.{Told}
+use Rattle.ulfm_list.specs.declared.told.Told.TheVariants.{Schedule, Many}
+use Rattle.ulfm_replies.specs.Stopped.{Asked}
+use Rattle.ulfm_replies.specs.declared.command.ListOptions.{ListOptions}
+use Rattle.ulfm_replies.specs.declared.reply.Reply.{Reply}
+use Rattle.ulfm_job.specs.declared.place.Place.{Place}
+use Rattle.ulfm_outcomes_reply.specs.Drawn.{IsDrawn, left_drawn}
+use Rattle.ulfm_outcomes_reply.specs.Outcomes.{nowhere_in}
+use Rattle.ulfm_outcomes_reply.specs.Wanted.{AreOfRow, NeverComes, NoneComes}
+use Rattle.ulfm_outcomes_reply.specs.declared.looking.FirstRow.{FirstRow}
+
+-- what came of a search for the answers of a row: none for one that isn't looked at
+abbrev pub IsLookForRow : JobView → List Clause → Bool → ℕ → Option Told → Type 0
+IsLookForRow job row is_brief limit None = NeverComes job row
+IsLookForRow job row is_brief limit (Some told) = (goals : Goals) × AreOfRow job row goals × IsLook job goals is_brief limit (Some told)
+
+-- no row came together, or none before that of this number, of which that is told
+abbrev pub IsFirstRow : JobView → List (List Clause) → Bool → ℕ → Option FirstRow → Type 0
+IsFirstRow job rows is_brief limit None = NoneComes job rows
+IsFirstRow job rows is_brief limit (Some first) = (row : List Clause) × (slice_get rows first.number ≡ Some row) × NoneComes job (take first.number rows) × IsLookForRow job row is_brief limit (Some first.told)
+
+-- the status of what came of a search for answers that the words name, or that no schedule shows them
+abbrev pub look_status : Option Told → ℕ
+look_status None = 8
+look_status (Some (Schedule schedule)) = 0
+look_status (Some (Many limit)) = 7
+
+-- the text of what came of a search, perhaps at a place: that, where it is no schedule that is to be drawn
+abbrev pub IsLookText : Form → Option Style → Option Place → Asked → Option Told → List ℕ → Type 0
+IsLookText form drawn at asked None text = text ≡ nowhere_in form
+IsLookText form drawn at asked (Some (Schedule schedule)) text = drawn ≡ None → text ≡ told_in form at asked.names asked.job (Schedule schedule)
+IsLookText form drawn at asked (Some (Many limit)) text = text ≡ told_in form at asked.names asked.job (Many limit)
+
+-- a picture of the first step that never ends, by the rows of a list, where one is asked for and a step never ends
+abbrev pub IsDrawnOf : Form → ListOptions → Option Place → Asked → List (List ℕ) → Option Reply → Type 0
+IsDrawnOf form options at asked found None = left_drawn options.drawn asked.job found ≡ None
+IsDrawnOf form options at asked found (Some reply) = (left : Unmet) × (left_drawn options.drawn asked.job found ≡ Some left) × IsDrawn form options at asked left reply.status (string_bytes reply.text)
+
+-- what a list comes to below which this is told of a row
+abbrev pub row_judgement : Told → Judgement
+row_judgement (Schedule schedule) = ComeTogether
+row_judgement (Many limit) = NotKnown
+
+-- the status of a list below which this is told of a row
+abbrev pub row_status : Told → ℕ
+row_status (Schedule schedule) = 9
+row_status (Many limit) = 7

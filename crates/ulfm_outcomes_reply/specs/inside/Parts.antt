@@ -1,0 +1,38 @@
+-- What single places and parts of the places come to.
+use Rattle.std.specs.Prelude.{◌≡◌, ℕ, ⊤, List, [], ◌∷◌, ◌++◌, Option, Some, None, Result, Ok, Err}
+use Rattle.std.specs.declared.alloc.AllocError.{AllocError}
+use Rattle.ulfm_outcomes_spec.specs.Outcomes.{IsList}
+use Rattle.ulfm_reach.specs.declared.reach.Reach.TheVariants.{More}
+use Rattle.ulfm_job.specs.declared.place.Place.{Place}
+use Rattle.ulfm_outcomes_reply.specs.Lists.{AreLists, IsListedAt, job_asked_at}
+use Rattle.ulfm_replies.specs.Stopped.{Asked}
+use Rattle.ulfm_list.specs.declared.listed.Listed.{Listed}
+use Rattle.ulfm_outcomes_reply.specs.declared.lists.Lists.{Lists}
+
+-- the list of a place, or that the job has more states there than the limit
+abbrev pub IsListOf : Asked → ℕ → Place → Option Listed → Type 0
+IsListOf asked limit place (Some one) = IsListedAt asked limit place one
+IsListOf asked limit place None = IsList (job_asked_at place asked) limit More
+
+-- the lists of a part, or that memory ran out
+abbrev pub IsPart : Asked → ℕ → List Place → Result Lists AllocError → Type 0
+IsPart asked limit places (Ok lists) = AreLists asked limit places lists.listed.items lists.past_limit
+IsPart asked limit places (Err fault) = ⊤
+
+-- the places are parted into as many parts, of which each came to this
+abbrev pub AreParts : Asked → ℕ → List Place → List (Result Lists AllocError) → Type 0
+AreParts asked limit places [] = places ≡ []
+AreParts asked limit places (part ∷ parts) = (front rest : List Place) × (places ≡ front ++ rest) × IsPart asked limit front part × AreParts asked limit rest parts
+
+-- whatever the lists of the rest of the places are, behind these they are those of all
+abbrev pub GoesOn : Asked → ℕ → List Place → List Listed → List Place → Type 0
+GoesOn asked limit places listed rest = (more : List Listed) (past : Option Place) → AreLists asked limit rest more past → AreLists asked limit places (listed ++ more) past
+
+-- the lists of the places that are parted so
+abbrev pub AreJoined : List (Result Lists AllocError) → List Listed → Option Place → Type 0
+AreJoined parts listed past = (asked : Asked) (limit : ℕ) (places : List Place) → AreParts asked limit places parts → AreLists asked limit places listed past
+
+-- the lists of the first of them, and what is left of the parts and of the places
+abbrev pub AreJoinedSoFar : List (Result Lists AllocError) → List Listed → List (Result Lists AllocError) → Type 0
+AreJoinedSoFar parts listed left =
+    (asked : Asked) (limit : ℕ) (places : List Place) → AreParts asked limit places parts → (rest : List Place) × GoesOn asked limit places listed rest × AreParts asked limit rest left

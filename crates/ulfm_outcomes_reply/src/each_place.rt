@@ -1,0 +1,215 @@
+//! The reply of `outcomes --stops`: what each step may be answered wherever ranks stop, and below it what the job doesn't want at the first
+//! place where it comes.
+ghost use Rattle.std.specs.Prelude.{◌≡◌, ◌<◌, ◌≤◌, ℕ, List, None, IfOk, string_bytes};
+ghost use Rattle.ulfm_list.specs.Told.{more_at};
+ghost use Rattle.ulfm_job.specs.declared.place.Place.TheVariants.{Nowhere};
+ghost use Rattle.ulfm_replies.specs.Stopped.{IsAskedAt, asked_view};
+ghost use Rattle.ulfm_replies.specs.Wish.{choice_view};
+ghost use Rattle.ulfm_outcomes_reply.specs.Chosen.{unknown_part};
+ghost use Rattle.ulfm_outcomes_reply.specs.EachPlace.{IsEachPlaceReply};
+ghost use Rattle.ulfm_outcomes_reply.specs.inside.Judging.{AreListedOf, AreSharing, IsEachText, lists_judgement, lists_status, lists_text};
+
+use crate::choosing::{chosen, no_name, printed, unknown_part};
+use crate::drawing::first_drawn;
+use crate::hang::judgement_of_all;
+use crate::listed::{below, list_status};
+use crate::lists::Lists;
+use crate::onlooker::Onlooker;
+use crate::search::Search;
+use crate::threads::list_places;
+use crate::unheld::with_unheld;
+use crate::unwanted::first_unwanted;
+use crate::verdicts::lists_remarks;
+use std::alloc::AllocError;
+use std::thread;
+use std::thread::Threads;
+use ulfm_outcomes_spec::Finder;
+use ulfm_list::Judgement;
+use ulfm_job::{JobFault, MOST_STEPS};
+use ulfm_list::{lists_of, push_more_at, some_never_ends};
+use ulfm_reader::Reading;
+use ulfm_replies::{ListOptions, MOST_THREADS, PAST_LIMIT, Place, Reply, asked_at, refusal};
+use ulfm_job::places;
+
+/// The reply of `outcomes --stops` by this search. The onlooker is told how far the lists and the searches are.
+pub fn each_place_reply<R, F, L>(
+    rt: &R,
+    search: &Search<'_, F>,
+    stops: u8,
+    bytes: &[u8],
+    onlooker: &L,
+) -> Result<Reply, AllocError>
+where
+    R: Threads + Sync,
+    F: Finder + Sync,
+    L: Onlooker + Sync,
+    ensures { IfOk result (λ r. IsEachPlaceReply search.now.form (choice_view search.now.choice) search.now.options stops bytes.now r.status (string_bytes r.text)) }
+{
+    let read = asked_at(search.alloc, search.form, Place::Nowhere, bytes)?;
+    match read {
+        Ok(asked) => named_reply(rt, search, stops, &asked, onlooker),
+        Err(reply) => Ok(reply),
+    }
+}
+
+/// The reply to what was asked for, or that it has no step of a name.
+fn named_reply<R, F, L>(
+    rt: &R,
+    search: &Search<'_, F>,
+    stops: u8,
+    asked: &Reading,
+    onlooker: &L,
+) -> Result<Reply, AllocError>
+where
+    R: Threads + Sync,
+    F: Finder + Sync,
+    L: Onlooker + Sync,
+    ensures { (bytes : List ℕ) → IsAskedAt Nowhere bytes (asked_view asked.now) → IfOk result (λ r. IsEachPlaceReply search.now.form (choice_view search.now.choice) search.now.options stops bytes r.status (string_bytes r.text)) }
+{
+    match unknown_part(search, asked)? {
+        Some(part) => no_name(search.alloc, part),
+        None => listed_reply(rt, search, stops, asked, onlooker),
+    }
+}
+
+/// The same where it has the steps that are named.
+fn listed_reply<R, F, L>(
+    rt: &R,
+    search: &Search<'_, F>,
+    stops: u8,
+    asked: &Reading,
+    onlooker: &L,
+) -> Result<Reply, AllocError>
+where
+    R: Threads + Sync,
+    F: Finder + Sync,
+    L: Onlooker + Sync,
+    ensures { (bytes : List ℕ) → IsAskedAt Nowhere bytes (asked_view asked.now) → unknown_part (choice_view search.now.choice) (asked_view asked.now) ≡ None → IfOk result (λ r. IsEachPlaceReply search.now.form (choice_view search.now.choice) search.now.options stops bytes r.status (string_bytes r.text)) }
+{
+    if asked.job.len() + stops as usize > MOST_STEPS {
+        return refusal(search.alloc, search.form, JobFault::TooLarge);
+    }
+    let places = places(search.alloc, &asked.job, stops)?;
+    let threads = threads_of(rt, search.options);
+    let lists = list_places(rt, search, asked, places.as_slice(), threads, onlooker)?;
+    onlooker.see_listed(lists.listed.len(), places.len());
+    match first_drawn(search, asked, lists.listed.as_slice(), onlooker)? {
+        Some(reply) => Ok(reply),
+        None => judged(search, asked, &lists, onlooker),
+    }
+}
+
+/// How many threads share the places: as many as are asked for, else as there are processors, 64 at most.
+fn threads_of<R: Threads>(rt: &R, options: ListOptions) -> u8
+    ensures asked { AreSharing options.threads result }
+    ensures some { 0 < result }
+{
+    match options.threads {
+        Some(threads) => threads.max(1),
+        None => processors(rt),
+    }
+}
+
+/// How many processors there are, 64 at most, or 1 where that isn't known.
+fn processors<R: Threads>(rt: &R) -> u8
+    ensures some { 0 < result }
+    ensures few { result ≤ 64 }
+{
+    match thread::available_parallelism(rt) {
+        Ok(count) if count.get() < MOST_THREADS as usize => count.get() as u8,
+        Ok(_) => MOST_THREADS as u8,
+        Err(_) => 1,
+    }
+}
+
+/// The lists, and below them what isn't wanted.
+fn judged<F: Finder, L: Onlooker>(
+    search: &Search<'_, F>,
+    asked: &Reading,
+    lists: &Lists,
+    onlooker: &L,
+) -> Result<Reply, AllocError>
+    requires listed { AreListedOf (asked_view asked.now) search.now.options.limit lists.now.listed.items }
+    ensures { IfOk result (λ r. IsEachText search.now.form (choice_view search.now.choice) search.now.options (asked_view asked.now) lists.now r.status (string_bytes r.text)) }
+{
+    let listed = lists.listed.as_slice();
+    match first_unwanted(search, asked, listed, onlooker)? {
+        Some(told) => {
+            let text = text_of(search, asked, lists, told.judgement)?;
+            below(text, with_unheld(told.reply, asked, listed))
+        }
+        None => alone(search, asked, lists, onlooker),
+    }
+}
+
+/// The lists of a job that is wanted at each of their places.
+fn alone<F: Finder, L: Onlooker>(
+    search: &Search<'_, F>,
+    asked: &Reading,
+    lists: &Lists,
+    onlooker: &L,
+) -> Result<Reply, AllocError>
+    ensures { IfOk result (λ r. (r.status ≡ lists_status search.now.options lists.now) × (string_bytes r.text ≡ lists_text search.now.form (choice_view search.now.choice) (asked_view asked.now) search.now.options lists.now (lists_judgement search.now.options (asked_view asked.now) lists.now))) }
+{
+    let judgement = judgement_of(search, asked, lists)?;
+    Ok(Reply {
+        status: status_of(search.options, lists),
+        text: text_of(search, asked, lists, judgement)?,
+        remarks: lists_remarks(search, asked, lists, onlooker),
+    })
+}
+
+/// What lists come to below which nothing is told: past the limit that isn't known.
+fn judgement_of<F>(
+    search: &Search<'_, F>,
+    asked: &Reading,
+    lists: &Lists,
+) -> Result<Judgement, AllocError>
+    ensures { IfOk result (λ j. j ≡ lists_judgement search.now.options (asked_view asked.now) lists.now) }
+{
+    match lists.past_limit {
+        Some(_) => Ok(Judgement::NotKnown),
+        None => judgement_of_all(search, asked, lists.listed.as_slice()),
+    }
+}
+
+/// The text of the lists, which come to this, or that they come past the limit.
+fn text_of<F: Finder>(
+    search: &Search<'_, F>,
+    asked: &Reading,
+    lists: &Lists,
+    judgement: Judgement,
+) -> Result<String, AllocError>
+    ensures { IfOk result (λ text. string_bytes text ≡ lists_text search.now.form (choice_view search.now.choice) (asked_view asked.now) search.now.options lists.now judgement) }
+{
+    match lists.past_limit {
+        Some(place) => more_text(search, place),
+        None => {
+            let steps = chosen(search, asked)?;
+            let steps = steps.as_slice();
+            let listed = lists.listed.as_slice();
+            let list = lists_of(search.alloc, &asked.job, steps, judgement, listed)?;
+            printed(search, asked, &list)
+        }
+    }
+}
+
+/// That there are more states than the limit at a place.
+fn more_text<F>(search: &Search<'_, F>, place: Place) -> Result<String, AllocError>
+    ensures { IfOk result (λ text. string_bytes text ≡ more_at search.now.form search.now.options.limit place) }
+{
+    let limit = search.options.limit as usize;
+    let mut text = String::new(search.alloc);
+    push_more_at(&mut text, search.form, limit, place)?;
+    Ok(text)
+}
+
+/// The status of lists below which nothing is told.
+fn status_of(options: ListOptions, lists: &Lists) -> u8
+    ensures { result ≡ lists_status options lists.now }
+{
+    match lists.past_limit {
+        Some(_) => PAST_LIMIT,
+        None => list_status(options.is_strict, some_never_ends(lists.listed.as_slice())),
+    }
+}

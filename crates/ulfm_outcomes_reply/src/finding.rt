@@ -1,0 +1,24 @@
+//! What was found that a job doesn't want.
+ghost use Rattle.std.specs.Prelude.{◌≡◌};
+ghost use Rattle.ulfm_replies.specs.Stopped.{asked_view};
+ghost use Rattle.ulfm_outcomes_reply.specs.Wanted.{asks};
+
+use ulfm_list::Judgement;
+use ulfm_reader::Reading;
+use ulfm_replies::Reply;
+
+/// What was found that a job doesn't want: what a list comes to with it, and what is told below.
+#[derive(Drop)]
+pub struct Finding {
+    /// What the list comes to.
+    pub judgement: Judgement,
+    /// What is told, with its status.
+    pub reply: Reply,
+}
+
+/// Whether a job asks for something: answers of its steps, or by rows of `never`.
+pub(crate) fn asks(asked: &Reading) -> bool
+    ensures { result ≡ asks (asked_view asked.now) }
+{
+    !(asked.job.expected().is_empty() && asked.never.is_empty())
+}
