@@ -12,8 +12,8 @@ use Rattle.ulfm_replies.specs.Replies.{starved}
 use Rattle.ulfm_replies.specs.Wish.{WishView}
 use Rattle.ulfm_outcomes_reply.proofs.Statuses.{starved_list}
 use Rattle.ulfm_program.specs.Replies.{AreRead, IsReplyBy, IsReplyIn, IsReplyStopped, IsWhole, GetsReply, GetsBeginning, GetsFrontOf, unsettled}
-use Rattle.ulfm_played.specs.Played.{failed, undrawn, fell}
-use Rattle.ulfm_played.specs.Sweep.{unswept}
+use Rattle.ulfm_run_reply.specs.Played.{failed, undrawn, fell}
+use Rattle.ulfm_run_reply.specs.Sweep.{unswept}
 
 -- out of memory is a reply in each form, with ranks stopped by the numbers of steps
 starved_by : (form : Form) (wish : WishView) (wanted : Wanted) (bytes : List ℕ) → IsReplyBy form wish wanted bytes 3 (out_of_memory_in form)

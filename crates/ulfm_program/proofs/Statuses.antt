@@ -8,7 +8,7 @@ use Rattle.ulfm_replies.specs.declared.command.Wanted.TheVariants.{Check, Replay
 use Rattle.ulfm_replies.specs.Wish.{WishView}
 use Rattle.ulfm_outcomes_reply.proofs.Statuses.{reply_known}
 use Rattle.ulfm_program.specs.Replies.{IsReplyBy, IsReplyIn, IsReplyNaming, IsReplyStopped, settled, unsettled}
-use Rattle.ulfm_played.proofs.Statuses.{drawn_known, replayed, run_known, sweep_known}
+use Rattle.ulfm_run_reply.proofs.Statuses.{drawn_known, replayed, run_known, sweep_known}
 
 known_by : (form : Form) (wish : WishView) (wanted : Wanted) (bytes : List ℕ) (status : ℕ) (text : List ℕ) → IsReplyBy form wish wanted bytes status text → IsKnown status
 known_by form wish Check bytes status text h = checked form bytes status text h

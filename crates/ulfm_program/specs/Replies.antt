@@ -3,7 +3,7 @@ use Rattle.std.specs.Prelude.{◌≡◌, ◌≢◌, ◌⊎◌, ℕ, List, take, 
 use Rattle.std.specs.Io.KnownBytes.{Appends}
 use Rattle.ulfm_json.specs.declared.form.Form.{Form}
 use Rattle.ulfm_outcomes_reply.specs.ListReply.{IsListReply}
-use Rattle.ulfm_played.specs.Sweep.{IsSweepReply}
+use Rattle.ulfm_run_reply.specs.Sweep.{IsSweepReply}
 use Rattle.ulfm_replies.specs.declared.command.Wanted.{Wanted}
 use Rattle.ulfm_replies.specs.declared.command.Wanted.TheVariants.{Check, Replay, Run, Sweep, Outcomes, Places, Expand, Draw}
 use Rattle.ulfm_replies.specs.Expanded.{IsExpandReply}
@@ -13,7 +13,7 @@ use Rattle.ulfm_replies.specs.Places.{IsPlacesReply}
 use Rattle.ulfm_replies.specs.Replies.{IsCheckReply}
 use Rattle.ulfm_replies.specs.Wish.{WishView}
 use Rattle.ulfm_job.specs.declared.place.Place.{Place}
-use Rattle.ulfm_played.specs.Played.{IsDrawReply, IsReplayReply, IsRunReply}
+use Rattle.ulfm_run_reply.specs.Played.{IsDrawReply, IsReplayReply, IsRunReply}
 
 -- the reply in this form to what is asked for, with ranks stopped by the numbers of steps, and with what of outcomes is told
 abbrev pub IsReplyBy : Form → WishView → Wanted → List ℕ → ℕ → List ℕ → Type 0

@@ -11,7 +11,7 @@ use std::thread::Threads;
 use ulfm_outcomes_spec::Finder;
 use ulfm_json::Form;
 use ulfm_outcomes_reply::{Onlooker, Search, list_reply};
-use ulfm_played::{draw_reply, replay_reply, run_reply, sweep_reply};
+use ulfm_run_reply::{draw_reply, replay_reply, run_reply, sweep_reply};
 use ulfm_reach::Watch;
 use ulfm_replies::{Asked, Reply, Wanted, check_reply, expand_reply, places_reply, settled_place};
 

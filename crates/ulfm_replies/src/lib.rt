@@ -17,7 +17,7 @@
 //! - replies: `reply.rt` (`check`, refusals, and the statuses of the program), `expanded.rt`, `written.rt` (`places`), `failure.rt` (no trace)
 //! - for standard error alone: `remark.rt`, `unmet.rt`, `verdict.rt`
 //!
-//! Not here: replies that an engine makes (`ulfm_played`, `ulfm_outcomes_reply`), and the way to the streams (`ulfm_program`).
+//! Not here: replies that an engine makes (`ulfm_run_reply`, `ulfm_outcomes_reply`), and the way to the streams (`ulfm_program`).
 #![tactic(auto)]
 
 mod asked;

@@ -1,7 +1,0 @@
-use Rattle.std.proofs.Common.{◌≡◌, ◌++◌, flat_map, string_bytes, take}
-use Rattle.ulfm_played.specs.inside.Tallied.{rows_of}
-use Rattle.ulfm_played.specs.Brief.{differing_line}
-use Rattle.ulfm_played.proofs.brief.push_differing.Given as goal
-
-abbrev pub invariant-loop-line : goal.invariant-loop-line
-invariant-loop-line l = string_bytes l.text ≡ string_bytes l.fn.text ++ flat_map (differing_line l.form l.times) (rows_of (take l.line-index l.lines))

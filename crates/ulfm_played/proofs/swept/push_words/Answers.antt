@@ -1,6 +1,0 @@
-use Rattle.std.proofs.Common.{append_assoc, refl, ◌∙◌}
-use Rattle.std.proofs.lemmas.Result.{on_ok_weaker}
-use Rattle.ulfm_played.proofs.swept.push_words.Goals as goal
-
-pub returns : goal.returns
-returns c = on_ok_weaker c.write.result (λ e. e ∙ simp append_assoc refl) c.write.ensures.bytes

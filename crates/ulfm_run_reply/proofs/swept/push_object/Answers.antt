@@ -1,0 +1,6 @@
+use Rattle.std.proofs.Common.{append_assoc, refl, ◌∙◌}
+use Rattle.std.proofs.lemmas.Result.{on_ok_weaker}
+use Rattle.ulfm_run_reply.proofs.swept.push_object.Goals as goal
+
+pub returns : goal.returns
+returns c = on_ok_weaker c.write.result (λ e. e ∙ simp append_assoc refl) c.write.ensures.bytes

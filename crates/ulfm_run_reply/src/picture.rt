@@ -1,0 +1,55 @@
+//! The reply of `draw`: a picture of a replay.
+ghost use Rattle.std.specs.Prelude.{◌≡◌, IfOk, string_bytes};
+ghost use Rattle.ulfm_run_reply.specs.Played.{IsDrawReply};
+ghost use Rattle.ulfm_replies.specs.CommandLine.{AreTurns};
+
+use crate::turns::given_turns;
+use std::alloc::{AllocError, Global};
+use ulfm_draw::drawn;
+use ulfm_job::Job;
+use ulfm_json::{Form, Style, Wording};
+use ulfm_schedule::replayed;
+use ulfm_replay::{Played, replay_in_order};
+use ulfm_replies::{DONE, Place, Reply, asked_at};
+
+/// The reply of `draw`, in this style.
+pub fn draw_reply(
+    alloc: Global,
+    form: Form,
+    style: Style,
+    turns: Option<u32>,
+    place: Place,
+    bytes: &[u8],
+) -> Result<Reply, AllocError>
+    requires { AreTurns turns }
+    ensures { IfOk result (λ r. IsDrawReply form turns place bytes.now r.status (string_bytes r.text)) }
+{
+    let read = asked_at(alloc, form, place, bytes)?;
+    let asked = match read {
+        Ok(asked) => given_turns(asked, turns),
+        Err(reply) => return Ok(reply),
+    };
+    match replay_in_order(alloc, &asked.job) {
+        Ok(played) => picture_of(alloc, style, form.wording(), &asked.job, played),
+        Err(_) => Err(AllocError),
+    }
+}
+
+/// The picture of a replay.
+fn picture_of(
+    alloc: Global,
+    style: Style,
+    wording: Wording,
+    job: &Job,
+    played: Played,
+) -> Result<Reply, AllocError>
+    ensures { IfOk result (λ r. r.status ≡ 0) }
+{
+    let schedule = replayed(alloc, job, played.moves, played.reports.as_slice())?;
+    let text = drawn(alloc, style, wording, job, &schedule, "")?;
+    Ok(Reply {
+        status: DONE,
+        text,
+        remarks: None,
+    })
+}

@@ -1,0 +1,186 @@
+//! The reply of `run`.
+ghost use Rattle.std.specs.Prelude.{All, List, length, map, ℕ, ◌≡◌, ◌<◌, IfErr, IfOk, string_bytes, vec_len};
+ghost use Rattle.ulfm_carrier.specs.declared.lane_ends.LaneEnds.{LaneEnds as Lanes};
+ghost use Rattle.ulfm_carrier.specs.declared.shared_ends.SharedEnds.{SharedEnds as Shared};
+ghost use Rattle.ulfm_carrier.specs.Family.{AllFresh};
+ghost use Rattle.ulfm_base.specs.Lists.{InPlace, at};
+ghost use Rattle.ulfm_carrier.specs.Lanes.{known_room, lane_name, lane_pushed, lane_taken, IsReady as IsReadyLane, OneCall as OneLanesCall};
+ghost use Rattle.ulfm_carrier.specs.Shared.{inbox_capacity, shared_name, shared_pushed, shared_taken, IsReady as IsReadyShared, OneCall as OneSharedCall};
+ghost use Rattle.ulfm_board.specs.Known.{OneBoard, nothing_known};
+ghost use Rattle.ulfm_run_reply.specs.inside.Cells.{AreEnough};
+ghost use Rattle.ulfm_run_reply.specs.Played.{AreOfRanks, AreOfRun, IsRunReply};
+ghost use Rattle.ulfm_run_reply.specs.inside.Shown.{IsShown};
+ghost use Rattle.ulfm_replies.specs.CommandLine.{AreInRange};
+ghost use Rattle.ulfm_laws.specs.Lawful.{LawfulReport};
+ghost use Rattle.ulfm_run.specs.Flow.{contents};
+ghost use Rattle.ulfm_script.specs.Deciding.{Known};
+
+use crate::faults::failure_of;
+use crate::tally::{tally_of, tally_reply};
+use crate::trace::trace_reply;
+use crate::turns::given_turns;
+use std::alloc::{AllocError, Global};
+use std::sync::Wait;
+use std::thread::Threads;
+use ulfm_base::CallError;
+use ulfm_board::{Decider, Seat, seats};
+use ulfm_carrier::{Ends, LaneEnds, SharedEnds, lanes, shared};
+use ulfm_job::Job;
+use ulfm_json::Form;
+use ulfm_replies::{Carrier, Failure, Reply, RunOptions, asked_at, failed};
+use ulfm_run::{Report, fits, run_job};
+use ulfm_script::RankReport;
+
+/// The reply of `run` with these options, in this form.
+pub fn run_reply<R: Threads + Wait + Sync>(
+    rt: &R,
+    alloc: Global,
+    form: Form,
+    options: RunOptions,
+    bytes: &[u8],
+) -> Result<Reply, AllocError>
+    requires { AreInRange options }
+    ensures { IfOk result (λ r. IsRunReply form options bytes.now r.status (string_bytes r.text)) }
+{
+    let read = asked_at(alloc, form, options.place, bytes)?;
+    let asked = match read {
+        Ok(asked) => given_turns(asked, options.turns),
+        Err(reply) => return Ok(reply),
+    };
+    if let Some(times) = options.repeat {
+        return match tally_of(rt, alloc, options.carrier, form, times, &asked) {
+            Ok(tally) => tally_reply(
+                alloc,
+                form,
+                options.is_strict,
+                options.is_brief,
+                &asked.job,
+                times,
+                tally,
+            ),
+            Err(failure) => failed(alloc, form, failure),
+        };
+    }
+    let ran = run_by_carrier(rt, alloc, options.carrier, &asked.job);
+    match ran {
+        Ok(reports) => trace_reply(alloc, form, options.is_strict, &asked, reports.as_slice()),
+        Err(failure) => failed(alloc, form, failure),
+    }
+}
+
+/// What the ranks of a job did, by this carrier.
+pub fn run_by_carrier<R: Threads + Wait + Sync>(
+    rt: &R,
+    alloc: Global,
+    carrier: Carrier,
+    job: &Job,
+) -> Result<Vec<RankReport>, Failure>
+    ensures ran { IfOk result (λ reports. AreOfRun job.now reports.items) }
+    ensures shown { IfErr result (λ failure. IsShown job.now failure) }
+{
+    match carrier {
+        Carrier::Lanes => run_by_lanes(rt, alloc, job),
+        Carrier::Shared => run_by_shared(rt, alloc, job),
+    }
+}
+
+/// What the ranks of a job did, with a ring for each ordered pair.
+fn run_by_lanes<R: Threads + Wait + Sync>(
+    rt: &R,
+    alloc: Global,
+    job: &Job,
+) -> Result<Vec<RankReport>, Failure>
+    ensures ran { IfOk result (λ reports. AreOfRun job.now reports.items) }
+    ensures shown { IfErr result (λ failure. IsShown job.now failure) }
+{
+    match lanes_of(alloc, job) {
+        Ok(ends) => run_by(rt, alloc, job, ends),
+        Err(_) => Err(Failure::OutOfMemory),
+    }
+}
+
+/// The ends of a job's ranks by rings, each of which has as many places as the job says.
+fn lanes_of(alloc: Global, job: &Job) -> Result<Vec<LaneEnds>, CallError>
+    ensures each { IfOk result (λ ends. vec_len ends ≡ job.now.ranks) }
+    ensures family { IfOk result (λ ends. OneLanesCall (map lane_name ends.items)) }
+    ensures places { IfOk result (λ ends. InPlace (λ (e : Lanes). e.me.number) ends.items) }
+    ensures fresh { IfOk result (λ ends. AllFresh (λ (e : Lanes). vec_len e.outs) lane_pushed lane_taken IsReadyLane ends.items) }
+    ensures room { IfOk result (λ ends. (k d : ℕ) (e : Lanes) → at ends.items k e → d < job.now.ranks → known_room e d ≡ job.now.capacity) }
+{
+    lanes(alloc, job.ranks(), job.capacity())
+}
+
+/// What the ranks of a job did, with one inbox for each rank.
+fn run_by_shared<R: Threads + Wait + Sync>(
+    rt: &R,
+    alloc: Global,
+    job: &Job,
+) -> Result<Vec<RankReport>, Failure>
+    ensures ran { IfOk result (λ reports. AreOfRun job.now reports.items) }
+    ensures shown { IfErr result (λ failure. IsShown job.now failure) }
+{
+    match shared_of(alloc, job) {
+        Ok(ends) => run_by(rt, alloc, job, ends),
+        Err(_) => Err(Failure::OutOfMemory),
+    }
+}
+
+/// The ends of a job's ranks by shared inboxes, each of which has as many places as the job says.
+fn shared_of(alloc: Global, job: &Job) -> Result<Vec<SharedEnds>, CallError>
+    ensures each { IfOk result (λ ends. vec_len ends ≡ job.now.ranks) }
+    ensures family { IfOk result (λ ends. OneSharedCall (map shared_name ends.items)) }
+    ensures places { IfOk result (λ ends. InPlace (λ (e : Shared). e.me.number) ends.items) }
+    ensures fresh { IfOk result (λ ends. AllFresh (λ (e : Shared). vec_len e.outs) shared_pushed shared_taken IsReadyShared ends.items) }
+    ensures capacities { IfOk result (λ ends. (k d : ℕ) (e : Shared) → at ends.items k e → d < job.now.ranks → inbox_capacity e d ≡ job.now.capacity) }
+{
+    shared(alloc, job.ranks(), job.capacity())
+}
+
+/// What the ranks of a job did, each in a thread of its own with its end of a carrier.
+fn run_by<E: Ends + Send, R: Threads + Wait + Sync>(
+    rt: &R,
+    alloc: Global,
+    job: &Job,
+    ends: Vec<E>,
+) -> Result<Vec<RankReport>, Failure>
+    requires each { length ends.items ≡ job.now.ranks }
+    requires family { E.one_call (map E.name ends.items) }
+    requires places { InPlace E.place ends.items }
+    requires fresh { AllFresh E.count E.pushed E.taken E.ready ends.items }
+    ensures ran { IfOk result (λ reports. AreOfRun job.now reports.items) }
+    ensures shown { IfErr result (λ failure. IsShown job.now failure) }
+{
+    let deciders = match seats_of(alloc, job) {
+        Ok(deciders) => deciders,
+        Err(_) => return Err(Failure::OutOfMemory),
+    };
+    match run_job(rt, alloc, job, ends, deciders) {
+        Ok(report) => fitting(job, report),
+        Err(fault) => match failure_of(fault) {
+            Some(failure) => Err(failure),
+            None => unreachable!(),
+        },
+    }
+}
+
+/// What the ranks of a job did, if rings of the job's places allow it and what is left in the inboxes.
+fn fitting<E: Drop, D: Drop>(job: &Job, report: Report<E, D>) -> Result<Vec<RankReport>, Failure>
+    requires lawful { (knows : List Known) × LawfulReport job.now (contents report.residue.inboxes.items) knows report.ranks.items }
+    requires own { AreOfRanks job.now (contents report.residue.inboxes.items) }
+    ensures ran { IfOk result (λ reports. AreOfRun job.now reports.items) }
+    ensures shown { IfErr result (λ failure. IsShown job.now failure) }
+{
+    if !fits(&report, job.capacity()) {
+        return Err(Failure::Untrue);
+    }
+    Ok(report.ranks)
+}
+
+/// The seats of a job's ranks at one board. It has a cell for each agreement that a rank can come to, as for each shrink.
+fn seats_of(alloc: Global, job: &Job) -> Result<Vec<Seat>, CallError>
+    ensures each { IfOk result (λ seats. vec_len seats ≡ job.now.ranks) }
+    ensures one_board { IfOk result (λ seats. OneBoard ⟦<Seat as Decider>⟧.board seats.items) }
+    ensures cells { IfOk result (λ seats. (rounds : ℕ) × AreEnough job.now rounds × All (λ seat. ⟦<Seat as Decider>⟧.known seat ≡ nothing_known rounds) seats.items) }
+{
+    seats(alloc, job.ranks(), job.rounds())
+}

@@ -1,0 +1,87 @@
+//! The reply that a trace is.
+ghost use Rattle.std.specs.Prelude.{◌≡◌, IfOk, string_bytes};
+ghost use Rattle.ulfm_answer.specs.Report.{is_unfinished};
+ghost use Rattle.ulfm_json.specs.Form.{trace_in};
+ghost use Rattle.ulfm_reader.specs.JobText.{rows_of};
+ghost use Rattle.ulfm_run_reply.specs.Asking.{as_asked};
+ghost use Rattle.ulfm_run_reply.specs.Unfinished.{has_unfinished, left_from, leaves_unfinished, played_status};
+
+use crate::asking::as_asked;
+use crate::remarks::remarks_on;
+use crate::traced::trace_in;
+use std::alloc::{AllocError, Global};
+use ulfm_answer::{StepAnswer, StepReport};
+use ulfm_job::Job;
+use ulfm_json::Form;
+use ulfm_reader::Reading;
+use ulfm_replies::{DONE, NOT_EXPECTED, Reply, UNFINISHED};
+use ulfm_script::RankReport;
+
+/// The trace of the reports of a job's ranks, in this form, with its status, by what its text asks for.
+pub fn trace_reply(
+    alloc: Global,
+    form: Form,
+    is_strict: bool,
+    asked: &Reading,
+    reports: &[RankReport],
+) -> Result<Reply, AllocError>
+    ensures { IfOk result (λ r. (r.status ≡ played_status is_strict (as_asked (rows_of asked.now.never.items) asked.now.job reports.now) (has_unfinished asked.now.job reports.now)) × (string_bytes r.text ≡ trace_in form asked.now.names.items asked.now.job reports.now)) }
+{
+    let is_met = as_asked(alloc, asked, reports);
+    let status = played_status(is_strict, is_met, has_unfinished(&asked.job, reports));
+    let text = trace_in(alloc, form, &asked.names, &asked.job, reports)?;
+    Ok(Reply {
+        status,
+        text,
+        remarks: remarks_on(alloc, asked, reports),
+    })
+}
+
+/// The status of what was played to its end, by whether the answers are as the job asks, and whether a step was left unfinished.
+pub fn played_status(is_strict: bool, is_met: bool, is_unfinished: bool) -> u8
+    ensures { result ≡ played_status is_strict is_met is_unfinished }
+{
+    if !is_met {
+        NOT_EXPECTED
+    } else if is_strict && is_unfinished {
+        UNFINISHED
+    } else {
+        DONE
+    }
+}
+
+/// Whether some step of some rank was left unfinished. One that may be given up early isn't looked at.
+pub fn has_unfinished(job: &Job, reports: &[RankReport]) -> bool
+    ensures { result ≡ has_unfinished job.now reports.now }
+{
+    reports.iter().any(|report| leaves_unfinished(job, report))
+}
+
+/// Whether some step of a rank was left unfinished, that may not be given up early.
+fn leaves_unfinished(job: &Job, report: &RankReport) -> bool
+    ensures { result ≡ leaves_unfinished job.now report.now }
+{
+    left_from(job, report.me().number, report.steps())
+}
+
+/// Whether one of these steps of a rank was left unfinished, that may not be given up early.
+fn left_from(job: &Job, rank: u8, steps: &[StepReport]) -> bool
+    ensures { result ≡ left_from job.now rank 0 steps.now }
+{
+    for (k, step) in steps.iter().enumerate() {
+        if is_unfinished(step) && !job.may_leave(rank, k) {
+            return true;
+        }
+    }
+    false
+}
+
+/// Whether a step was left unfinished.
+pub(crate) fn is_unfinished(step: &StepReport) -> bool
+    ensures { result ≡ is_unfinished step.now.answer }
+{
+    match step.answer {
+        StepAnswer::Unfinished => true,
+        _ => false,
+    }
+}
