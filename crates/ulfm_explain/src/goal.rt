@@ -4,7 +4,7 @@ use crate::misplaced::place_of;
 use std::alloc::{AllocError, Global};
 use crate::answers_at;
 use ulfm_reader::{Reading, name_at};
-use ulfm_replies::{Form, Wanted, Wording, asked_at};
+use ulfm_command_line::{Form, Wanted, Wording, asked_at};
 use ulfm_job::Place;
 
 /// How an answer is named.

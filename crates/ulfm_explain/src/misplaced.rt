@@ -3,7 +3,7 @@
 use std::alloc::{AllocError, Global};
 use ulfm_job::Job;
 use ulfm_reader::ReadJob;
-use ulfm_replies::Wanted;
+use ulfm_command_line::Wanted;
 use ulfm_job::{Place, Stop};
 
 /// Where the words stop ranks.

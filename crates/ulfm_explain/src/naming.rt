@@ -4,7 +4,7 @@ use crate::misplaced::place_of;
 use std::alloc::{AllocError, Global};
 use strsim::osa_distance;
 use ulfm_reader::Name;
-use ulfm_replies::{Form, Wanted, Wording, asked_at};
+use ulfm_command_line::{Form, Wanted, Wording, asked_at};
 
 /// The most edits to a name that is told as the nearest.
 const MOST_EDITS: usize = 2;

@@ -9,7 +9,7 @@ use std::alloc::{AllocError, Global};
 use std::io::Write;
 use crate::{Explanation, explain, warnings};
 use ulfm_reader::write_whole;
-use ulfm_replies::{DONE, JOB_REFUSED, PAST_LIMIT, Remark, Reply, RunOptions, Wanted};
+use ulfm_command_line::{DONE, JOB_REFUSED, PAST_LIMIT, Remark, Reply, RunOptions, Wanted};
 
 /// Why no stop can be put into a good job.
 const NO_ROOM: &str =

@@ -3,7 +3,7 @@
 use crate::counted::Counted;
 use std::alloc::{AllocError, Global};
 use ulfm_job::Text;
-use ulfm_replies::{Remark, Verdict};
+use ulfm_command_line::{Remark, Verdict};
 use ulfm_job::Place;
 
 /// What stands above the lines of each kind, in their order.

@@ -30,7 +30,7 @@
 //! - `place.rt`, `stop.rt`: a place, and the job at it (`job_at`); `listing.rt`: all places (`places_of`); `reading.rt`: a place as text
 //! - `own.rt`, `moved.rt`, `copied.rt`: stops of the job's own, numbers beside a stop, a job once more
 //!
-//! Not here: what else a text asks at a place (`ulfm_replies`).
+//! Not here: what else a text asks at a place (`ulfm_command_line`).
 #![tactic(auto)]
 
 mod clause;

@@ -15,9 +15,9 @@ use Rattle.ulfm_list.specs.declared.listed.Listed.{Listed}
 use Rattle.ulfm_job.specs.declared.clause.Clause.{Clause}
 use Rattle.ulfm_job.specs.Places.{places_of}
 use Rattle.ulfm_json.specs.declared.form.Form.{Form}
-use Rattle.ulfm_replies.specs.Stopped.{Asked, IsAskedAt, asked_at}
-use Rattle.ulfm_replies.specs.Wish.{ChoiceView}
-use Rattle.ulfm_replies.specs.declared.command.ListOptions.{ListOptions}
+use Rattle.ulfm_command_line.specs.Stopped.{Asked, IsAskedAt, asked_at}
+use Rattle.ulfm_command_line.specs.Wish.{ChoiceView}
+use Rattle.ulfm_command_line.specs.declared.command.ListOptions.{ListOptions}
 use Rattle.ulfm_list.specs.declared.judgement.Judgement.{Judgement}
 use Rattle.ulfm_list.specs.declared.judgement.Judgement.TheVariants.{NotKnown}
 use Rattle.ulfm_outcomes_reply.specs.declared.finding.Finding.{Finding}

@@ -5,7 +5,7 @@ use Rattle.std.proofs.lemmas.List.{drop-drop, drop_all, take-append-drop}
 use Rattle.std.proofs.lemmas.Nat.{div-add-mod'}
 use Rattle.std.specs.Fork.{slice_chunk}
 use Rattle.std.specs.declared.alloc.AllocError.{AllocError}
-use Rattle.ulfm_replies.specs.Stopped.{Asked}
+use Rattle.ulfm_command_line.specs.Stopped.{Asked}
 use Rattle.ulfm_job.specs.declared.place.Place.{Place}
 use Rattle.ulfm_outcomes_reply.specs.inside.Parts.{AreParts, IsPart}
 use Rattle.ulfm_outcomes_reply.specs.declared.lists.Lists.{Lists}

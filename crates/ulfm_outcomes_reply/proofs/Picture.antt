@@ -22,11 +22,11 @@ use Rattle.ulfm_list.specs.Told.{told_in}
 use Rattle.ulfm_list.specs.declared.listed.Listed.{Listed}
 use Rattle.ulfm_list.specs.declared.told.Told.{Told}
 use Rattle.ulfm_list.specs.declared.told.Told.TheVariants as told
-use Rattle.ulfm_replies.specs.Stopped.{Asked, asked_at}
-use Rattle.ulfm_replies.specs.declared.reply.Reply.{Reply}
+use Rattle.ulfm_command_line.specs.Stopped.{Asked, asked_at}
+use Rattle.ulfm_command_line.specs.declared.reply.Reply.{Reply}
 use Rattle.ulfm_outcomes_reply.specs.EachPlace.{IsUndrawn}
 use Rattle.ulfm_outcomes_reply.specs.inside.Judging.{IsDrawnThere, IsFirstDrawn}
-use Rattle.ulfm_replies.specs.declared.command.ListOptions.{ListOptions}
+use Rattle.ulfm_command_line.specs.declared.command.ListOptions.{ListOptions}
 use Rattle.ulfm_job.specs.declared.place.Place.{Place}
 use Rattle.ulfm_outcomes_reply.specs.Drawn.{IsDrawn, first_left, left_drawn, left_of, no_picture, picture}
 use Rattle.ulfm_outcomes_reply.specs.Wanted.{HasList}

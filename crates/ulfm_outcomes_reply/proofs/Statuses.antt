@@ -8,12 +8,12 @@ use Rattle.ulfm_list.specs.declared.unmet.Unmet.{Unmet}
 use Rattle.ulfm_reach.specs.declared.reached.Reached.{Reached}
 use Rattle.ulfm_list.specs.Union.{some_never_ends as each_never_ends}
 use Rattle.ulfm_json.specs.declared.form.Form.{Form}
-use Rattle.ulfm_replies.proofs.Statuses as statuses
-use Rattle.ulfm_replies.proofs.Statuses.{IsKnown, no_play}
-use Rattle.ulfm_replies.specs.Failure.{out_of_memory_in}
-use Rattle.ulfm_replies.specs.Stopped.{Asked}
-use Rattle.ulfm_replies.specs.Wish.{ChoiceView}
-use Rattle.ulfm_replies.specs.declared.command.ListOptions.{ListOptions}
+use Rattle.ulfm_command_line.proofs.Statuses as statuses
+use Rattle.ulfm_command_line.proofs.Statuses.{IsKnown, no_play}
+use Rattle.ulfm_command_line.specs.Failure.{out_of_memory_in}
+use Rattle.ulfm_command_line.specs.Stopped.{Asked}
+use Rattle.ulfm_command_line.specs.Wish.{ChoiceView}
+use Rattle.ulfm_command_line.specs.declared.command.ListOptions.{ListOptions}
 use Rattle.ulfm_outcomes_reply.specs.EachPlace as each
 use Rattle.ulfm_outcomes_reply.specs.EachPlace.{IsEachPlaceReply, IsJudgedEach}
 use Rattle.ulfm_outcomes_reply.specs.Drawn.{IsDrawn, no_picture, picture}

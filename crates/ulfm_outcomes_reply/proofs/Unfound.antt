@@ -9,8 +9,8 @@ use Rattle.std.specs.Prelude.{All}
 use Rattle.ulfm_job.specs.declared.place.Place.{Place}
 use Rattle.ulfm_list.specs.declared.listed.Listed.{Listed}
 use Rattle.ulfm_json.specs.declared.form.Form.{Form}
-use Rattle.ulfm_replies.specs.Stopped.{Asked, asked_at}
-use Rattle.ulfm_replies.specs.declared.command.ListOptions.{ListOptions}
+use Rattle.ulfm_command_line.specs.Stopped.{Asked, asked_at}
+use Rattle.ulfm_command_line.specs.declared.command.ListOptions.{ListOptions}
 use Rattle.ulfm_list.specs.declared.judgement.Judgement.{Judgement}
 use Rattle.ulfm_list.specs.declared.judgement.Judgement.TheVariants.{NotKnown}
 use Rattle.ulfm_outcomes_reply.specs.declared.finding.Finding.{Finding}

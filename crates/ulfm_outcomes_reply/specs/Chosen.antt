@@ -14,8 +14,8 @@ use Rattle.ulfm_list.specs.declared.listed.Listed.{Listed}
 use Rattle.ulfm_reach.specs.declared.reached.Reached.{Reached}
 use Rattle.ulfm_reader.specs.Reacting.{name_at}
 use Rattle.ulfm_reader.specs.declared.name.Name.{Name}
-use Rattle.ulfm_replies.specs.Stopped.{Asked}
-use Rattle.ulfm_replies.specs.Wish.{ChoiceView}
+use Rattle.ulfm_command_line.specs.Stopped.{Asked}
+use Rattle.ulfm_command_line.specs.Wish.{ChoiceView}
 
 -- the parts of a text between commas, if there is one
 abbrev pub parts_of : Option (List ℕ) → List (List ℕ)

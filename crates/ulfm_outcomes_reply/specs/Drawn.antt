@@ -13,8 +13,8 @@ use Rattle.ulfm_json.specs.declared.style.Style.{Style}
 use Rattle.ulfm_list.specs.Told.{told_in}
 use Rattle.ulfm_list.specs.declared.told.Told.TheVariants as told
 use Rattle.ulfm_schedule.specs.declared.schedule.Schedule.{Schedule}
-use Rattle.ulfm_replies.specs.Stopped.{Asked}
-use Rattle.ulfm_replies.specs.declared.command.ListOptions.{ListOptions}
+use Rattle.ulfm_command_line.specs.Stopped.{Asked}
+use Rattle.ulfm_command_line.specs.declared.command.ListOptions.{ListOptions}
 use Rattle.ulfm_job.specs.declared.place.Place.{Place}
 
 -- a step that never ends, by the rows of a list, if it doesn't: no job has 65,536

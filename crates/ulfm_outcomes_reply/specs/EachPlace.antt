@@ -12,11 +12,11 @@ use Rattle.ulfm_list.specs.declared.listed.Listed.{Listed}
 use Rattle.ulfm_list.specs.declared.judgement.Judgement.{Judgement}
 use Rattle.ulfm_list.specs.declared.judgement.Judgement.TheVariants.{NotKnown}
 use Rattle.ulfm_json.specs.declared.form.Form.{Form}
-use Rattle.ulfm_replies.specs.Failure.{out_of_memory_in}
-use Rattle.ulfm_replies.specs.Replies.{refused_in}
-use Rattle.ulfm_replies.specs.Stopped.{Asked, IsAskedAt, IsRefusal, asked_at}
-use Rattle.ulfm_replies.specs.declared.command.ListOptions.{ListOptions}
-use Rattle.ulfm_replies.specs.Wish.{ChoiceView}
+use Rattle.ulfm_command_line.specs.Failure.{out_of_memory_in}
+use Rattle.ulfm_command_line.specs.Replies.{refused_in}
+use Rattle.ulfm_command_line.specs.Stopped.{Asked, IsAskedAt, IsRefusal, asked_at}
+use Rattle.ulfm_command_line.specs.declared.command.ListOptions.{ListOptions}
+use Rattle.ulfm_command_line.specs.Wish.{ChoiceView}
 use Rattle.ulfm_list.specs.declared.unmet.Unmet.{Unmet}
 use Rattle.ulfm_outcomes_reply.specs.Chosen.{lists_in, no_name, unknown_part}
 use Rattle.ulfm_outcomes_reply.specs.Drawn.{IsDrawn, left_drawn}

@@ -7,8 +7,8 @@ use Rattle.ulfm_list.specs.Text.{never_ends}
 use Rattle.ulfm_list.specs.declared.judgement.Judgement.{Judgement}
 use Rattle.ulfm_list.specs.Numbers.{number_at}
 use Rattle.ulfm_list.specs.declared.listed.Listed.{Listed}
-use Rattle.ulfm_replies.specs.Holding.{expects, stops_at}
-use Rattle.ulfm_replies.specs.Stopped.{Asked}
+use Rattle.ulfm_command_line.specs.Holding.{expects, stops_at}
+use Rattle.ulfm_command_line.specs.Stopped.{Asked}
 use Rattle.ulfm_job.specs.declared.place.Place.{Place}
 use Rattle.ulfm_job.specs.declared.place.Place.TheVariants.{Nowhere}
 use Rattle.ulfm_job.specs.declared.stop.Stop.{Stop}

@@ -6,7 +6,7 @@ use Rattle.ulfm_reach.specs.declared.reach.Reach.TheVariants.{All, More}
 use Rattle.ulfm_reach.specs.declared.reached.Reached.{Reached}
 use Rattle.ulfm_job.specs.declared.place.Place.{Place}
 use Rattle.ulfm_list.specs.declared.listed.Listed.{Listed}
-use Rattle.ulfm_replies.specs.Stopped.{Asked, asked_at}
+use Rattle.ulfm_command_line.specs.Stopped.{Asked, asked_at}
 
 -- the job that is asked for at a place
 abbrev pub job_asked_at : Place → Asked → JobView

@@ -17,10 +17,10 @@ use Rattle.ulfm_list.specs.declared.judgement.Judgement.{Judgement}
 use Rattle.ulfm_list.specs.Told.{told_in}
 use Rattle.ulfm_list.specs.declared.told.Told.TheVariants as told
 use Rattle.ulfm_schedule.specs.declared.schedule.Schedule.{Schedule}
-use Rattle.ulfm_replies.specs.Failure.{out_of_memory_in}
-use Rattle.ulfm_replies.specs.Stopped.{Asked, IsAskedAt, IsRefusal, reading_as}
-use Rattle.ulfm_replies.specs.declared.command.ListOptions.{ListOptions}
-use Rattle.ulfm_replies.specs.Wish.{ChoiceView}
+use Rattle.ulfm_command_line.specs.Failure.{out_of_memory_in}
+use Rattle.ulfm_command_line.specs.Stopped.{Asked, IsAskedAt, IsRefusal, reading_as}
+use Rattle.ulfm_command_line.specs.declared.command.ListOptions.{ListOptions}
+use Rattle.ulfm_command_line.specs.Wish.{ChoiceView}
 use Rattle.ulfm_list.specs.declared.unmet.Unmet.{Unmet}
 use Rattle.ulfm_outcomes_reply.specs.Drawn.{IsDrawn, left_drawn}
 use Rattle.ulfm_outcomes_reply.specs.Hangs.{judgement_alone}

@@ -13,10 +13,10 @@ use Rattle.ulfm_outcomes_spec.specs.Told.{IsTold}
 use Rattle.ulfm_list.specs.Goals.{AreOfClauses}
 use Rattle.ulfm_list.specs.declared.goals.Goals.{Goals}
 use Rattle.ulfm_json.specs.declared.form.Form.{Form}
-use Rattle.ulfm_replies.specs.Failure.{out_of_memory_in}
-use Rattle.ulfm_replies.specs.Replies.{refused_in}
-use Rattle.ulfm_replies.specs.Stopped.{Asked, IsAskedAt, IsRefusal, asked_at, clauses_beside}
-use Rattle.ulfm_replies.specs.declared.command.ListOptions.{ListOptions}
+use Rattle.ulfm_command_line.specs.Failure.{out_of_memory_in}
+use Rattle.ulfm_command_line.specs.Replies.{refused_in}
+use Rattle.ulfm_command_line.specs.Stopped.{Asked, IsAskedAt, IsRefusal, asked_at, clauses_beside}
+use Rattle.ulfm_command_line.specs.declared.command.ListOptions.{ListOptions}
 use Rattle.ulfm_outcomes_reply.specs.Outcomes.{goals_asked, no_goal, nowhere_in}
 use Rattle.ulfm_list.specs.Told.{told_in}
 use Rattle.ulfm_list.specs.declared.told.Told.{Told}

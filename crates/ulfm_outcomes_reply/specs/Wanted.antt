@@ -21,9 +21,9 @@ use Rattle.ulfm_list.specs.Told.{row_in, unmet_in}
 use Rattle.ulfm_list.specs.declared.told.Told.{Told}
 use Rattle.ulfm_list.specs.declared.told.Told.TheVariants as told
 use Rattle.ulfm_schedule.specs.declared.schedule.Schedule.{Schedule}
-use Rattle.ulfm_replies.specs.Asking.{is_looked_at}
-use Rattle.ulfm_replies.specs.Stopped.{Asked}
-use Rattle.ulfm_replies.specs.declared.command.ListOptions.{ListOptions}
+use Rattle.ulfm_command_line.specs.Asking.{is_looked_at}
+use Rattle.ulfm_command_line.specs.Stopped.{Asked}
+use Rattle.ulfm_command_line.specs.declared.command.ListOptions.{ListOptions}
 
 -- these are the rows of a list of all outcomes of the job
 abbrev pub HasList : JobView → ℕ → List (List ℕ) → Type 0

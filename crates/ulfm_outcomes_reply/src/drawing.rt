@@ -2,7 +2,7 @@
 ghost use Rattle.std.specs.Prelude.{◌≡◌, Some, IfOk, map, string_bytes};
 ghost use Rattle.ulfm_outcomes_spec.specs.Unmet.{Judges};
 ghost use Rattle.ulfm_list.specs.Listed.{step_view};
-ghost use Rattle.ulfm_replies.specs.Stopped.{asked_at, asked_view};
+ghost use Rattle.ulfm_command_line.specs.Stopped.{asked_at, asked_view};
 ghost use Rattle.ulfm_outcomes_reply.specs.Drawn.{IsDrawn, first_left, left_drawn, left_of};
 ghost use Rattle.ulfm_outcomes_reply.specs.Wanted.{HasList};
 ghost use Rattle.ulfm_outcomes_reply.specs.inside.Judging.{AreListedOf, IsDrawnThere, IsFirstDrawn, IsListedOf};
@@ -18,7 +18,7 @@ use ulfm_list::{JobStep, Unmet, is_stuck, steps_of};
 use ulfm_list::Listed;
 use ulfm_reach::{Rows, Watch};
 use ulfm_reader::Reading;
-use ulfm_replies::{Place, Reply, stopped_at};
+use ulfm_command_line::{Place, Reply, stopped_at};
 
 /// The picture at the first of these places where a step never ends, where one is asked for.
 pub(crate) fn first_drawn<F: Finder, L: Onlooker>(

@@ -3,8 +3,8 @@
 ghost use Rattle.std.specs.Prelude.{◌≡◌, ◌<◌, ◌≤◌, ℕ, List, None, IfOk, string_bytes};
 ghost use Rattle.ulfm_list.specs.Told.{more_at};
 ghost use Rattle.ulfm_job.specs.declared.place.Place.TheVariants.{Nowhere};
-ghost use Rattle.ulfm_replies.specs.Stopped.{IsAskedAt, asked_view};
-ghost use Rattle.ulfm_replies.specs.Wish.{choice_view};
+ghost use Rattle.ulfm_command_line.specs.Stopped.{IsAskedAt, asked_view};
+ghost use Rattle.ulfm_command_line.specs.Wish.{choice_view};
 ghost use Rattle.ulfm_outcomes_reply.specs.Chosen.{unknown_part};
 ghost use Rattle.ulfm_outcomes_reply.specs.EachPlace.{IsEachPlaceReply};
 ghost use Rattle.ulfm_outcomes_reply.specs.inside.Judging.{AreListedOf, AreSharing, IsEachText, lists_judgement, lists_status, lists_text};
@@ -28,7 +28,7 @@ use ulfm_list::Judgement;
 use ulfm_job::{JobFault, MOST_STEPS};
 use ulfm_list::{lists_of, push_more_at, some_never_ends};
 use ulfm_reader::Reading;
-use ulfm_replies::{ListOptions, MOST_THREADS, PAST_LIMIT, Place, Reply, asked_at, refusal};
+use ulfm_command_line::{ListOptions, MOST_THREADS, PAST_LIMIT, Place, Reply, asked_at, refusal};
 use ulfm_job::places;
 
 /// The reply of `outcomes --stops` by this search. The onlooker is told how far the lists and the searches are.

@@ -1,11 +1,11 @@
 //! What was found that a job doesn't want.
 ghost use Rattle.std.specs.Prelude.{◌≡◌};
-ghost use Rattle.ulfm_replies.specs.Stopped.{asked_view};
+ghost use Rattle.ulfm_command_line.specs.Stopped.{asked_view};
 ghost use Rattle.ulfm_outcomes_reply.specs.Wanted.{asks};
 
 use ulfm_list::Judgement;
 use ulfm_reader::Reading;
-use ulfm_replies::Reply;
+use ulfm_command_line::Reply;
 
 /// What was found that a job doesn't want: what a list comes to with it, and what is told below.
 #[derive(Drop)]

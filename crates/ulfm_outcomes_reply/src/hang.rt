@@ -3,7 +3,7 @@
 ghost use Rattle.std.specs.Prelude.{◌≡◌, IfOk, map};
 ghost use Rattle.std.specs.List.{list_any};
 ghost use Rattle.ulfm_list.specs.Listed.{step_view};
-ghost use Rattle.ulfm_replies.specs.Stopped.{asked_view};
+ghost use Rattle.ulfm_command_line.specs.Stopped.{asked_view};
 ghost use Rattle.ulfm_outcomes_reply.specs.Hangs.{hangs_at, hangs_somewhere, is_hang, judgement_alone, judgement_of_all};
 
 use crate::finding::asks;
@@ -13,7 +13,7 @@ use ulfm_list::{JobStep, Judgement, OpenStep, is_stuck, steps_of};
 use ulfm_list::{Listed, number_at};
 use ulfm_reach::Rows;
 use ulfm_reader::Reading;
-use ulfm_replies::{expects, stops_at};
+use ulfm_command_line::{expects, stops_at};
 use ulfm_job::{Place, Stop};
 
 /// A step that never ends in some schedule.

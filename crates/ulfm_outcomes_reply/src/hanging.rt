@@ -7,7 +7,7 @@ use ulfm_list::{Goals, OpenStep};
 use ulfm_job::Job;
 use ulfm_list::{Told, push_schedule_in};
 use ulfm_reach::Watch;
-use ulfm_replies::Remark;
+use ulfm_command_line::Remark;
 
 /// A schedule in which this step of a job never ends, if one is found within the limit.
 pub(crate) fn hanging<F: Finder, W: Watch>(

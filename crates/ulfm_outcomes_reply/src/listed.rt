@@ -1,12 +1,12 @@
 //! The reply of `outcomes`: a line for each step, with all that it may be answered, and below it a schedule that shows what the job doesn't
 //! want.
 ghost use Rattle.std.specs.Prelude.{◌≡◌, ◌++◌, ℕ, List, None, IfOk, option_map, string_bytes};
-ghost use Rattle.ulfm_replies.specs.Stopped.{IsAskedAt, asked_view};
+ghost use Rattle.ulfm_command_line.specs.Stopped.{IsAskedAt, asked_view};
 ghost use Rattle.ulfm_reach.specs.declared.reach.Reach.TheVariants.{All};
 ghost use Rattle.ulfm_outcomes_spec.specs.Outcomes.{IsList};
 ghost use Rattle.ulfm_list.specs.Objects.{more_in};
 ghost use Rattle.ulfm_list.specs.Text.{some_never_ends};
-ghost use Rattle.ulfm_replies.specs.Wish.{choice_view};
+ghost use Rattle.ulfm_command_line.specs.Wish.{choice_view};
 ghost use Rattle.ulfm_outcomes_reply.specs.Chosen.{list_in, unknown_part};
 ghost use Rattle.ulfm_outcomes_reply.specs.Drawn.{left_drawn};
 ghost use Rattle.ulfm_outcomes_reply.specs.ListReply.{IsListReply};
@@ -29,7 +29,7 @@ use ulfm_outcomes_spec::Finder;
 use ulfm_list::{Judgement, list_of, more_in, some_never_end};
 use ulfm_reach::{Reach, Reached, Watch};
 use ulfm_reader::Reading;
-use ulfm_replies::{DONE, PAST_LIMIT, Reply, UNFINISHED, asked_at};
+use ulfm_command_line::{DONE, PAST_LIMIT, Reply, UNFINISHED, asked_at};
 
 /// The reply of `outcomes` by this search, perhaps with answers that a schedule is to show. Where a picture is asked for without any, it shows a
 /// step that never ends. `watch` is told how far it is.

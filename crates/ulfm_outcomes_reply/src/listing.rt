@@ -3,7 +3,7 @@ ghost use Rattle.std.specs.Prelude.{All, IfOk};
 ghost use Rattle.ulfm_job.specs.Place.{IsPlaceOf};
 ghost use Rattle.ulfm_outcomes_reply.specs.Lists.{AreLists};
 ghost use Rattle.ulfm_outcomes_reply.specs.inside.Parts.{IsListOf};
-ghost use Rattle.ulfm_replies.specs.Stopped.{asked_view};
+ghost use Rattle.ulfm_command_line.specs.Stopped.{asked_view};
 
 use crate::lists::Lists;
 use crate::onlooker::{Onlooker, Seen};
@@ -13,7 +13,7 @@ use ulfm_outcomes_spec::Finder;
 use ulfm_list::Listed;
 use ulfm_reach::Reach;
 use ulfm_reader::Reading;
-use ulfm_replies::stopped_at;
+use ulfm_command_line::stopped_at;
 use ulfm_job::Place;
 
 /// The list of a place, or nothing where the job has more states there than the limit.

@@ -7,7 +7,7 @@ use ulfm_job::{Job, Step};
 use ulfm_list::{Listed, number_at};
 use ulfm_reach::Rows;
 use ulfm_reader::Reading;
-use ulfm_replies::{Place, Remark, StepTold};
+use ulfm_command_line::{Place, Remark, StepTold};
 
 /// How such answers begin: a communicator, a rank, a tag or a request that isn't there, or one that the rank made before.
 const MISTAKES: [&str; 5] = [

@@ -8,7 +8,7 @@ use ulfm_list::Told;
 use ulfm_schedule::{Course, Schedule};
 use ulfm_reach::Rows;
 use ulfm_reader::Reading;
-use ulfm_replies::{Remark, StepTold, is_looked_at, push_unmet_answers};
+use ulfm_command_line::{Remark, StepTold, is_looked_at, push_unmet_answers};
 
 /// Which steps each schedule skips, by a list below which nothing stands.
 pub fn skipped_in(alloc: Global, asked: &Reading, found: &Rows) -> Result<Vec<Remark>, AllocError> {

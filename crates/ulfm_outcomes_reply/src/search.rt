@@ -11,7 +11,7 @@ use ulfm_job::Job;
 use ulfm_json::Form;
 use ulfm_list::Told;
 use ulfm_reach::{Reach, Watch};
-use ulfm_replies::{Choice, ListOptions};
+use ulfm_command_line::{Choice, ListOptions};
 
 /// What a command looks by for outcomes and schedules.
 #[derive(Drop)]

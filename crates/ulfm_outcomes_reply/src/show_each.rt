@@ -4,7 +4,7 @@ ghost use Rattle.ulfm_job.specs.Place.{IsPlaceOf, job_at};
 ghost use Rattle.ulfm_outcomes_reply.specs.ShowEach.{AreGoalsAt, IsShowEachReply, beside};
 ghost use Rattle.ulfm_outcomes_reply.specs.inside.Judging.{IsFirstLook, IsInside, IsLookAt, IsLookAtText, look_at_status};
 ghost use Rattle.ulfm_outcomes_reply.specs.inside.Looking.{IsLookText, look_status};
-ghost use Rattle.ulfm_replies.specs.Stopped.{IsAskedAt, asked_at, asked_view};
+ghost use Rattle.ulfm_command_line.specs.Stopped.{IsAskedAt, asked_at, asked_view};
 ghost use Rattle.ulfm_job.specs.declared.place.Place.TheVariants.{Nowhere};
 
 use crate::onlooker::{Onlooker, Seen};
@@ -16,7 +16,7 @@ use ulfm_list::Goals;
 use ulfm_job::{Clause, Job, JobFault, MOST_STEPS};
 use ulfm_list::Told;
 use ulfm_reader::Reading;
-use ulfm_replies::{Place, Reply, asked_at, refusal, stopped_at};
+use ulfm_command_line::{Place, Reply, asked_at, refusal, stopped_at};
 use ulfm_job::{Stop, places};
 
 /// The reply of `outcomes --stops --show` by this search, with these answers. The onlooker is told how far the searches are.

@@ -2,7 +2,7 @@
 ghost use Rattle.std.specs.Prelude.{◌≡◌, ℕ, List, None, Some, IfOk, string_bytes};
 ghost use Rattle.ulfm_outcomes_reply.specs.Outcomes.{IsShowReply, no_goal, nowhere_in};
 ghost use Rattle.ulfm_outcomes_reply.specs.inside.Looking.{IsLookText, look_status};
-ghost use Rattle.ulfm_replies.specs.Stopped.{IsAskedAt, asked_view};
+ghost use Rattle.ulfm_command_line.specs.Stopped.{IsAskedAt, asked_view};
 
 use crate::search::Search;
 use std::alloc::{AllocError, Global};
@@ -13,7 +13,7 @@ use ulfm_json::Form;
 use ulfm_list::{Told, push_told};
 use ulfm_reach::Watch;
 use ulfm_reader::Reading;
-use ulfm_replies::{DONE, JOB_REFUSED, NO_SCHEDULE, PAST_LIMIT, Place, Remark, Reply, asked_at};
+use ulfm_command_line::{DONE, JOB_REFUSED, NO_SCHEDULE, PAST_LIMIT, Place, Remark, Reply, asked_at};
 
 /// The reply of `outcomes --show` by this search, with these answers. `watch` is told how far it is.
 pub fn show_reply<F: Finder, W: Watch>(

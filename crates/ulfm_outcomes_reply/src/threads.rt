@@ -3,7 +3,7 @@ ghost use Rattle.std.specs.Prelude.{◌≡◌, ◌<◌, All, IfOk, max};
 ghost use Rattle.std.specs.Int.{div_ceil};
 ghost use Rattle.ulfm_job.specs.Place.{IsPlaceOf};
 ghost use Rattle.ulfm_outcomes_reply.specs.Lists.{AreLists};
-ghost use Rattle.ulfm_replies.specs.Stopped.{asked_view};
+ghost use Rattle.ulfm_command_line.specs.Stopped.{asked_view};
 ghost use Rattle.ulfm_outcomes_reply.specs.inside.Parts.{AreJoined, AreParts, IsPart};
 
 use crate::listing::list_part;

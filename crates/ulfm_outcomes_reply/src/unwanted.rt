@@ -5,7 +5,7 @@ ghost use Rattle.ulfm_outcomes_spec.specs.Goals.{IsPossible};
 ghost use Rattle.ulfm_outcomes_spec.specs.Told.{IsTold};
 ghost use Rattle.ulfm_outcomes_spec.specs.Unmet.{Judges};
 ghost use Rattle.ulfm_list.specs.Unmet.{first_unmet};
-ghost use Rattle.ulfm_replies.specs.Stopped.{asked_at, asked_view};
+ghost use Rattle.ulfm_command_line.specs.Stopped.{asked_at, asked_view};
 ghost use Rattle.ulfm_outcomes_reply.specs.EachPlace.{places_in};
 ghost use Rattle.ulfm_outcomes_reply.specs.Wanted.{HasList, IsToldOf, filed};
 ghost use Rattle.ulfm_list.specs.Told.{row_in, unmet_in};
@@ -24,7 +24,7 @@ use ulfm_job::Job;
 use ulfm_list::{Listed, Told, filed_number, push_row, push_unmet};
 use ulfm_reach::{Rows, Watch};
 use ulfm_reader::Reading;
-use ulfm_replies::{NOT_EXPECTED, Place, Reply, stopped_at};
+use ulfm_command_line::{NOT_EXPECTED, Place, Reply, stopped_at};
 
 /// What is told of the first of these places where a schedule is found that isn't wanted. Where none is found, of the first with a row of
 /// `never` that can't be looked for within the limit, if there is one.

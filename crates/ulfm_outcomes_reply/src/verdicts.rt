@@ -17,7 +17,7 @@ use ulfm_list::{Judgement, Unmet};
 use ulfm_list::{Listed, Told};
 use ulfm_reach::{Rows, Watch};
 use ulfm_reader::Reading;
-use ulfm_replies::{Extent, Place, Remark, StepTold, Verdict, Where, stopped_at};
+use ulfm_command_line::{Extent, Place, Remark, StepTold, Verdict, Where, stopped_at};
 
 /// What is told of the list of a job below which nothing stands: what it comes to, which steps each schedule skips, which answers are mistakes of
 /// the script, and by `--strict` how a step never ends. Nothing where a growth was refused.

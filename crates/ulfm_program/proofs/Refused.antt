@@ -2,14 +2,14 @@
 use Rattle.std.proofs.Common.{◌≡◌, ◌≢◌, ℕ, List, [], Option, Some, None, take, refl, sym, subst}
 use Rattle.std.specs.Io.KnownBytes.{Appends}
 use Rattle.ulfm_json.specs.declared.form.Form.{Form}
-use Rattle.ulfm_replies.specs.declared.command.Wanted.{Wanted}
-use Rattle.ulfm_replies.specs.declared.command.Wanted.TheVariants.{Check, Replay, Run, Sweep, Outcomes, Places, Expand, Draw}
-use Rattle.ulfm_replies.specs.Failure.{out_of_memory_in}
-use Rattle.ulfm_replies.specs.Expanded as expanded
-use Rattle.ulfm_replies.specs.Named as named
-use Rattle.ulfm_replies.specs.Places as places
-use Rattle.ulfm_replies.specs.Replies.{starved}
-use Rattle.ulfm_replies.specs.Wish.{WishView}
+use Rattle.ulfm_command_line.specs.declared.command.Wanted.{Wanted}
+use Rattle.ulfm_command_line.specs.declared.command.Wanted.TheVariants.{Check, Replay, Run, Sweep, Outcomes, Places, Expand, Draw}
+use Rattle.ulfm_command_line.specs.Failure.{out_of_memory_in}
+use Rattle.ulfm_command_line.specs.Expanded as expanded
+use Rattle.ulfm_command_line.specs.Named as named
+use Rattle.ulfm_command_line.specs.Places as places
+use Rattle.ulfm_command_line.specs.Replies.{starved}
+use Rattle.ulfm_command_line.specs.Wish.{WishView}
 use Rattle.ulfm_outcomes_reply.proofs.Statuses.{starved_list}
 use Rattle.ulfm_program.specs.Replies.{AreRead, IsReplyBy, IsReplyIn, IsReplyStopped, IsWhole, GetsReply, GetsBeginning, GetsFrontOf, unsettled}
 use Rattle.ulfm_run_reply.specs.Played.{failed, undrawn, fell}

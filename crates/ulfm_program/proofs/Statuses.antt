@@ -1,11 +1,11 @@
 -- The statuses that replies have.
 use Rattle.std.proofs.Common.{ℕ, List, Option, Some, None}
 use Rattle.ulfm_json.specs.declared.form.Form.{Form}
-use Rattle.ulfm_replies.proofs.Statuses.{IsKnown, checked, expand_known, places_known, unnamed_known}
-use Rattle.ulfm_replies.specs.Named.{wanted_at}
-use Rattle.ulfm_replies.specs.declared.command.Wanted.{Wanted}
-use Rattle.ulfm_replies.specs.declared.command.Wanted.TheVariants.{Check, Replay, Run, Sweep, Outcomes, Places, Expand, Draw}
-use Rattle.ulfm_replies.specs.Wish.{WishView}
+use Rattle.ulfm_command_line.proofs.Statuses.{IsKnown, checked, expand_known, places_known, unnamed_known}
+use Rattle.ulfm_command_line.specs.Named.{wanted_at}
+use Rattle.ulfm_command_line.specs.declared.command.Wanted.{Wanted}
+use Rattle.ulfm_command_line.specs.declared.command.Wanted.TheVariants.{Check, Replay, Run, Sweep, Outcomes, Places, Expand, Draw}
+use Rattle.ulfm_command_line.specs.Wish.{WishView}
 use Rattle.ulfm_outcomes_reply.proofs.Statuses.{reply_known}
 use Rattle.ulfm_program.specs.Replies.{IsReplyBy, IsReplyIn, IsReplyNaming, IsReplyStopped, settled, unsettled}
 use Rattle.ulfm_run_reply.proofs.Statuses.{drawn_known, replayed, run_known, sweep_known}

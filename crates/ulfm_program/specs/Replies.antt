@@ -4,14 +4,14 @@ use Rattle.std.specs.Io.KnownBytes.{Appends}
 use Rattle.ulfm_json.specs.declared.form.Form.{Form}
 use Rattle.ulfm_outcomes_reply.specs.ListReply.{IsListReply}
 use Rattle.ulfm_run_reply.specs.Sweep.{IsSweepReply}
-use Rattle.ulfm_replies.specs.declared.command.Wanted.{Wanted}
-use Rattle.ulfm_replies.specs.declared.command.Wanted.TheVariants.{Check, Replay, Run, Sweep, Outcomes, Places, Expand, Draw}
-use Rattle.ulfm_replies.specs.Expanded.{IsExpandReply}
-use Rattle.ulfm_replies.specs.Failure.{out_of_memory_text}
-use Rattle.ulfm_replies.specs.Named.{IsNamed, IsUnnamed, wanted_at}
-use Rattle.ulfm_replies.specs.Places.{IsPlacesReply}
-use Rattle.ulfm_replies.specs.Replies.{IsCheckReply}
-use Rattle.ulfm_replies.specs.Wish.{WishView}
+use Rattle.ulfm_command_line.specs.declared.command.Wanted.{Wanted}
+use Rattle.ulfm_command_line.specs.declared.command.Wanted.TheVariants.{Check, Replay, Run, Sweep, Outcomes, Places, Expand, Draw}
+use Rattle.ulfm_command_line.specs.Expanded.{IsExpandReply}
+use Rattle.ulfm_command_line.specs.Failure.{out_of_memory_text}
+use Rattle.ulfm_command_line.specs.Named.{IsNamed, IsUnnamed, wanted_at}
+use Rattle.ulfm_command_line.specs.Places.{IsPlacesReply}
+use Rattle.ulfm_command_line.specs.Replies.{IsCheckReply}
+use Rattle.ulfm_command_line.specs.Wish.{WishView}
 use Rattle.ulfm_job.specs.declared.place.Place.{Place}
 use Rattle.ulfm_run_reply.specs.Played.{IsDrawReply, IsReplayReply, IsRunReply}
 

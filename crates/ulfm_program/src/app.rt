@@ -2,10 +2,10 @@
 ghost use Rattle.std.specs.Prelude.{◌≢◌, ◌≡◌, ◌≤◌, ◌⊎◌, [], false, map, IsTrue};
 ghost use Rattle.std.specs.Io.KnownBytes.{Keeps, Appends};
 ghost use Rattle.ulfm_program.specs.Replies.{IsReplyIn, IsReplyTo, IsWhole, GetsReply, GetsBeginning, GetsFront, GetsFrontOf, not_text};
-ghost use Rattle.ulfm_replies.specs.declared.command.Wanted.{Wanted};
-ghost use Rattle.ulfm_replies.specs.CommandLine.{AsksFor, HasRanges, faults, form_asked, IsWordsStatus};
-ghost use Rattle.ulfm_replies.specs.Failure.{out_of_memory_in, out_of_memory_text};
-ghost use Rattle.ulfm_replies.specs.Wish.{wish_asked, wish_view};
+ghost use Rattle.ulfm_command_line.specs.declared.command.Wanted.{Wanted};
+ghost use Rattle.ulfm_command_line.specs.CommandLine.{AsksFor, HasRanges, faults, form_asked, IsWordsStatus};
+ghost use Rattle.ulfm_command_line.specs.Failure.{out_of_memory_in, out_of_memory_text};
+ghost use Rattle.ulfm_command_line.specs.Wish.{wish_asked, wish_view};
 
 use crate::far::Far;
 use crate::progress::Progress;
@@ -20,7 +20,7 @@ use ulfm_outcomes_spec::Finder;
 use ulfm_reader::{InputFault, read_front, write_whole};
 use ulfm_json::{Form, Wording};
 use ulfm_explain::{write_fault, write_notes, write_verdict};
-use ulfm_replies::{
+use ulfm_command_line::{
     Asked, DONE, Failure, INPUT_FAILED, OUTPUT_FAILED, PAST_LIMIT, RUN_FAILED, Reply, USAGE,
     Unfollowed, asked_for, failed_line,
 };

@@ -10,7 +10,7 @@ use ulfm_outcomes_reply::Search;
 use ulfm_list::number_at;
 use ulfm_reach::{Reach, Reached};
 use ulfm_reader::Reading;
-use ulfm_replies::{Place, stopped_at};
+use ulfm_command_line::{Place, stopped_at};
 
 /// The steps at a place, rank by rank.
 #[derive(Drop)]

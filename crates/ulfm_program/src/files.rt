@@ -3,9 +3,9 @@ ghost use Rattle.std.specs.Prelude.{◌≡◌, ◌≢◌, ◌≤◌, ◌⊎◌, 
 ghost use Rattle.std.specs.Io.KnownBytes.{Keeps, Appends};
 ghost use Rattle.ulfm_program.specs.Files.{GetsAnswer, GetsAnswers, head_of};
 ghost use Rattle.ulfm_program.specs.Replies.{IsReplyIn, IsReplyTo, IsWhole, GetsReply, GetsBeginning, GetsFront, GetsFrontOf, GetsStarved};
-ghost use Rattle.ulfm_replies.specs.declared.command.Wanted.{Wanted};
-ghost use Rattle.ulfm_replies.specs.CommandLine.{AsksFor, HasRanges, IsWordsStatus, asked, faults, files_in, form_asked};
-ghost use Rattle.ulfm_replies.specs.Wish.{wish_asked, wish_view};
+ghost use Rattle.ulfm_command_line.specs.declared.command.Wanted.{Wanted};
+ghost use Rattle.ulfm_command_line.specs.CommandLine.{AsksFor, HasRanges, IsWordsStatus, asked, faults, files_in, form_asked};
+ghost use Rattle.ulfm_command_line.specs.Wish.{wish_asked, wish_view};
 
 use crate::app::{follow, run_on, write_starved};
 use crate::page::{tell_unpaged, write_page};
@@ -21,7 +21,7 @@ use std::time::Clock;
 use ulfm_outcomes_spec::Finder;
 use ulfm_reader::write_whole;
 use ulfm_json::{Form, Wording};
-use ulfm_replies::{Asked, DONE, INPUT_FAILED, OUTPUT_FAILED, Unfollowed, asked_for};
+use ulfm_command_line::{Asked, DONE, INPUT_FAILED, OUTPUT_FAILED, Unfollowed, asked_for};
 
 /// Follows the words for each file that they name, in turn, as `run_on` follows them with that file's bytes as its input, or for `input`
 /// where they name none. Above the answers of several files stands a line with each one's name. A file that can't be read has the status

@@ -15,7 +15,7 @@
 //!     let status = run_each(&rt, &Exploration, alloc, words, &mut input, &mut output, &mut errors);
 //!
 //! The theorem is the clause `replies` of [`run_on`]: what it writes is `IsReplyTo` of specs/Replies.antt, the reply to these bytes for each of
-//! the commands. It stands on the contracts of the replies, in `ulfm_replies`, `ulfm_run_reply` and `ulfm_outcomes_reply`. [`run_each`] says the same for
+//! the commands. It stands on the contracts of the replies, in `ulfm_command_line`, `ulfm_run_reply` and `ulfm_outcomes_reply`. [`run_each`] says the same for
 //! `input` where the words name no file, and of each file that they name (specs/Files.antt).
 //!
 //! - `files.rt`: [`run_each`], file by file
@@ -24,7 +24,7 @@
 //! - `page.rt`: the page of `--html`, beside the reply
 //! - `progress.rt`, `far.rt`: how far a search is, on standard error
 //!
-//! Not here: how words are read (`ulfm_replies`), and what standard error says of a reply (`ulfm_explain`). No contract speaks of standard error
+//! Not here: how words are read (`ulfm_command_line`), and what standard error says of a reply (`ulfm_explain`). No contract speaks of standard error
 //! or of the page. That the bytes of a file are those on the disk isn't promised either: no contract can say it.
 #![tactic(auto)]
 

@@ -9,7 +9,7 @@ use ulfm_reader::{read_front, write_whole};
 use ulfm_json::{Form, Wording};
 use ulfm_outcomes_reply::Search;
 use crate::page_of;
-use ulfm_replies::{Asked, JOB_REFUSED, ListOptions, Wanted};
+use ulfm_command_line::{Asked, JOB_REFUSED, ListOptions, Wanted};
 
 /// What is told where the words don't ask for lists of places of one job in a file.
 const UNPAGED: &str =

@@ -11,7 +11,7 @@ use std::time::{Clock, Instant};
 use ulfm_reader::write_whole;
 use ulfm_outcomes_reply::Onlooker;
 use ulfm_reach::Watch;
-use ulfm_replies::{ListOptions, Place, Wanted};
+use ulfm_command_line::{ListOptions, Place, Wanted};
 
 /// After how many states it is told.
 const STRIDE: usize = 1000;

@@ -2,8 +2,8 @@
 ghost use Rattle.std.specs.Prelude.{◌≡◌, false, IfOk, string_bytes};
 ghost use Rattle.ulfm_program.specs.Replies.{IsReplyBy, IsReplyIn, IsReplyNaming};
 ghost use Rattle.ulfm_program.specs.inside.Threads.{needs_threads};
-ghost use Rattle.ulfm_replies.specs.CommandLine.{HasRanges};
-ghost use Rattle.ulfm_replies.specs.Wish.{WishView, wish_view};
+ghost use Rattle.ulfm_command_line.specs.CommandLine.{HasRanges};
+ghost use Rattle.ulfm_command_line.specs.Wish.{WishView, wish_view};
 
 use std::alloc::{AllocError, Global};
 use std::sync::Wait;
@@ -13,7 +13,7 @@ use ulfm_json::Form;
 use ulfm_outcomes_reply::{Onlooker, Search, list_reply};
 use ulfm_run_reply::{draw_reply, replay_reply, run_reply, sweep_reply};
 use ulfm_reach::Watch;
-use ulfm_replies::{Asked, Reply, Wanted, check_reply, expand_reply, places_reply, settled_place};
+use ulfm_command_line::{Asked, Reply, Wanted, check_reply, expand_reply, places_reply, settled_place};
 
 /// The reply to what the words ask for. `watch` is told how far a list of outcomes is.
 pub fn reply_to<R, F, P>(

@@ -13,7 +13,7 @@ use ulfm_outcomes_reply::{Search, open_goals};
 use ulfm_list::{Told, filed_number, number_at};
 use ulfm_reach::Rows;
 use ulfm_reader::Reading;
-use ulfm_replies::is_looked_at;
+use ulfm_command_line::is_looked_at;
 
 /// What isn't as wanted at a place, or isn't known to be.
 #[derive(Drop)]

@@ -8,12 +8,12 @@ use Rattle.ulfm_answer.specs.Report.{Report}
 use Rattle.ulfm_script.specs.declared.fault.RunFault.{RunFault}
 use Rattle.ulfm_script.specs.declared.fault.RunFault.TheVariants as faults
 use Rattle.ulfm_json.specs.declared.form.Form.{Form}
-use Rattle.ulfm_replies.specs.declared.command.RunOptions.{RunOptions}
-use Rattle.ulfm_replies.specs.Failure.{failed_in}
+use Rattle.ulfm_command_line.specs.declared.command.RunOptions.{RunOptions}
+use Rattle.ulfm_command_line.specs.Failure.{failed_in}
 use Rattle.ulfm_run_reply.specs.Failing.{failure_of}
-use Rattle.ulfm_replies.specs.Stopped.{Asked, IsAskedAt}
-use Rattle.ulfm_replies.specs.declared.failure.Failure.{Failure}
-use Rattle.ulfm_replies.specs.declared.failure.Failure.TheVariants as run
+use Rattle.ulfm_command_line.specs.Stopped.{Asked, IsAskedAt}
+use Rattle.ulfm_command_line.specs.declared.failure.Failure.{Failure}
+use Rattle.ulfm_command_line.specs.declared.failure.Failure.TheVariants as run
 use Rattle.ulfm_run_reply.specs.Played.{IsRunReply, no_thread, untrue, crowded, fell, given_turns}
 use Rattle.ulfm_run_reply.specs.inside.Shown.{IsShown}
 

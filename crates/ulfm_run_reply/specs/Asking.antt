@@ -2,7 +2,7 @@
 use Rattle.std.specs.Prelude.{Bool, false, not, ◌&&◌, List, Option, Some, None, slice_get}
 use Rattle.std.specs.List.{list_all, list_any}
 use Rattle.ulfm_job.specs.Job.{JobView}
-use Rattle.ulfm_replies.specs.Asking.{is_looked_at}
+use Rattle.ulfm_command_line.specs.Asking.{is_looked_at}
 use Rattle.ulfm_job.specs.declared.clause.Clause.{Clause}
 use Rattle.ulfm_answer.specs.Reacting.{all_met, holds_of}
 use Rattle.ulfm_answer.specs.Report.{Report}

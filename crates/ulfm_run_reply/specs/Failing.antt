@@ -2,8 +2,8 @@
 use Rattle.std.specs.Prelude.{Option, Some, None}
 use Rattle.ulfm_script.specs.declared.fault.RunFault.{RunFault}
 use Rattle.ulfm_script.specs.declared.fault.RunFault.TheVariants as fault
-use Rattle.ulfm_replies.specs.declared.failure.Failure.{Failure}
-use Rattle.ulfm_replies.specs.declared.failure.Failure.TheVariants as run
+use Rattle.ulfm_command_line.specs.declared.failure.Failure.{Failure}
+use Rattle.ulfm_command_line.specs.declared.failure.Failure.TheVariants as run
 
 -- the failure that a fault of `run_job` is: ends that don't fit the job are none
 abbrev pub failure_of : RunFault → Option Failure

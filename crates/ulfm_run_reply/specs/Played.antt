@@ -16,12 +16,12 @@ use Rattle.ulfm_laws.specs.Room.{HaveRoom}
 use Rattle.ulfm_world.specs.Replay.{MadeAtRest}
 use Rattle.ulfm_run_reply.specs.Brief.{repeats_in}
 use Rattle.ulfm_run_reply.specs.Tally.{tally}
-use Rattle.ulfm_replies.specs.declared.command.RunOptions.{RunOptions}
-use Rattle.ulfm_replies.specs.Failure.{failed_in, out_of_memory_in}
+use Rattle.ulfm_command_line.specs.declared.command.RunOptions.{RunOptions}
+use Rattle.ulfm_command_line.specs.Failure.{failed_in, out_of_memory_in}
 use Rattle.ulfm_run_reply.specs.Asking.{as_asked}
-use Rattle.ulfm_replies.specs.Stopped.{Asked, IsAskedAt, IsRefusal}
+use Rattle.ulfm_command_line.specs.Stopped.{Asked, IsAskedAt, IsRefusal}
 use Rattle.ulfm_run_reply.specs.Unfinished.{has_unfinished, played_status}
-use Rattle.ulfm_replies.specs.declared.failure.Failure.TheVariants as run
+use Rattle.ulfm_command_line.specs.declared.failure.Failure.TheVariants as run
 
 -- the job with the turns of the command line, where they are given
 abbrev pub given_turns : Option ℕ → JobView → JobView

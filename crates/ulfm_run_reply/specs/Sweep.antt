@@ -11,8 +11,8 @@ use Rattle.ulfm_replay.specs.Sweep.{IsSwept, place_of, places_of}
 use Rattle.ulfm_replay.specs.declared.line.SweepLine.{SweepLine}
 use Rattle.ulfm_json.specs.declared.form.Form.{Form}
 use Rattle.ulfm_json.specs.declared.form.Form.TheVariants.{Words, Json}
-use Rattle.ulfm_replies.specs.Failure.{out_of_memory_in}
-use Rattle.ulfm_replies.specs.Replies.{refused_in}
+use Rattle.ulfm_command_line.specs.Failure.{out_of_memory_in}
+use Rattle.ulfm_command_line.specs.Replies.{refused_in}
 
 -- where the stop was put, and how many answers of each kind all ranks got
 abbrev pub sweep_line : SweepLine → List ℕ

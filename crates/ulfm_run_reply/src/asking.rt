@@ -8,7 +8,7 @@ use std::alloc::Global;
 use ulfm_answer::holds_of;
 use ulfm_job::{Clause, Job};
 use ulfm_reader::Reading;
-use ulfm_replies::is_looked_at;
+use ulfm_command_line::is_looked_at;
 use ulfm_script::{RankReport, all_met};
 
 /// Whether a clause holds of the answers of its rank.

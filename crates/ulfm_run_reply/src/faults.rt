@@ -2,7 +2,7 @@
 ghost use Rattle.std.specs.Prelude.{◌≡◌};
 ghost use Rattle.ulfm_run_reply.specs.Failing.{failure_of};
 
-use ulfm_replies::Failure;
+use ulfm_command_line::Failure;
 use ulfm_script::RunFault;
 
 /// The failure that a run's fault is. Ends that don't fit the job are none: the program makes ends and deciders that fit, so that fault never

@@ -1,7 +1,7 @@
 //! The reply of `draw`: a picture of a replay.
 ghost use Rattle.std.specs.Prelude.{◌≡◌, IfOk, string_bytes};
 ghost use Rattle.ulfm_run_reply.specs.Played.{IsDrawReply};
-ghost use Rattle.ulfm_replies.specs.CommandLine.{AreTurns};
+ghost use Rattle.ulfm_command_line.specs.CommandLine.{AreTurns};
 
 use crate::turns::given_turns;
 use std::alloc::{AllocError, Global};
@@ -10,7 +10,7 @@ use ulfm_job::Job;
 use ulfm_json::{Form, Style, Wording};
 use ulfm_schedule::replayed;
 use ulfm_replay::{Played, replay_in_order};
-use ulfm_replies::{DONE, Place, Reply, asked_at};
+use ulfm_command_line::{DONE, Place, Reply, asked_at};
 
 /// The reply of `draw`, in this style.
 pub fn draw_reply(

@@ -1,14 +1,14 @@
 //! The reply of `replay`.
 ghost use Rattle.std.specs.Prelude.{IfOk, string_bytes};
 ghost use Rattle.ulfm_run_reply.specs.Played.{IsReplayReply};
-ghost use Rattle.ulfm_replies.specs.CommandLine.{AreTurns};
+ghost use Rattle.ulfm_command_line.specs.CommandLine.{AreTurns};
 
 use crate::trace::trace_reply;
 use crate::turns::given_turns;
 use std::alloc::{AllocError, Global};
 use ulfm_json::Form;
 use ulfm_replay::replay;
-use ulfm_replies::{Place, Reply, asked_at};
+use ulfm_command_line::{Place, Reply, asked_at};
 
 /// The reply of `replay`.
 pub fn replay_reply(

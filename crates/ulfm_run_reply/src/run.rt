@@ -10,7 +10,7 @@ ghost use Rattle.ulfm_board.specs.Known.{OneBoard, nothing_known};
 ghost use Rattle.ulfm_run_reply.specs.inside.Cells.{AreEnough};
 ghost use Rattle.ulfm_run_reply.specs.Played.{AreOfRanks, AreOfRun, IsRunReply};
 ghost use Rattle.ulfm_run_reply.specs.inside.Shown.{IsShown};
-ghost use Rattle.ulfm_replies.specs.CommandLine.{AreInRange};
+ghost use Rattle.ulfm_command_line.specs.CommandLine.{AreInRange};
 ghost use Rattle.ulfm_laws.specs.Lawful.{LawfulReport};
 ghost use Rattle.ulfm_run.specs.Flow.{contents};
 ghost use Rattle.ulfm_script.specs.Deciding.{Known};
@@ -27,7 +27,7 @@ use ulfm_board::{Decider, Seat, seats};
 use ulfm_carrier::{Ends, LaneEnds, SharedEnds, lanes, shared};
 use ulfm_job::Job;
 use ulfm_json::Form;
-use ulfm_replies::{Carrier, Failure, Reply, RunOptions, asked_at, failed};
+use ulfm_command_line::{Carrier, Failure, Reply, RunOptions, asked_at, failed};
 use ulfm_run::{Report, fits, run_job};
 use ulfm_script::RankReport;
 

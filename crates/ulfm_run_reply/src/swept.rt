@@ -7,7 +7,7 @@ use ulfm_job::Job;
 use ulfm_json::Form;
 use ulfm_reader::ReadJob;
 use ulfm_replay::{SweepFault, SweepLine, sweep};
-use ulfm_replies::{DONE, Reply, refusal};
+use ulfm_command_line::{DONE, Reply, refusal};
 
 /// The reply of `sweep`.
 pub fn sweep_reply(alloc: Global, form: Form, bytes: &[u8]) -> Result<Reply, AllocError>

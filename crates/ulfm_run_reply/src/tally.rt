@@ -25,7 +25,7 @@ use std::thread::Threads;
 use ulfm_job::Job;
 use ulfm_json::Form;
 use ulfm_reader::Reading;
-use ulfm_replies::{Carrier, Failure, Remark, Reply};
+use ulfm_command_line::{Carrier, Failure, Remark, Reply};
 use ulfm_script::RankReport;
 
 /// A text, as a trace, and how many runs gave it.

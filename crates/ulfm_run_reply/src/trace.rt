@@ -14,7 +14,7 @@ use ulfm_answer::{StepAnswer, StepReport};
 use ulfm_job::Job;
 use ulfm_json::Form;
 use ulfm_reader::Reading;
-use ulfm_replies::{DONE, NOT_EXPECTED, Reply, UNFINISHED};
+use ulfm_command_line::{DONE, NOT_EXPECTED, Reply, UNFINISHED};
 use ulfm_script::RankReport;
 
 /// The trace of the reports of a job's ranks, in this form, with its status, by what its text asks for.

@@ -1,7 +1,7 @@
 //! The turns of a job.
 ghost use Rattle.std.specs.Prelude.{◌≡◌};
 ghost use Rattle.ulfm_run_reply.specs.Played.{given_turns};
-ghost use Rattle.ulfm_replies.specs.CommandLine.{AreTurns};
+ghost use Rattle.ulfm_command_line.specs.CommandLine.{AreTurns};
 
 use ulfm_reader::Reading;
 

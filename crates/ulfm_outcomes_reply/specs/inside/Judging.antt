@@ -8,15 +8,15 @@ use Rattle.ulfm_list.specs.Union.{some_never_ends}
 use Rattle.ulfm_list.specs.declared.listed.Listed.{Listed}
 use Rattle.ulfm_outcomes_reply.specs.declared.lists.Lists.{Lists}
 use Rattle.ulfm_json.specs.declared.form.Form.{Form}
-use Rattle.ulfm_replies.specs.Stopped.{Asked, asked_at}
-use Rattle.ulfm_replies.specs.declared.command.ListOptions.{ListOptions}
-use Rattle.ulfm_replies.specs.declared.reply.Reply.{Reply}
+use Rattle.ulfm_command_line.specs.Stopped.{Asked, asked_at}
+use Rattle.ulfm_command_line.specs.declared.command.ListOptions.{ListOptions}
+use Rattle.ulfm_command_line.specs.declared.reply.Reply.{Reply}
 use Rattle.ulfm_outcomes_reply.specs.declared.finding.Finding.{Finding}
 use Rattle.ulfm_list.specs.declared.judgement.Judgement.{Judgement}
 use Rattle.ulfm_list.specs.declared.judgement.Judgement.TheVariants.{NotKnown}
 use Rattle.ulfm_outcomes_reply.specs.EachPlace.{IsFirstPicture, IsJudgedEach, IsToldAt, IsUndrawn, IsUnfound, places_in}
 use Rattle.ulfm_list.specs.Told.{more_at}
-use Rattle.ulfm_replies.specs.Wish.{ChoiceView}
+use Rattle.ulfm_command_line.specs.Wish.{ChoiceView}
 use Rattle.ulfm_outcomes_reply.specs.Chosen.{lists_in}
 use Rattle.ulfm_outcomes_reply.specs.Hangs.{judgement_of_all}
 use Rattle.ulfm_outcomes_reply.specs.Lists.{job_asked_at}

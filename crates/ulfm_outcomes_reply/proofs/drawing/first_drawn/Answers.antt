@@ -1,6 +1,6 @@
 use Rattle.std.proofs.Common.{All, sym, subst, ◌∙◌}
 use Rattle.std.proofs.lemmas.List.{take_all}
-use Rattle.ulfm_replies.specs.Stopped.{asked_view}
+use Rattle.ulfm_command_line.specs.Stopped.{asked_view}
 use Rattle.ulfm_outcomes_reply.specs.EachPlace.{IsUndrawn}
 use Rattle.ulfm_outcomes_reply.specs.inside.Judging.{IsListedOf}
 use Rattle.ulfm_outcomes_reply.proofs.Picture.{drawn-first, drawn-next}

@@ -1,5 +1,5 @@
 use Rattle.std.proofs.Common.{All, take}
-use Rattle.ulfm_replies.specs.Stopped.{asked_view}
+use Rattle.ulfm_command_line.specs.Stopped.{asked_view}
 use Rattle.ulfm_outcomes_reply.specs.EachPlace.{IsUndrawn}
 use Rattle.ulfm_outcomes_reply.proofs.drawing.first_drawn.Given as goal
 

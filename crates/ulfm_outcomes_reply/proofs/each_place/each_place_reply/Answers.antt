@@ -1,5 +1,5 @@
 use Rattle.std.proofs.Common.{subst}
-use Rattle.ulfm_replies.specs.Stopped.{IsAsked}
+use Rattle.ulfm_command_line.specs.Stopped.{IsAsked}
 use Rattle.ulfm_job.specs.declared.place.Place.TheVariants.{Nowhere}
 use Rattle.ulfm_outcomes_reply.specs.EachPlace.{not_listed_at_all}
 use Rattle.ulfm_outcomes_reply.proofs.each_place.each_place_reply.Goals as goal

@@ -1,8 +1,8 @@
 use Rattle.std.proofs.Common.{All, List, None, Some, string_bytes, subst, sym, ◌∙◌, arith}
 use Rattle.std.proofs.lemmas.Result.{IfOk-weaker}
 use Rattle.ulfm_job.specs.Place.{IsPlaceOf}
-use Rattle.ulfm_replies.specs.Stopped.{asked_view}
-use Rattle.ulfm_replies.specs.Wish.{choice_view}
+use Rattle.ulfm_command_line.specs.Stopped.{asked_view}
+use Rattle.ulfm_command_line.specs.Wish.{choice_view}
 use Rattle.ulfm_job.specs.declared.place.Place.{Place}
 use Rattle.ulfm_list.specs.declared.listed.Listed.{Listed}
 use Rattle.ulfm_outcomes_reply.specs.EachPlace.{drawn_at_place, no_room_for_stops}

@@ -1,7 +1,7 @@
 use Rattle.std.proofs.Common.{List, map, ap, sym, ◌∙◌}
 use Rattle.ulfm_list.specs.Listed.{step_view}
 use Rattle.ulfm_reader.proofs.Keys.{list_any-map}
-use Rattle.ulfm_replies.specs.Stopped.{asked_view}
+use Rattle.ulfm_command_line.specs.Stopped.{asked_view}
 use Rattle.ulfm_job.specs.declared.stop.Stop.{Stop}
 use Rattle.std.specs.List.{list_any}
 use Rattle.ulfm_outcomes_reply.specs.Hangs.{is_hang}

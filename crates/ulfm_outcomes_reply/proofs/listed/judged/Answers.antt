@@ -1,5 +1,5 @@
 use Rattle.std.proofs.Common.{None, string_bytes, subst}
-use Rattle.ulfm_replies.specs.Stopped.{asked_view}
+use Rattle.ulfm_command_line.specs.Stopped.{asked_view}
 use Rattle.ulfm_outcomes_reply.specs.Outcomes.{drawn}
 use Rattle.ulfm_outcomes_reply.specs.inside.Looking.{IsDrawnOf}
 use Rattle.ulfm_outcomes_reply.proofs.listed.judged.Goals as goal

@@ -1,6 +1,6 @@
 use Rattle.std.proofs.Common.{ap, sym, ◌∙◌}
 use Rattle.std.proofs.lemmas.Result.{IfOk-weaker}
-use Rattle.ulfm_replies.specs.Stopped.{asked_view}
+use Rattle.ulfm_command_line.specs.Stopped.{asked_view}
 use Rattle.ulfm_outcomes_reply.specs.Outcomes.{misnamed}
 use Rattle.ulfm_outcomes_reply.proofs.Judged.{part_now}
 use Rattle.ulfm_outcomes_reply.proofs.listed.named_reply.Goals as goal

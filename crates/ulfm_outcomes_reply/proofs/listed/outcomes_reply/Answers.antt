@@ -1,5 +1,5 @@
 use Rattle.std.proofs.Common.{subst}
-use Rattle.ulfm_replies.specs.Stopped.{IsAsked}
+use Rattle.ulfm_command_line.specs.Stopped.{IsAsked}
 use Rattle.ulfm_outcomes_reply.specs.Outcomes.{not_listed}
 use Rattle.ulfm_outcomes_reply.proofs.listed.outcomes_reply.Goals as goal
 

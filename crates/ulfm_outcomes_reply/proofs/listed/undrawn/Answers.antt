@@ -1,7 +1,7 @@
 use Rattle.std.proofs.Common.{ℕ, List, ◌++◌, None, string_bytes, subst, sym}
 use Rattle.std.proofs.lemmas.Result.{IfOk-weaker}
-use Rattle.ulfm_replies.specs.Stopped.{asked_view}
-use Rattle.ulfm_replies.specs.Wish.{choice_view}
+use Rattle.ulfm_command_line.specs.Stopped.{asked_view}
+use Rattle.ulfm_command_line.specs.Wish.{choice_view}
 use Rattle.ulfm_outcomes_reply.specs.Outcomes.{IsJudged, good, unwanted}
 use Rattle.ulfm_outcomes_reply.specs.inside.Judging.{IsUnwanted}
 use Rattle.ulfm_outcomes_reply.proofs.listed.undrawn.Goals as goal

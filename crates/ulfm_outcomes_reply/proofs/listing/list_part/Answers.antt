@@ -1,7 +1,7 @@
 use Rattle.std.proofs.Common.{◌+◌, drop, get_or, subst}
 use Rattle.std.proofs.lemmas.List.{drop_all}
 use Rattle.ulfm_job.specs.declared.place.Place.TheVariants.{Nowhere}
-use Rattle.ulfm_replies.specs.Stopped.{asked_view}
+use Rattle.ulfm_command_line.specs.Stopped.{asked_view}
 use Rattle.ulfm_outcomes_reply.specs.inside.Parts.{IsListOf}
 use Rattle.ulfm_outcomes_reply.proofs.Joining.{goes_on-end, goes_on-past}
 use Rattle.ulfm_list.proofs.Telling.{drop-get_or}

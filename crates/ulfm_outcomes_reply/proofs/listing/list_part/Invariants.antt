@@ -1,5 +1,5 @@
 use Rattle.std.proofs.Common.{drop}
-use Rattle.ulfm_replies.specs.Stopped.{asked_view}
+use Rattle.ulfm_command_line.specs.Stopped.{asked_view}
 use Rattle.ulfm_outcomes_reply.specs.inside.Parts.{GoesOn}
 use Rattle.ulfm_outcomes_reply.proofs.listing.list_part.Given as goal
 

@@ -1,5 +1,5 @@
 use Rattle.std.proofs.Common.{refl, subst}
-use Rattle.ulfm_replies.specs.Stopped.{Asked}
+use Rattle.ulfm_command_line.specs.Stopped.{Asked}
 use Rattle.ulfm_outcomes_spec.specs.Outcomes.{IsList}
 use Rattle.ulfm_reach.specs.declared.reach.Reach.TheVariants.{All}
 use Rattle.ulfm_outcomes_reply.proofs.listing.list_place.Goals as goal

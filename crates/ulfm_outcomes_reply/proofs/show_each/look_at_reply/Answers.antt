@@ -1,6 +1,6 @@
 use Rattle.std.proofs.Common.{Some, string_bytes, subst}
 use Rattle.std.proofs.lemmas.Result.{IfOk-weaker}
-use Rattle.ulfm_replies.specs.Stopped.{Asked}
+use Rattle.ulfm_command_line.specs.Stopped.{Asked}
 use Rattle.ulfm_outcomes_reply.specs.inside.Looking.{IsLookText}
 use Rattle.ulfm_outcomes_reply.proofs.show_each.look_at_reply.Goals as goal
 

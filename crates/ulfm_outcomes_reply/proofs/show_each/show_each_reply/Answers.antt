@@ -1,5 +1,5 @@
 use Rattle.std.proofs.Common.{subst}
-use Rattle.ulfm_replies.specs.Stopped.{IsAsked}
+use Rattle.ulfm_command_line.specs.Stopped.{IsAsked}
 use Rattle.ulfm_job.specs.declared.place.Place.TheVariants.{Nowhere}
 use Rattle.ulfm_outcomes_reply.specs.ShowEach.{not_shown_at_all}
 use Rattle.ulfm_outcomes_reply.proofs.show_each.show_each_reply.Goals as goal

@@ -4,7 +4,7 @@ use Rattle.ulfm_job.specs.declared.clause.Clause.{Clause}
 use Rattle.ulfm_reader.specs.Goals.{goals_view}
 use Rattle.ulfm_job.specs.Place.{IsPlaceOf}
 use Rattle.ulfm_job.specs.declared.place.Place.{Place}
-use Rattle.ulfm_replies.specs.Stopped.{asked_view}
+use Rattle.ulfm_command_line.specs.Stopped.{asked_view}
 use Rattle.ulfm_outcomes_reply.specs.ShowEach.{no_room_to_show, unnamed_at_all}
 use Rattle.ulfm_outcomes_reply.specs.inside.Judging.{IsFirstLook}
 use Rattle.ulfm_outcomes_reply.proofs.EachPlace.{look_inside, show_each_as}

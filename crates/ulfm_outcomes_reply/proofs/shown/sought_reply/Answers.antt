@@ -3,7 +3,7 @@ use Rattle.std.proofs.lemmas.Result.{IfOk-weaker}
 use Rattle.ulfm_job.specs.declared.clause.Clause.{Clause}
 use Rattle.ulfm_list.specs.Goals.{AreOfClauses}
 use Rattle.ulfm_reader.specs.Goals.{goals_view}
-use Rattle.ulfm_replies.specs.Stopped.{asked_view}
+use Rattle.ulfm_command_line.specs.Stopped.{asked_view}
 use Rattle.ulfm_outcomes_reply.specs.Outcomes.{unnamed}
 use Rattle.ulfm_outcomes_reply.proofs.Judged.{show_as}
 use Rattle.ulfm_outcomes_reply.proofs.shown.sought_reply.Goals as goal

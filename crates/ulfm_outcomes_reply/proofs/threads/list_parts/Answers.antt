@@ -1,6 +1,6 @@
 use Rattle.std.proofs.Common.{◌≤◌, ◌*◌, List, length, subst, arith, slice_index_or}
 use Rattle.ulfm_job.specs.declared.place.Place.{Place}
-use Rattle.ulfm_replies.specs.Stopped.{asked_view}
+use Rattle.ulfm_command_line.specs.Stopped.{asked_view}
 use Rattle.ulfm_outcomes_reply.specs.inside.Parts.{IsPart}
 use Rattle.ulfm_outcomes_reply.proofs.Parting.{parted, parts-enough}
 use Rattle.ulfm_outcomes_reply.proofs.threads.list_parts.Goals as goal

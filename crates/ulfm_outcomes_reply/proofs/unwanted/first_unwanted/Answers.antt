@@ -1,5 +1,5 @@
 use Rattle.std.proofs.Common.{◌+◌, subst, sym, ◌∙◌}
-use Rattle.ulfm_replies.specs.Stopped.{asked_view}
+use Rattle.ulfm_command_line.specs.Stopped.{asked_view}
 use Rattle.ulfm_outcomes_reply.specs.inside.Judging.{IsListedOf, IsUnfoundUpTo}
 use Rattle.ulfm_outcomes_reply.proofs.Unfound.{found-next, unfound-end, unfound-next}
 use Rattle.ulfm_outcomes_reply.proofs.unwanted.first_unwanted.Goals as goal

@@ -1,4 +1,4 @@
-use Rattle.ulfm_replies.specs.Stopped.{asked_view}
+use Rattle.ulfm_command_line.specs.Stopped.{asked_view}
 use Rattle.ulfm_outcomes_reply.specs.inside.Judging.{IsUnfoundUpTo}
 use Rattle.ulfm_outcomes_reply.proofs.unwanted.first_unwanted.Given as goal
 

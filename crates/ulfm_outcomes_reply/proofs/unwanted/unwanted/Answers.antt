@@ -3,7 +3,7 @@ use Rattle.std.specs.declared.alloc.Global.{Global}
 use Rattle.ulfm_job.specs.declared.clause.Clause.{Clause}
 use Rattle.ulfm_reader.specs.JobText.{rows_of}
 use Rattle.ulfm_outcomes_spec.specs.Unmet.{Judges}
-use Rattle.ulfm_replies.specs.Stopped.{asked_view}
+use Rattle.ulfm_command_line.specs.Stopped.{asked_view}
 use Rattle.ulfm_outcomes_reply.specs.inside.Looking.{IsFirstRow}
 use Rattle.ulfm_outcomes_reply.proofs.EachPlace.{row_told_as}
 use Rattle.ulfm_outcomes_reply.proofs.unwanted.unwanted.Goals as goal

@@ -1,6 +1,6 @@
 use Rattle.std.proofs.Common.{subst}
 use Rattle.std.proofs.lemmas.Result.{IfOk-weaker}
-use Rattle.ulfm_replies.specs.Stopped.{Asked, asked_view}
+use Rattle.ulfm_command_line.specs.Stopped.{Asked, asked_view}
 use Rattle.ulfm_outcomes_reply.specs.inside.Judging.{IsUnwantedAt}
 use Rattle.ulfm_outcomes_reply.proofs.EachPlace.{list_there, unwanted_there}
 use Rattle.ulfm_outcomes_reply.proofs.unwanted.unwanted_at.Goals as goal

@@ -3,7 +3,7 @@ use Rattle.ulfm_program.specs.Replies.{IsReplyIn}
 use Rattle.ulfm_program.proofs.Refused.{starved_gets, starved_begins, starved_reply}
 use Rattle.ulfm_program.proofs.Statuses.{known_status}
 use Rattle.ulfm_program.proofs.app.follow.Goals as goal
-use Rattle.ulfm_replies.specs.Wish.{wish_view}
+use Rattle.ulfm_command_line.specs.Wish.{wish_view}
 
 pub returns-in-Err-OutOfMemory-clause-replies : goal.returns-in-Err-OutOfMemory-clause-replies
 returns-in-Err-OutOfMemory-clause-replies g c = starved_gets (IsReplyIn c.args.asked.now.form (wish_view c.args.asked.now.wish) c.args.asked.now.wanted) _ (starved_reply c.args.asked.now.form (wish_view c.args.asked.now.wish) c.args.asked.now.wanted) _ _ _ _ c.write_starved.ensures.written

@@ -1,8 +1,8 @@
 use Rattle.std.proofs.Common.{◌≡◌, ◌∙◌, map, sym}
 use Rattle.std.proofs.lemmas.Option.{same_Some}
-use Rattle.ulfm_replies.specs.CommandLine.{form_asked}
-use Rattle.ulfm_replies.specs.Failure.{out_of_memory_text}
-use Rattle.ulfm_replies.specs.Wish.{wish_asked}
+use Rattle.ulfm_command_line.specs.CommandLine.{form_asked}
+use Rattle.ulfm_command_line.specs.Failure.{out_of_memory_text}
+use Rattle.ulfm_command_line.specs.Wish.{wish_asked}
 use Rattle.ulfm_program.specs.Replies.{IsReplyTo, unfollowed}
 use Rattle.ulfm_program.proofs.Followed.{followed_gets, followed_begins}
 use Rattle.ulfm_program.proofs.Refused.{starved_gets, starved_begins}

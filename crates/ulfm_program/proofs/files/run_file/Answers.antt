@@ -1,6 +1,6 @@
 use Rattle.std.proofs.Common.{[]}
-use Rattle.ulfm_replies.specs.Failure.{out_of_memory_in}
-use Rattle.ulfm_replies.specs.Wish.{wish_view}
+use Rattle.ulfm_command_line.specs.Failure.{out_of_memory_in}
+use Rattle.ulfm_command_line.specs.Wish.{wish_view}
 use Rattle.ulfm_program.specs.Files.{head_of}
 use Rattle.ulfm_program.specs.Replies.{IsReplyIn}
 use Rattle.ulfm_program.proofs.Answered.{head_cut, file_unread, file_answered}

@@ -3,7 +3,7 @@ use Rattle.ulfm_program.specs.Replies.{IsReplyIn}
 use Rattle.ulfm_program.proofs.InTurn.{wrote_none, wrote_more, wrote_all, wrote_part, next_item, items_at, items_all, several}
 use Rattle.ulfm_program.proofs.files.run_files.Goals as goal
 use Rattle.ulfm_program.proofs.files.run_files.Goals.{then-greatest-status, else-greatest-status}
-use Rattle.ulfm_replies.specs.Wish.{wish_view}
+use Rattle.ulfm_command_line.specs.Wish.{wish_view}
 
 pub loop-file-init : goal.loop-file-init
 loop-file-init g c = record { few = omega arith; wrote = wrote_none _ _ _ }

@@ -2,7 +2,7 @@ use Rattle.std.proofs.Common.{◌≤◌, map, take}
 use Rattle.ulfm_program.specs.Replies.{IsReplyIn}
 use Rattle.ulfm_program.proofs.InTurn.{Wrote}
 use Rattle.ulfm_program.proofs.files.run_files.Given as goal
-use Rattle.ulfm_replies.specs.Wish.{wish_view}
+use Rattle.ulfm_command_line.specs.Wish.{wish_view}
 
 abbrev pub invariant-loop-file : goal.invariant-loop-file
 invariant-loop-file g l = record {

@@ -1,8 +1,8 @@
 use Rattle.std.proofs.Common.{string_bytes, subst}
 use Rattle.std.proofs.lemmas.Result.{IfOk-weaker}
-use Rattle.ulfm_replies.specs.Named.{IsNamed, IsSettled}
-use Rattle.ulfm_replies.specs.Wish.{wish_view}
-use Rattle.ulfm_replies.specs.declared.command.Wanted.{Wanted}
+use Rattle.ulfm_command_line.specs.Named.{IsNamed, IsSettled}
+use Rattle.ulfm_command_line.specs.Wish.{wish_view}
+use Rattle.ulfm_command_line.specs.declared.command.Wanted.{Wanted}
 use Rattle.ulfm_program.specs.Replies.{IsReplyBy, settled, unsettled}
 use Rattle.ulfm_program.proofs.reply.naming_reply.Goals as goal
 

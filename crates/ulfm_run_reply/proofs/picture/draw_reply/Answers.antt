@@ -3,7 +3,7 @@ use Rattle.std.proofs.lemmas.Result.{IfOk-weaker}
 use Rattle.ulfm_job.specs.Job.{JobView}
 use Rattle.ulfm_reader.specs.declared.reading.Reading.{Reading}
 use Rattle.ulfm_world.specs.Replay.{MadeAtRest}
-use Rattle.ulfm_replies.specs.Stopped.{IsAsked, asked_view}
+use Rattle.ulfm_command_line.specs.Stopped.{IsAsked, asked_view}
 use Rattle.ulfm_run_reply.specs.Played.{drawn, given_turns, not_drawn}
 use Rattle.ulfm_run_reply.proofs.picture.draw_reply.Goals as goal
 

@@ -1,0 +1,51 @@
+//! The reply of `places`: a line for each place of a job.
+ghost use Rattle.std.specs.Prelude.{◌≡◌, ◌++◌, IfOk, OnOk, string_bytes};
+ghost use Rattle.ulfm_command_line.specs.Places.{IsPlacesReply, place_line_in, places_in};
+
+use crate::reply::{DONE, Reply, refusal};
+use std::alloc::{AllocError, Global};
+use ulfm_job::{Job, JobFault, MOST_STEPS};
+use ulfm_json::Form;
+use ulfm_reader::ReadJob;
+use ulfm_job::{Place, places};
+
+/// The reply of `places`, with at most so many stops, 1 or 2.
+pub fn places_reply(alloc: Global, form: Form, stops: u8, bytes: &[u8]) -> Result<Reply, AllocError>
+    ensures { IfOk result (λ r. IsPlacesReply form stops bytes.now r.status (string_bytes r.text)) }
+{
+    let job = match Job::read(alloc, bytes) {
+        Ok(job) => job,
+        Err(fault) => return refusal(alloc, form, fault),
+    };
+    if job.len() + stops as usize > MOST_STEPS {
+        return refusal(alloc, form, JobFault::TooLarge);
+    }
+    let places = places(alloc, &job, stops)?;
+    let text = places_in(alloc, form, places.as_slice())?;
+    Ok(Reply {
+        status: DONE,
+        text,
+        remarks: None,
+    })
+}
+
+/// A line for each of these places.
+fn places_in(alloc: Global, form: Form, places: &[Place]) -> Result<String, AllocError>
+    ensures { IfOk result (λ text. string_bytes text ≡ places_in form places.now) }
+{
+    let mut text = String::new(alloc);
+    for place in places {
+        push_place(&mut text, form, *place)?;
+    }
+    Ok(text)
+}
+
+/// The line of a place, in this form.
+fn push_place(text: &mut String, form: Form, place: Place) -> Result<(), AllocError>
+    ensures { OnOk result (string_bytes text.new ≡ string_bytes text.old ++ place_line_in form place) }
+{
+    match form {
+        Form::Words(_) => write!(text, "{place}\n"),
+        Form::Json => write!(text, "{{\"place\":\"{place}\"}}\n"),
+    }
+}

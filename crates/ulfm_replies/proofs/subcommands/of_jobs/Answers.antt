@@ -1,9 +1,0 @@
-use Rattle.std.proofs.Common.{ap, ap₂, ◌∙◌}
-use Rattle.std.proofs.lemmas.Result.{IfOk-weaker}
-use Rattle.clap.specs.Words.{Rule, app_of, with_rule}
-use Rattle.ulfm_replies.proofs.subcommands.of_jobs.Goals as goal
-
-pub returns-clause-app : goal.returns-clause-app
-returns-clause-app c =
-    let first = c.in_ok-command.ensures.shape c.json_flag.ensures.local ∙ ap (λ (rule : Rule). with_rule (app_of c.args.command) rule) c.json_flag.ensures.rule in
-    IfOk-weaker c.arg-2.result _ _ (λ r h. h.shape c.files.ensures.local ∙ ap₂ with_rule first c.files.ensures.rule) c.arg-2.ensures
