@@ -10,7 +10,7 @@ from collections import namedtuple
 ROOT = pathlib.Path(__file__).resolve().parents[2]
 MAIN = ROOT / "docs/HELP.txt"
 # Where the version stands.
-SOURCE, VERSION = ROOT / "crates/ulfm_replies/src/version.rt", r'const VERSION: &str = "(.*)";'
+SOURCE, VERSION = ROOT / "crates/ulfm_command_line/src/version.rt", r'const VERSION: &str = "(.*)";'
 # What comes: the status, and the texts on standard output and standard error.
 Answer = namedtuple("Answer", "status output errors")
 DONE, USAGE, INPUT_FAILED = 0, 2, 5

@@ -3,8 +3,8 @@ ghost use Rattle.std.specs.Prelude.{◌≡◌, ◌+◌, ◌<◌, ◌^◌, IsTrue
 ghost use Rattle.ulfm_match.specs.State.{is_cleared};
 
 use ulfm_base::{Context, Letter, Pattern};
-use ulfm_match::{Arrived, Matcher};
 use ulfm_match::plain::Plain;
+use ulfm_match::{Arrived, Matcher};
 
 /// What pairs letters with receives.
 pub trait Pairing: Drop {

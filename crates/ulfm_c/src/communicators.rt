@@ -3,11 +3,11 @@ ghost use Rattle.std.specs.Prelude.{◌≡◌};
 ghost use Rattle.ulfm_c.specs.Calls.{Call};
 ghost use Rattle.ulfm_c.specs.Communicators.{DupCall, GroupCall, PositionCall};
 
+use crate::Process;
 use crate::handle::Handle;
 use crate::told::{CGroup, list};
 use crate::words::{comm_of, number_of};
 use std::alloc::Global;
-use crate::Process;
 
 fn group_of(process: &Process, comm: u32, group: &mut CGroup) -> u32
     ensures { GroupCall process.now process.now comm group.old group.new result }

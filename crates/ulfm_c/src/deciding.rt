@@ -3,11 +3,11 @@ ghost use Rattle.std.specs.Prelude.{◌≡◌};
 ghost use Rattle.ulfm_c.specs.Calls.{AreKept, Call};
 ghost use Rattle.ulfm_c.specs.Deciding.{AgreeCall, ShrinkCall};
 
+use crate::Process;
 use crate::handle::Handle;
 use crate::told::{CGroup, list};
 use crate::words::{comm_of, number_of};
 use std::alloc::Global;
-use crate::Process;
 
 /// The decision of a shrink.
 fn poll_shrink(process: &mut Process, comm: u32, made: &mut u32) -> u32

@@ -2,9 +2,9 @@
 ghost use Rattle.std.specs.Prelude.{◌≡◌, Some, None, MatchOption};
 ghost use Rattle.ulfm_c.specs.Calls.{holding};
 
+use crate::Process;
 use crate::slot::Slot;
 use std::alloc::Global;
-use crate::Process;
 
 /// A process, or none: all zeros are none. Nobody copies it while it has one.
 #[repr(C)]

@@ -3,13 +3,13 @@ ghost use Rattle.std.specs.Prelude.{◌≡◌, ⊤};
 ghost use Rattle.ulfm_c.specs.Calls.{AreKept, Call};
 ghost use Rattle.ulfm_c.specs.Letters.{CancelCall, ReceiveCall, SendCall, TestCall};
 
+use crate::Process;
 use crate::handle::Handle;
 use crate::told::{CStatus, ended, tell};
 use crate::words::{comm_of, number_of, position_of, room_of, source_of, tag_of};
 use std::alloc::Global;
 use ulfm_base::{RequestId, Tag};
 use ulfm_log::Cancel;
-use crate::Process;
 
 /// A send to the member at a position.
 fn send(process: &mut Process, comm: u32, dest: u32, tag: u32, body: &[u8]) -> u32

@@ -3,12 +3,12 @@ ghost use Rattle.std.specs.Prelude.{◌≡◌};
 ghost use Rattle.ulfm_c.specs.Calls.{AreKept, Call};
 ghost use Rattle.ulfm_c.specs.Probes.{LookCall, MessageCall, ProbeCall};
 
+use crate::Process;
 use crate::handle::Handle;
 use crate::told::{CStatus, status_of, tell};
 use crate::words::{comm_of, number_of, source_of, tag_of};
 use std::alloc::Global;
 use ulfm_log::{MessageId, Probed};
-use crate::Process;
 
 /// A probe that changes nothing.
 fn iprobe(process: &Process, comm: u32, source: u32, tag: u32, status: &mut CStatus) -> u32

@@ -5,9 +5,9 @@ ghost use Rattle.ulfm_c.specs.Progress.{TellsFlushed, TurnCall};
 ghost use Rattle.ulfm_c.specs.View.{with_rank};
 ghost use Rattle.ulfm_rank.specs.Calls.{stopping};
 
+use crate::Process;
 use crate::handle::Handle;
 use std::alloc::Global;
-use crate::Process;
 
 /// A turn: 12 where the rank runs and a growth was refused.
 fn turn(process: &mut Process, moved: &mut u32) -> u32

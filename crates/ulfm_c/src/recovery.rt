@@ -3,11 +3,11 @@ ghost use Rattle.std.specs.Prelude.{◌≡◌, ⊤};
 ghost use Rattle.ulfm_c.specs.Calls.{Call};
 ghost use Rattle.ulfm_c.specs.Recovery.{AckCall, EnterAgreeCall, EnterShrinkCall, FailedCall, IsRevokedCall, RevokeCall};
 
+use crate::Process;
 use crate::handle::Handle;
 use crate::told::{CGroup, list};
 use crate::words::{comm_of, number_of, position_of};
 use std::alloc::Global;
-use crate::Process;
 
 fn revoke(process: &mut Process, comm: u32) -> u32
     ensures { RevokeCall process.old process.new comm result }

@@ -2,11 +2,11 @@
 ghost use Rattle.ulfm_c.specs.declared.process.Process.{Process as Held};
 ghost use Rattle.std.specs.Prelude.{◌≡◌, Option, Some, None, IsSome};
 
+use crate::Process;
 use crate::loose::Loose;
 use std::alloc::Global;
 use std::marker::Model;
 use std::ptr::null_mut;
-use crate::Process;
 
 /// A process, or none, which is null.
 #[repr(C)]

@@ -6,9 +6,9 @@ ghost use Rattle.ulfm_c.specs.Steps.{NextCall, PushCall, TakeCall, WouldCall, nu
 use crate::handle::Handle;
 use crate::next_item::{CNextItem, next_item};
 use crate::words::{number_of, position_of};
+use crate::{Outlook, Process};
 use std::alloc::Global;
 use ulfm_base::RequestId;
-use crate::{Outlook, Process};
 
 /// Pushes what waits to go out.
 fn push(process: &mut Process, moved: &mut u32) -> u32

@@ -4,9 +4,9 @@ ghost use Rattle.ulfm_c.specs.Worlds.{WorldCall, process_in};
 
 use crate::handle::Handle;
 use crate::words::number_of;
+use crate::{Process, world};
 use std::alloc::Global;
 use ulfm_base::{CallError, RANK_PLACES};
-use crate::{Process, world};
 
 /// The processes, each in a block of its own.
 fn boxed(alloc: Global, processes: Vec<Process>) -> Result<Vec<Box<Process>>, CallError>

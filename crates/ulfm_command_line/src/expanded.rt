@@ -10,10 +10,9 @@ ghost use Rattle.ulfm_command_line.specs.Expanded.{IsExpandReply, IsTextOf, docu
 use crate::reply::{DONE, Reply, refusal};
 use std::alloc::{AllocError, Global};
 use toml::{Table, Value};
-use ulfm_reader::written_job;
 use ulfm_job::Job;
 use ulfm_json::Form;
-use ulfm_reader::ReadJob;
+use ulfm_reader::{ReadJob, written_job};
 
 /// The reply of `expand`: the text of the job with its steps written out.
 pub fn expand_reply(alloc: Global, form: Form, bytes: &[u8]) -> Result<Reply, AllocError>

@@ -11,9 +11,8 @@ use crate::copied::{
     copied_clauses, copied_filed, copied_names, copied_provisos, copied_row, copied_texts,
 };
 use std::alloc::{AllocError, Global};
-use ulfm_job::{Clause, Job};
+use ulfm_job::{Clause, Job, Place, Stop, expecting, own_stops};
 use ulfm_reader::{Name, Proviso, Reading, Subject, named};
-use ulfm_job::{Place, Stop, expecting, own_stops};
 
 /// Whether a stop lies before the steps of a name: its rank has one, and no more steps come before the stop than before that step.
 fn lies_before(names: &[Name], text: &str, stop: Stop) -> bool

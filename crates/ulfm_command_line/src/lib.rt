@@ -63,8 +63,8 @@ pub use reply::{
     RUN_FAILED, Reply, UNFINISHED, USAGE, check_reply, refusal,
 };
 pub use stopped::{asked_at, stopped_at};
-pub use ulfm_json::{Form, Wording};
 pub use ulfm_job::Place;
+pub use ulfm_json::{Form, Wording};
 pub use unmet::push_unmet_answers;
 pub use verdict::{Extent, Verdict, Where};
 pub use wish::{Choice, Wish};

@@ -6,8 +6,8 @@ ghost use Rattle.ulfm_job.specs.Text.{is_starred, two_by, unstarred};
 ghost use Rattle.ulfm_job.specs.declared.place.Place.TheVariants.{One};
 
 use std::alloc::{AllocError, Global};
-use ulfm_reader::Name;
 use ulfm_job::{Place, Stop};
+use ulfm_reader::Name;
 
 /// Whether a byte may stand in a place: one of a name, a dot, a star or a plus.
 fn is_place_byte(byte: u8) -> bool

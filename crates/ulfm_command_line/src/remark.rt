@@ -3,9 +3,8 @@
 use crate::verdict::Verdict;
 use std::alloc::{AllocError, Global};
 use std::fmt;
-use ulfm_job::{Clause, Label, Text};
+use ulfm_job::{Clause, Label, Place, Text};
 use ulfm_reader::{Proviso, Reading, Subject, name_at};
-use ulfm_job::Place;
 
 /// A step as it is told of.
 #[derive(Drop)]

@@ -4,10 +4,9 @@ ghost use Rattle.ulfm_command_line.specs.Places.{IsPlacesReply, place_line_in, p
 
 use crate::reply::{DONE, Reply, refusal};
 use std::alloc::{AllocError, Global};
-use ulfm_job::{Job, JobFault, MOST_STEPS};
+use ulfm_job::{Job, JobFault, MOST_STEPS, Place, places};
 use ulfm_json::Form;
 use ulfm_reader::ReadJob;
-use ulfm_job::{Place, places};
 
 /// The reply of `places`, with at most so many stops, 1 or 2.
 pub fn places_reply(alloc: Global, form: Form, stops: u8, bytes: &[u8]) -> Result<Reply, AllocError>

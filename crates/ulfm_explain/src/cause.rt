@@ -8,11 +8,11 @@ use crate::rules::{Key, Rules};
 use crate::shown::Shown;
 use std::fmt;
 use toml::de::Error;
-use ulfm_reader::MOST_ROWS;
 use ulfm_job::limits::{
     FEWEST_OF_ROW, MOST_BYTES, MOST_ITEMS, MOST_LABEL, MOST_NAME, MOST_OF_ROW, MOST_STEPS,
     MOST_WORDS,
 };
+use ulfm_reader::MOST_ROWS;
 
 /// What is wrong.
 #[derive(Drop)]

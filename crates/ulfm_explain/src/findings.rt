@@ -2,12 +2,12 @@
 
 use crate::cause::Cause;
 use crate::explanation::{Explanation, StepPlace};
+use crate::first_ten::FirstTen;
 use crate::lines::Lines;
 use crate::marks::{Mark, marks_of};
 use crate::place::place_at;
 use crate::script::kept_name;
 use std::alloc::{AllocError, Global};
-use crate::first_ten::FirstTen;
 
 /// What was found in a text with these steps: its first ten explanations.
 #[derive(Drop)]

@@ -1,11 +1,11 @@
 //! Why a goal of `--show` names no answer of the job: for people, and none of it is promised.
 
+use crate::answers_at;
 use crate::misplaced::place_of;
 use std::alloc::{AllocError, Global};
-use crate::answers_at;
-use ulfm_reader::{Reading, name_at};
 use ulfm_command_line::{Form, Wanted, Wording, asked_at};
 use ulfm_job::Place;
+use ulfm_reader::{Reading, name_at};
 
 /// How an answer is named.
 const NAMED: &str =

@@ -1,32 +1,23 @@
-//! What is wrong with a job's text, and where: for people, beside the program's own line.
+//! What standard error says, for people: what is wrong with a job's text, and where, and what is to be said beside a reply.
 //!
 //!     for explanation in explain(alloc, bytes)? { .. }
+//!     write_verdict(alloc, has_colour, &reply, &mut errors);
+//!     write_notes(alloc, wanted, bytes, &reply, &mut errors);
+//!     write_fault(alloc, usage, &mut errors);
 //!
 //! [`explain`] tells why a job is refused, [`warnings`] what of a good one will be refused. One thing is promised of both: there are ten at most
 //! (clause `few`). That a job is refused, and by which line, isn't decided here but by `ulfm_reader`; the words here come from a second look at
-//! the text, and no contract says that they are right. They are held by tools/gate/bad-jobs.
+//! the text, and no contract says that they are right. They are held by tools/gate/bad-jobs. What is told of steps and rows comes with the reply.
 //!
 //! - `check.rt`: [`explain`], in the order in which the reader looks for faults; `warning.rt`: [`warnings`]; `findings.rt`: the ten
 //! - `explanation.rt`, `place.rt`: what is wrong, and where; `marks.rt`, `walk.rt`: where keys and steps begin in a text
 //! - `cause.rt`: all that may be wrong; `doom.rt`: all that will be refused, `fate.rt`: which steps will be; `line.rt`: how both are put in words
 //! - `steps.rt`, `keys.rt`, `asking.rt`, `never.rt`, `before.rt`, `block.rt`, `claim.rt`: what is looked at, a subject a file
 //! - `ops.rt`, `rules.rt`, `kind.rt`, `answers.rt`: what may stand in a job, as docs/JOBS.md has it
-//! - `answering.rt`: [`answers_at`], how the answers of a step begin
 //! - `lines.rt`: steps written out, beside their places in the file; `script.rt`: those of one rank; `told.rt`, `shown.rt`: how they are named
 //! - `nearest.rt`, `mpi.rt`: what a misspelt word, or a word of MPI's, stands for
-//!
-//! What standard error says beside a reply.
-//!
-//!     write_verdict(alloc, has_colour, &reply, &mut errors);
-//!     write_notes(alloc, wanted, bytes, &reply, &mut errors);
-//!     write_fault(alloc, usage, &mut errors);
-//!
-//! That is for people, and no contract speaks of it. What is wrong with a job is found by `ulfm_explain`;
-//! what is told of steps and rows comes with the reply.
-//!
-//! - `notes.rt`: the three calls
-//! - `told.rt`: lines of steps and of rows; `counted.rt`: lines below their count
-//! - `goal.rt`: why a goal of `--show` names no answer; `naming.rt`: why a part of `--only` names no step
+//! - `notes.rt`: the three calls that write; `told_steps.rt`: lines of steps and of rows; `counted.rt`: lines below their count
+//! - `goal.rt`: why a goal of `--show` names no answer; `naming.rt`, `unnamed.rt`: why a part of `--only`, or of `--stop`, names no step
 //! - `misplaced.rt`: why a job hasn't a place
 #![tactic(auto)]
 

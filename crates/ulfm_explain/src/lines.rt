@@ -4,8 +4,8 @@ use crate::keys::{list_at, list_in};
 use crate::steps::steps_of;
 use std::alloc::{AllocError, Global};
 use toml::{Table, Value};
-use ulfm_reader::{Line, Unwritten, ranks_in, rows_out, written_out};
 use ulfm_job::limits::MOST_ITEMS;
+use ulfm_reader::{Line, Unwritten, ranks_in, rows_out, written_out};
 
 /// The steps of a job, written out, and the place in the file of the step from which each comes.
 #[derive(Drop)]

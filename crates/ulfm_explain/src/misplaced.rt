@@ -1,10 +1,9 @@
 //! Why a job hasn't a place: for people, and none of it is promised.
 
 use std::alloc::{AllocError, Global};
-use ulfm_job::Job;
-use ulfm_reader::ReadJob;
 use ulfm_command_line::Wanted;
-use ulfm_job::{Place, Stop};
+use ulfm_job::{Job, Place, Stop};
+use ulfm_reader::ReadJob;
 
 /// Where the words stop ranks.
 pub(crate) fn place_of(wanted: Wanted) -> Place {

@@ -3,8 +3,8 @@
 use crate::misplaced::place_of;
 use std::alloc::{AllocError, Global};
 use strsim::osa_distance;
-use ulfm_reader::Name;
 use ulfm_command_line::{Form, Wanted, Wording, asked_at};
+use ulfm_reader::Name;
 
 /// The most edits to a name that is told as the nearest.
 const MOST_EDITS: usize = 2;

@@ -10,8 +10,8 @@ use crate::script::{Script, op_of};
 use crate::shown::Shown;
 use std::alloc::AllocError;
 use toml::{Table, Value};
-use ulfm_reader::MOST_ROWS;
 use ulfm_job::limits::{FEWEST_OF_ROW, MOST_OF_ROW, MOST_WORDS};
+use ulfm_reader::MOST_ROWS;
 
 /// Tells how many rows there are, where there may not be so many, and then what is wrong with each, after all steps.
 pub fn explain_never(

@@ -5,11 +5,11 @@ use crate::misplaced::{misplaced_line, place_of};
 use crate::naming::name_line;
 use crate::told_steps::{remarks_told, verdict_line};
 use crate::unnamed::unnamed_line;
+use crate::{Explanation, explain, warnings};
 use std::alloc::{AllocError, Global};
 use std::io::Write;
-use crate::{Explanation, explain, warnings};
-use ulfm_reader::write_whole;
 use ulfm_command_line::{DONE, JOB_REFUSED, PAST_LIMIT, Remark, Reply, RunOptions, Wanted};
+use ulfm_reader::write_whole;
 
 /// Why no stop can be put into a good job.
 const NO_ROOM: &str =

@@ -15,8 +15,8 @@ use crate::rules::{Key, any_step_rules, job_rules};
 use crate::shown::Shown;
 use std::alloc::AllocError;
 use toml::{Table, Value};
-use ulfm_reader::ranks_in;
 use ulfm_job::MOST_STEPS;
+use ulfm_reader::ranks_in;
 
 /// Tells what is wrong with a job: first with its own keys, then with each step, in the order of the file, then with its
 /// rows.

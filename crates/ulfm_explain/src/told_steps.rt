@@ -2,9 +2,8 @@
 
 use crate::counted::Counted;
 use std::alloc::{AllocError, Global};
-use ulfm_job::Text;
 use ulfm_command_line::{Remark, Verdict};
-use ulfm_job::Place;
+use ulfm_job::{Place, Text};
 
 /// What stands above the lines of each kind, in their order.
 const HEADS: [&str; 6] = [UNMET, CAME, UNFINISHED, MISTAKEN, SKIPPED, UNHELD];

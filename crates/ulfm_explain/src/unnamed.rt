@@ -3,8 +3,8 @@
 use crate::goal::{is_number, no_step};
 use crate::naming::nearest_of;
 use std::alloc::{AllocError, Global};
-use ulfm_reader::{ReadJob, Reading, named};
 use ulfm_job::Place;
+use ulfm_reader::{ReadJob, Reading, named};
 
 /// How a place is written.
 const WRITTEN: &str =

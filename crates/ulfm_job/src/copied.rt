@@ -3,9 +3,9 @@ ghost use Rattle.std.specs.Prelude.{◌≡◌, IfOk};
 ghost use Rattle.ulfm_job.specs.Job.{lists_of};
 ghost use Rattle.ulfm_job.specs.Place.{expecting};
 
+use crate::{Clause, Condition, Job, LeftStep, Step};
 use std::alloc::Global;
 use ulfm_base::OutOfMemory;
-use crate::{Clause, Condition, Job, LeftStep, Step};
 
 /// The same job once more.
 pub fn copied_job(alloc: Global, job: &Job) -> Result<Job, OutOfMemory>

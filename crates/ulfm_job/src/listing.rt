@@ -5,12 +5,12 @@ ghost use Rattle.ulfm_job.specs.Place.{IsPlaceOf};
 ghost use Rattle.ulfm_job.specs.Places.{all_stops, is_asked, last_place, pairs_of, places_of, stops_always, stops_in, stops_near, twos};
 ghost use Rattle.ulfm_job.specs.declared.place.Place.TheVariants.{One};
 
+use crate::Job;
 use crate::own::is_stop_at;
 use crate::place::Place;
 use crate::stop::Stop;
 use std::alloc::Global;
 use ulfm_base::OutOfMemory;
-use crate::Job;
 
 /// All places of a job with at most so many stops: the one with none first, then those of one stop by rank and step, then those of two.
 /// A rank that always stops at one of its own steps isn't stopped behind it.

@@ -3,10 +3,10 @@ ghost use Rattle.std.specs.Prelude.{◌≡◌, ◌≤◌, IfOk, map};
 ghost use Rattle.ulfm_job.specs.Job.{moved_clause, moved_number};
 ghost use Rattle.ulfm_job.specs.Place.{before};
 
+use crate::Clause;
 use crate::stop::Stop;
 use std::alloc::Global;
 use ulfm_base::OutOfMemory;
-use crate::Clause;
 
 impl Stop {
     /// The number that a step of its rank has beside the stop, where the rank has `len` steps without it.

@@ -4,9 +4,9 @@ ghost use Rattle.ulfm_job.specs.Job.{IsJob};
 ghost use Rattle.ulfm_job.specs.Places.{is_stop_at, own_stops, own_stops_at, own_stops_in};
 
 use crate::stop::Stop;
+use crate::{Job, Step};
 use std::alloc::Global;
 use ulfm_base::OutOfMemory;
-use crate::{Job, Step};
 
 /// The stops that a job has of its own: each step that is one, as a stop before that step.
 ///

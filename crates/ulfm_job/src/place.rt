@@ -7,9 +7,9 @@ ghost use Rattle.ulfm_job.specs.Text.{place_of_text, place_text};
 use crate::copied::copied_job;
 use crate::reading::place_of_text;
 use crate::stop::Stop;
+use crate::{Job, JobFault, MOST_STEPS};
 use std::alloc::Global;
 use std::fmt;
-use crate::{Job, JobFault, MOST_STEPS};
 
 /// Where ranks stop, besides the stops that their job has.
 #[derive(Clone, Copy, Debug, PartialEq, Eq)]

@@ -4,8 +4,8 @@ ghost use Rattle.ulfm_job.specs.Job.{step_count};
 ghost use Rattle.ulfm_job.specs.Place.{IsStopOf, before, stopped};
 ghost use Rattle.ulfm_job.specs.Text.{star_if, stop_text};
 
-use std::fmt;
 use crate::{Job, JobFault};
+use std::fmt;
 
 /// A rank stops before one of its steps, as the file numbers them, or after its last one; or it dies inside one that stands open.
 #[derive(Clone, Copy, Debug, PartialEq, Eq)]

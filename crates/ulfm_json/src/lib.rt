@@ -13,7 +13,7 @@
 //! - `worded.rt`, `worded_trace.rt`: calls, answers and traces in plain words or MPI's, of `mpi_call.rt` and `mpi_answer.rt`
 //! - `form.rt`: words or JSON; `wording.rt`: whose words; `style.rt`: the forms of a picture
 //!
-//! Not here: the objects of lists (`ulfm_list`, `ulfm_list`) and of sweeps (`ulfm_run_reply`). That the output is JSON by its schema isn't proved:
+//! Not here: the objects of lists (`ulfm_list`) and of sweeps (`ulfm_run_reply`). That the output is JSON by its schema isn't proved:
 //! tools/gate/check-json looks at it.
 #![tactic(auto)]
 

@@ -8,8 +8,8 @@ use std::alloc::{AllocError, Global};
 use ulfm_answer::StepAnswer;
 use ulfm_base::{Context, Tag};
 use ulfm_json::{push_answered, push_comm, push_head};
-use ulfm_schedule::{Cargo, Deed, Move};
 use ulfm_reader::Reading;
+use ulfm_schedule::{Cargo, Deed, Move};
 
 /// Puts a message.
 fn push_letter(text: &mut String, tag: Tag, length: usize, comm: Context) -> Result<(), AllocError>

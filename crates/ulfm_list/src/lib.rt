@@ -1,44 +1,29 @@
-//! What an exploration found, as a value that is printed, and what a job wants of it: for each step all that it may be answered, in words
-//! or in JSON; the first step that isn't as the job expects; and what a schedule is to show.
+//! A list of outcomes as a value, its words and its JSON, and what a job wants of it: of one job, and of the job wherever ranks stop.
 //!
 //!     let list = list_of(alloc, steps, judgement, &reached)?;
 //!     push_list(&mut text, form, names, &list)?;
-//!     let unmet = unmet_in(&job, &reached.found);
-//!     let goals = Goals::of(alloc, &job, clauses)?;
-//!
-//! What is found are rows: the rank, the number of its step, and the code of an answer, or nothing more where the step never ends. [`list_of`]
-//! makes the value `list_found` of specs/Listed.antt, and [`push_list`] adds its text, `printed` of Objects.antt. What these lines tell of
-//! schedules is the law `lines_tell` of `ulfm_outcomes`.
-//!
-//! Read specs/Text.antt first (what rows tell), then Judgement.antt (what a list comes to), Listed.antt (a list as a value), Words.antt and
-//! Objects.antt (how it is printed, that of places too), Unmet.antt and Goals.antt.
-//!
-//! - `rows.rt`: what rows tell of a step; `wanted.rt`: whether they have what goals ask for
-//! - `list.rt`: from rows to a list; `step_list.rt`, `listed_step.rt`, `outcomes.rt`, `outcome.rt`, `worded.rt`: its parts, from the whole down
-//! - `judgement.rt`: what a list comes to, in a word or two
-//! - `printing.rt`: a list as text, by `words.rt` or by `objects.rt`
-//! - `unmet.rt`: answers that aren't as expected; `goals.rt`: what a schedule is to show
-//! - `job_step.rt`: the steps of a job; `open_step.rt`: one that is left open
-//!
-//! Not here: lists of several places (`ulfm_list`), and whether the rows are all there are (`ulfm_outcomes`).
-//!
-//! The lists of all outcomes of a job at its places, as one list, in words and as JSON: what each step of the file may be answered, and
-//! where. And what is told below a list: of an answer that isn't as it should be, and of the schedule that shows it.
-//!
 //!     let list = lists_of(alloc, &job, steps, judgement, listed)?;
 //!     push_unmet(&mut text, form, Some(place), asked, unmet, &told)?;
 //!
-//! Each call says by its contract what it makes: [`lists_of`] the value `list_at` of specs/List.antt, [`push_told`] and those beside it the texts of
-//! Told.antt. Read Numbers.antt first (steps as the file numbers them, and at a place), then Union.antt (what all lists tell of a step, and
-//! where) and List.antt, which is printed as `ulfm_list` prints lists; then Told.antt, with Scheduled.antt (a schedule as objects) and Worded.antt
-//! (one in MPI's words).
+//! What a search found are rows: the rank, the number of its step, and the code of an answer, or nothing more where the step never ends.
+//! [`list_of`] makes the value `list_found` of specs/Listed.antt of them, [`lists_of`] the value `list_at` of List.antt, of the lists of all places,
+//! and [`push_list`] adds the text of either, `printed` of Objects.antt. What these lines tell of schedules is the law `lines_tell` of
+//! `ulfm_outcomes`. Below a list stands what isn't as it should be, and the schedule that shows it: the texts of Told.antt.
 //!
-//! - `list.rt`, `union.rt`: the lists of places as one; `listed.rt`: what is kept of one of them; `numbers.rt`: the numbers of steps
-//! - `told.rt`: what is told below a list, in each form
-//! - `scheduled.rt`: a schedule as JSON, of `events.rt` and `waits.rt`
-//! - `worded.rt`: a schedule in MPI's words
+//! Read specs/Text.antt first (what rows tell), then Judgement.antt (what a list comes to), Listed.antt (a list as a value), Words.antt and
+//! Objects.antt (how it is printed), Unmet.antt and Goals.antt. Then Numbers.antt (steps as the file numbers them, and at a place), Union.antt
+//! (what all lists tell of a step, and where), List.antt and Told.antt, with Scheduled.antt (a schedule as objects) and Worded.antt (in MPI's words).
 //!
-//! Not here: the list of one place (`ulfm_list`). That the schedule is one of the job is what its finder promises.
+//! - `rows.rt`: what rows tell of a step; `wanted.rt`: whether they have what goals ask for
+//! - `list.rt`: from rows to a list; `step_list.rt`, `listed_step.rt`, `outcomes.rt`, `outcome.rt`: its parts, from the whole down
+//! - `list_of_places.rt`, `union.rt`: the lists of places as one; `listed.rt`: what is kept of one of them
+//! - `judgement.rt`: what a list comes to, in a word or two
+//! - `printing.rt`: a list as text, by `words.rt` (or `worded.rt`, in MPI's words) or by `objects.rt`
+//! - `unmet.rt`: answers that aren't as expected; `goals.rt`: what a schedule is to show
+//! - `told.rt`: what is told below a list; `scheduled.rt`: a schedule as JSON, of `events.rt` and `waits.rt`; `worded_places.rt`: one in MPI's words
+//! - `job_step.rt`: the steps of a job; `open_step.rt`: one that is left open
+//!
+//! Not here: whether the rows are all there are (`ulfm_outcomes`). That a schedule is one of the job is what its finder promises.
 #![tactic(auto)]
 
 mod events;

@@ -5,9 +5,9 @@ ghost use Rattle.ulfm_list.specs.List.{list_at, listed_at, placed, states_of, to
 
 use crate::listed::Listed;
 use crate::union::{answers_of, places_with, some_never_ends};
+use crate::{JobStep, Judgement, ListedStep, Outcome, Outcomes, StepList, Worded};
 use std::alloc::{AllocError, Global};
 use ulfm_base::OutOfMemory;
-use crate::{JobStep, Judgement, ListedStep, Outcome, Outcomes, StepList, Worded};
 use ulfm_job::Job;
 
 /// The lists of places as one list: what each of these steps of the file may be answered, and at which of them. That of all steps comes to

@@ -1,7 +1,7 @@
 //! What is kept of the list of a place.
 
-use ulfm_reach::Rows;
 use ulfm_job::Place;
+use ulfm_reach::Rows;
 
 /// What is kept of the list of all outcomes of a job at a place.
 #[derive(Drop)]

@@ -3,8 +3,7 @@ ghost use Rattle.std.specs.Prelude.{◌≡◌};
 ghost use Rattle.ulfm_job.specs.Job.{moved_number};
 ghost use Rattle.ulfm_list.specs.Numbers.{filed_by, filed_number, moved_by, number_at};
 
-use ulfm_job::Job;
-use ulfm_job::{Place, Stop};
+use ulfm_job::{Job, Place, Stop};
 
 /// The number of the step `k` of a script of so many steps, once there is one more before the step `at`.
 fn moved_number(at: usize, len: usize, k: usize) -> usize

@@ -12,9 +12,8 @@ use std::alloc::{AllocError, Global};
 use ulfm_answer::{StepAnswer, StepReport};
 use ulfm_job::NotedStep;
 use ulfm_json::{push_ended, push_objects};
-use ulfm_schedule::{Course, End, Move, Schedule};
 use ulfm_reader::Reading;
-use ulfm_schedule::Wait;
+use ulfm_schedule::{Course, End, Move, Schedule, Wait};
 
 /// The objects of moves.
 fn moves_of(alloc: Global, asked: &Reading, moves: &[Move]) -> Result<Vec<String>, AllocError>

@@ -4,13 +4,12 @@ ghost use Rattle.ulfm_list.specs.Union.{answers_of, is_row, is_told, is_told_at,
 
 use crate::listed::Listed;
 use crate::numbers::number_at;
+use crate::{Worded, add_answers, in_order, some_never_end};
 use std::alloc::Global;
 use std::collections::BTreeSet;
 use ulfm_base::OutOfMemory;
-use crate::{Worded, add_answers, in_order, some_never_end};
-use ulfm_job::Job;
+use ulfm_job::{Job, Place};
 use ulfm_reach::Rows;
-use ulfm_job::Place;
 
 /// The answers that these lists have for a step of the file, each once.
 fn answer_set<'a>(

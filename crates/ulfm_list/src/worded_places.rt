@@ -9,8 +9,9 @@ use std::alloc::AllocError;
 use ulfm_answer::{StepAnswer, push_closing};
 use ulfm_job::{Job, NotedStep};
 use ulfm_json::{Wording, push_answer_in, push_call_at, push_line_in, push_lines_in};
-use ulfm_schedule::{Cargo, Course, Deed, End, Move, Schedule, push_cargo, push_schedule};
-use ulfm_schedule::{Wait, push_wait};
+use ulfm_schedule::{
+    Cargo, Course, Deed, End, Move, Schedule, Wait, push_cargo, push_schedule, push_wait,
+};
 
 /// Puts the step `k` of the rank `r` of a job, by its place.
 fn push_placed(

@@ -9,10 +9,10 @@ ghost use Rattle.ulfm_outcomes_reply.specs.Chosen.{are_called, chosen, is_all, i
 
 use crate::search::Search;
 use std::alloc::{AllocError, Global};
-use ulfm_list::{JobStep, StepList, push_list, steps_of};
-use ulfm_job::Step;
-use ulfm_reader::{Name, Reading, name_at};
 use ulfm_command_line::{Choice, JOB_REFUSED, Remark, Reply};
+use ulfm_job::Step;
+use ulfm_list::{JobStep, StepList, push_list, steps_of};
+use ulfm_reader::{Name, Reading, name_at};
 
 /// The steps whose lines are asked for.
 pub(crate) fn chosen<'a, F>(

@@ -13,12 +13,11 @@ use crate::search::Search;
 use crate::shown::told_reply;
 use crate::unwanted::told_of;
 use std::alloc::AllocError;
+use ulfm_command_line::{Place, Reply, stopped_at};
+use ulfm_list::{JobStep, Listed, Unmet, is_stuck, steps_of};
 use ulfm_outcomes_spec::Finder;
-use ulfm_list::{JobStep, Unmet, is_stuck, steps_of};
-use ulfm_list::Listed;
 use ulfm_reach::{Rows, Watch};
 use ulfm_reader::Reading;
-use ulfm_command_line::{Place, Reply, stopped_at};
 
 /// The picture at the first of these places where a step never ends, where one is asked for.
 pub(crate) fn first_drawn<F: Finder, L: Onlooker>(

@@ -23,13 +23,11 @@ use crate::verdicts::lists_remarks;
 use std::alloc::AllocError;
 use std::thread;
 use std::thread::Threads;
-use ulfm_outcomes_spec::Finder;
-use ulfm_list::Judgement;
-use ulfm_job::{JobFault, MOST_STEPS};
-use ulfm_list::{lists_of, push_more_at, some_never_ends};
-use ulfm_reader::Reading;
 use ulfm_command_line::{ListOptions, MOST_THREADS, PAST_LIMIT, Place, Reply, asked_at, refusal};
-use ulfm_job::places;
+use ulfm_job::{JobFault, MOST_STEPS, places};
+use ulfm_list::{Judgement, lists_of, push_more_at, some_never_ends};
+use ulfm_outcomes_spec::Finder;
+use ulfm_reader::Reading;
 
 /// The reply of `outcomes --stops` by this search. The onlooker is told how far the lists and the searches are.
 pub fn each_place_reply<R, F, L>(

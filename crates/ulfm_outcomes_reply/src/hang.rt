@@ -9,12 +9,11 @@ ghost use Rattle.ulfm_outcomes_reply.specs.Hangs.{hangs_at, hangs_somewhere, is_
 use crate::finding::asks;
 use crate::search::Search;
 use std::alloc::AllocError;
-use ulfm_list::{JobStep, Judgement, OpenStep, is_stuck, steps_of};
-use ulfm_list::{Listed, number_at};
-use ulfm_reach::Rows;
-use ulfm_reader::Reading;
 use ulfm_command_line::{expects, stops_at};
 use ulfm_job::{Place, Stop};
+use ulfm_list::{JobStep, Judgement, Listed, OpenStep, is_stuck, number_at, steps_of};
+use ulfm_reach::Rows;
+use ulfm_reader::Reading;
 
 /// A step that never ends in some schedule.
 #[derive(Clone, Copy)]

@@ -2,12 +2,11 @@
 
 use crate::search::Search;
 use std::alloc::{AllocError, Global};
-use ulfm_outcomes_spec::Finder;
-use ulfm_list::{Goals, OpenStep};
-use ulfm_job::Job;
-use ulfm_list::{Told, push_schedule_in};
-use ulfm_reach::Watch;
 use ulfm_command_line::Remark;
+use ulfm_job::Job;
+use ulfm_list::{Goals, OpenStep, Told, push_schedule_in};
+use ulfm_outcomes_spec::Finder;
+use ulfm_reach::Watch;
 
 /// A schedule in which this step of a job never ends, if one is found within the limit.
 pub(crate) fn hanging<F: Finder, W: Watch>(

@@ -25,11 +25,11 @@ use crate::unwanted::unwanted;
 use crate::verdicts::list_remarks;
 use std::alloc::AllocError;
 use std::thread::Threads;
-use ulfm_outcomes_spec::Finder;
+use ulfm_command_line::{DONE, PAST_LIMIT, Reply, UNFINISHED, asked_at};
 use ulfm_list::{Judgement, list_of, more_in, some_never_end};
+use ulfm_outcomes_spec::Finder;
 use ulfm_reach::{Reach, Reached, Watch};
 use ulfm_reader::Reading;
-use ulfm_command_line::{DONE, PAST_LIMIT, Reply, UNFINISHED, asked_at};
 
 /// The reply of `outcomes` by this search, perhaps with answers that a schedule is to show. Where a picture is asked for without any, it shows a
 /// step that never ends. `watch` is told how far it is.

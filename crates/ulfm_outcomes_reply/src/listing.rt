@@ -9,12 +9,12 @@ use crate::lists::Lists;
 use crate::onlooker::{Onlooker, Seen};
 use crate::search::Search;
 use ulfm_base::OutOfMemory;
-use ulfm_outcomes_spec::Finder;
-use ulfm_list::Listed;
-use ulfm_reach::Reach;
-use ulfm_reader::Reading;
 use ulfm_command_line::stopped_at;
 use ulfm_job::Place;
+use ulfm_list::Listed;
+use ulfm_outcomes_spec::Finder;
+use ulfm_reach::Reach;
+use ulfm_reader::Reading;
 
 /// The list of a place, or nothing where the job has more states there than the limit.
 fn list_place<F: Finder, L: Onlooker>(

@@ -2,12 +2,11 @@
 
 use std::alloc::{AllocError, Global};
 use ulfm_answer::{ToldAnswer, begins_told};
-use ulfm_list::code_at;
+use ulfm_command_line::{Place, Remark, StepTold};
 use ulfm_job::{Job, Step};
-use ulfm_list::{Listed, number_at};
+use ulfm_list::{Listed, code_at, number_at};
 use ulfm_reach::Rows;
 use ulfm_reader::Reading;
-use ulfm_command_line::{Place, Remark, StepTold};
 
 /// How such answers begin: a communicator, a rank, a tag or a request that isn't there, or one that the rank made before.
 const MISTAKES: [&str; 5] = [

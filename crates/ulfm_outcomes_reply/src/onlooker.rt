@@ -1,7 +1,7 @@
 //! Who is told how far the lists are.
 
-use ulfm_reach::Watch;
 use ulfm_job::Place;
+use ulfm_reach::Watch;
 
 /// Who is told how far the lists of places are, by threads that go on at once. Nothing that is found depends on it.
 pub trait Onlooker {

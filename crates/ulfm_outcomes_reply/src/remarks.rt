@@ -2,13 +2,12 @@
 
 use std::alloc::{AllocError, Global};
 use ulfm_answer::{StepAnswer, StepReport, ToldAnswer, holds_of};
-use ulfm_list::code_at;
+use ulfm_command_line::{Remark, StepTold, is_looked_at, push_unmet_answers};
 use ulfm_job::{Clause, Job};
-use ulfm_list::Told;
-use ulfm_schedule::{Course, Schedule};
+use ulfm_list::{Told, code_at};
 use ulfm_reach::Rows;
 use ulfm_reader::Reading;
-use ulfm_command_line::{Remark, StepTold, is_looked_at, push_unmet_answers};
+use ulfm_schedule::{Course, Schedule};
 
 /// Which steps each schedule skips, by a list below which nothing stands.
 pub fn skipped_in(alloc: Global, asked: &Reading, found: &Rows) -> Result<Vec<Remark>, AllocError> {

@@ -5,13 +5,12 @@ ghost use Rattle.ulfm_outcomes_spec.specs.Told.{IsLook};
 
 use std::alloc::Global;
 use ulfm_base::OutOfMemory;
-use ulfm_outcomes_spec::Finder;
-use ulfm_list::Goals;
+use ulfm_command_line::{Choice, ListOptions};
 use ulfm_job::Job;
 use ulfm_json::Form;
-use ulfm_list::Told;
+use ulfm_list::{Goals, Told};
+use ulfm_outcomes_spec::Finder;
 use ulfm_reach::{Reach, Watch};
-use ulfm_command_line::{Choice, ListOptions};
 
 /// What a command looks by for outcomes and schedules.
 #[derive(Drop)]

@@ -11,13 +11,11 @@ use crate::onlooker::{Onlooker, Seen};
 use crate::search::Search;
 use crate::shown::{no_goal, nowhere_reply, told_reply};
 use std::alloc::{AllocError, Global};
-use ulfm_outcomes_spec::Finder;
-use ulfm_list::Goals;
-use ulfm_job::{Clause, Job, JobFault, MOST_STEPS};
-use ulfm_list::Told;
-use ulfm_reader::Reading;
 use ulfm_command_line::{Place, Reply, asked_at, refusal, stopped_at};
-use ulfm_job::{Stop, places};
+use ulfm_job::{Clause, Job, JobFault, MOST_STEPS, Stop, places};
+use ulfm_list::{Goals, Told};
+use ulfm_outcomes_spec::Finder;
+use ulfm_reader::Reading;
 
 /// The reply of `outcomes --stops --show` by this search, with these answers. The onlooker is told how far the searches are.
 pub fn show_each_reply<F: Finder, L: Onlooker>(

@@ -6,14 +6,15 @@ ghost use Rattle.ulfm_command_line.specs.Stopped.{IsAskedAt, asked_view};
 
 use crate::search::Search;
 use std::alloc::{AllocError, Global};
+use ulfm_command_line::{
+    DONE, JOB_REFUSED, NO_SCHEDULE, PAST_LIMIT, Place, Remark, Reply, asked_at,
+};
 use ulfm_draw::drawn;
-use ulfm_outcomes_spec::Finder;
-use ulfm_list::Goals;
 use ulfm_json::Form;
-use ulfm_list::{Told, push_told};
+use ulfm_list::{Goals, Told, push_told};
+use ulfm_outcomes_spec::Finder;
 use ulfm_reach::Watch;
 use ulfm_reader::Reading;
-use ulfm_command_line::{DONE, JOB_REFUSED, NO_SCHEDULE, PAST_LIMIT, Place, Remark, Reply, asked_at};
 
 /// The reply of `outcomes --show` by this search, with these answers. `watch` is told how far it is.
 pub fn show_reply<F: Finder, W: Watch>(

@@ -14,9 +14,9 @@ use std::alloc::Global;
 use std::thread;
 use std::thread::Threads;
 use ulfm_base::OutOfMemory;
+use ulfm_job::Place;
 use ulfm_outcomes_spec::Finder;
 use ulfm_reader::Reading;
-use ulfm_job::Place;
 
 /// The lists of all outcomes of what was asked for at these places, in their order, up to the first where the job has more states than the limit. So
 /// many threads share the places. The onlooker is told how far they are.

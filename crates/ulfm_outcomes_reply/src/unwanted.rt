@@ -18,13 +18,12 @@ use crate::onlooker::{Onlooker, Seen};
 use crate::search::Search;
 use crate::verdicts::{row_remarks, unmet_remarks, where_of};
 use std::alloc::AllocError;
-use ulfm_outcomes_spec::{Finder, first_unmet};
-use ulfm_list::{Goals, Judgement, Unmet};
+use ulfm_command_line::{NOT_EXPECTED, Place, Reply, stopped_at};
 use ulfm_job::Job;
-use ulfm_list::{Listed, Told, filed_number, push_row, push_unmet};
+use ulfm_list::{Goals, Judgement, Listed, Told, Unmet, filed_number, push_row, push_unmet};
+use ulfm_outcomes_spec::{Finder, first_unmet};
 use ulfm_reach::{Rows, Watch};
 use ulfm_reader::Reading;
-use ulfm_command_line::{NOT_EXPECTED, Place, Reply, stopped_at};
 
 /// What is told of the first of these places where a schedule is found that isn't wanted. Where none is found, of the first with a row of
 /// `never` that can't be looked for within the limit, if there is one.

@@ -12,12 +12,11 @@ use crate::search::Search;
 use crate::unheld::push_unheld;
 use crate::unwanted::filed;
 use std::alloc::{AllocError, Global};
+use ulfm_command_line::{Extent, Place, Remark, StepTold, Verdict, Where, stopped_at};
+use ulfm_list::{Judgement, Listed, Told, Unmet};
 use ulfm_outcomes_spec::Finder;
-use ulfm_list::{Judgement, Unmet};
-use ulfm_list::{Listed, Told};
 use ulfm_reach::{Rows, Watch};
 use ulfm_reader::Reading;
-use ulfm_command_line::{Extent, Place, Remark, StepTold, Verdict, Where, stopped_at};
 
 /// What is told of the list of a job below which nothing stands: what it comes to, which steps each schedule skips, which answers are mistakes of
 /// the script, and by `--strict` how a step never ends. Nothing where a growth was refused.

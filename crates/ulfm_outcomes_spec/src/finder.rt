@@ -1,16 +1,15 @@
 //! Who finds outcomes.
 //!
-//! A schedule comes from it as a value, so that no function above lets go of a world, which is dear to prove. The definitions of events stand in
-//! `ulfm_reduction` and those of keys in `ulfm_reduction`, so that what is replied needs neither `ulfm_outcomes` nor `ulfm_outcomes`.
+//! A schedule comes from it as a value, so that no function above lets go of a world, which is dear to prove. The definitions of
+//! events and of keys stand in `ulfm_reduction`, so that what is replied doesn't need `ulfm_outcomes`.
 ghost use Rattle.std.specs.Prelude.{IfOk};
 ghost use Rattle.ulfm_outcomes_spec.specs.Outcomes.{IsList};
 ghost use Rattle.ulfm_outcomes_spec.specs.Told.{IsLook};
 
 use std::alloc::Global;
 use ulfm_base::OutOfMemory;
-use ulfm_list::Goals;
 use ulfm_job::Job;
-use ulfm_list::Told;
+use ulfm_list::{Goals, Told};
 use ulfm_reach::{Reach, Watch};
 
 /// Finds what the steps of a job may be answered, and schedules that show answers. `ulfm_outcomes` has the one of the program. What is

@@ -16,14 +16,14 @@ use std::io::{Read, Write};
 use std::sync::Wait;
 use std::thread::Threads;
 use std::time::Clock;
-use ulfm_outcomes_spec::Finder;
-use ulfm_reader::{InputFault, read_front, write_whole};
-use ulfm_json::{Form, Wording};
-use ulfm_explain::{write_fault, write_notes, write_verdict};
 use ulfm_command_line::{
     Asked, DONE, Failure, INPUT_FAILED, OUTPUT_FAILED, PAST_LIMIT, RUN_FAILED, Reply, USAGE,
     Unfollowed, asked_for, failed_line,
 };
+use ulfm_explain::{write_fault, write_notes, write_verdict};
+use ulfm_json::{Form, Wording};
+use ulfm_outcomes_spec::Finder;
+use ulfm_reader::{InputFault, read_front, write_whole};
 
 /// What is written where a word can't be read.
 const NOT_TEXT: &str = "a word of the command line isn't UTF-8\n";

@@ -4,13 +4,13 @@ use crate::cell::{Cell, Kind};
 use crate::nobody::Nobody;
 use crate::wanted::{Unwanted, unwanted_at};
 use std::alloc::{AllocError, Global};
-use ulfm_outcomes_spec::Finder;
+use ulfm_command_line::{Place, stopped_at};
 use ulfm_job::Job;
-use ulfm_outcomes_reply::Search;
 use ulfm_list::number_at;
+use ulfm_outcomes_reply::Search;
+use ulfm_outcomes_spec::Finder;
 use ulfm_reach::{Reach, Reached};
 use ulfm_reader::Reading;
-use ulfm_command_line::{Place, stopped_at};
 
 /// The steps at a place, rank by rank.
 #[derive(Drop)]

@@ -18,10 +18,10 @@ use std::rt::Files;
 use std::sync::Wait;
 use std::thread::Threads;
 use std::time::Clock;
+use ulfm_command_line::{Asked, DONE, INPUT_FAILED, OUTPUT_FAILED, Unfollowed, asked_for};
+use ulfm_json::{Form, Wording};
 use ulfm_outcomes_spec::Finder;
 use ulfm_reader::write_whole;
-use ulfm_json::{Form, Wording};
-use ulfm_command_line::{Asked, DONE, INPUT_FAILED, OUTPUT_FAILED, Unfollowed, asked_for};
 
 /// Follows the words for each file that they name, in turn, as `run_on` follows them with that file's bytes as its input, or for `input`
 /// where they name none. Above the answers of several files stands a line with each one's name. A file that can't be read has the status

@@ -1,15 +1,15 @@
 //! The page of `--html`: for people, and none of it is promised.
 
+use crate::page_of;
 use std::alloc::{AllocError, Global};
 use std::fs::File;
 use std::io::Write;
 use std::rt::Files;
-use ulfm_outcomes_spec::Finder;
-use ulfm_reader::{read_front, write_whole};
+use ulfm_command_line::{Asked, JOB_REFUSED, ListOptions, Wanted};
 use ulfm_json::{Form, Wording};
 use ulfm_outcomes_reply::Search;
-use crate::page_of;
-use ulfm_command_line::{Asked, JOB_REFUSED, ListOptions, Wanted};
+use ulfm_outcomes_spec::Finder;
+use ulfm_reader::{read_front, write_whole};
 
 /// What is told where the words don't ask for lists of places of one job in a file.
 const UNPAGED: &str =

@@ -8,10 +8,10 @@ use std::io::Write;
 use std::sync::Mutex;
 use std::sync::atomic::{AtomicUsize, Ordering};
 use std::time::{Clock, Instant};
-use ulfm_reader::write_whole;
+use ulfm_command_line::{ListOptions, Place, Wanted};
 use ulfm_outcomes_reply::Onlooker;
 use ulfm_reach::Watch;
-use ulfm_command_line::{ListOptions, Place, Wanted};
+use ulfm_reader::write_whole;
 
 /// After how many states it is told.
 const STRIDE: usize = 1000;

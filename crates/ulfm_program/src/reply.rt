@@ -8,12 +8,14 @@ ghost use Rattle.ulfm_command_line.specs.Wish.{WishView, wish_view};
 use std::alloc::{AllocError, Global};
 use std::sync::Wait;
 use std::thread::Threads;
-use ulfm_outcomes_spec::Finder;
+use ulfm_command_line::{
+    Asked, Reply, Wanted, check_reply, expand_reply, places_reply, settled_place,
+};
 use ulfm_json::Form;
 use ulfm_outcomes_reply::{Onlooker, Search, list_reply};
-use ulfm_run_reply::{draw_reply, replay_reply, run_reply, sweep_reply};
+use ulfm_outcomes_spec::Finder;
 use ulfm_reach::Watch;
-use ulfm_command_line::{Asked, Reply, Wanted, check_reply, expand_reply, places_reply, settled_place};
+use ulfm_run_reply::{draw_reply, replay_reply, run_reply, sweep_reply};
 
 /// The reply to what the words ask for. `watch` is told how far a list of outcomes is.
 pub fn reply_to<R, F, P>(

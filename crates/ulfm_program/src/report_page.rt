@@ -7,11 +7,10 @@ use crate::cell::{Cell, Kind};
 use crate::column::Column;
 use std::alloc::{AllocError, Global};
 use ulfm_draw::push_escaped;
-use ulfm_outcomes_spec::Finder;
-use ulfm_job::{Job, MOST_STEPS};
+use ulfm_job::{Job, MOST_STEPS, places};
 use ulfm_outcomes_reply::Search;
+use ulfm_outcomes_spec::Finder;
 use ulfm_reader::{ReadJob, Reading, name_at};
-use ulfm_job::places;
 
 /// What stands above all else, up to the name of the job.
 const HEAD: &str = "<!doctype html>

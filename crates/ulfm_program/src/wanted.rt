@@ -4,16 +4,15 @@ use crate::cell::Kind;
 use crate::column::Column;
 use crate::nobody::Nobody;
 use std::alloc::AllocError;
+use ulfm_command_line::is_looked_at;
 use ulfm_draw::drawn;
-use ulfm_outcomes_spec::{Finder, first_unmet};
-use ulfm_list::{Goals, OpenStep, has_each};
 use ulfm_job::Clause;
 use ulfm_json::Style;
+use ulfm_list::{Goals, OpenStep, Told, filed_number, has_each, number_at};
 use ulfm_outcomes_reply::{Search, open_goals};
-use ulfm_list::{Told, filed_number, number_at};
+use ulfm_outcomes_spec::{Finder, first_unmet};
 use ulfm_reach::Rows;
 use ulfm_reader::Reading;
-use ulfm_command_line::is_looked_at;
 
 /// What isn't as wanted at a place, or isn't known to be.
 #[derive(Drop)]

@@ -16,9 +16,9 @@ use crate::head::{Head, head_of};
 use crate::name::Name;
 use crate::proviso::{Proviso, push_provisos};
 use crate::rows::{never_out, rows_in, texts_in};
+use crate::{Line, Unwritten, written_out};
 use std::alloc::Global;
 use toml::{Table, Value};
-use crate::{Line, Unwritten, written_out};
 use ulfm_job::limits::MOST_BYTES;
 use ulfm_job::{Clause, Job, JobFault, Text};
 

@@ -13,9 +13,9 @@ use crate::claim::claim_at;
 use crate::draft::Draft;
 use crate::fields::value_at;
 use crate::proviso::items_by;
+use crate::{Line, MOST_ROWS, rows_out};
 use std::alloc::Global;
 use toml::{Table, Value};
-use crate::{Line, MOST_ROWS, rows_out};
 use ulfm_job::limits::{FEWEST_OF_ROW, MOST_OF_ROW};
 use ulfm_job::{Clause, Fault, JobFault, Text};
 

@@ -1,18 +1,4 @@
-//! Schedules as values, made of worlds: the moves of events, what came of ranks so far, and what their open steps wait for.
-//!
-//!     let underway = recorder.before(&world, &event)?;
-//!     world.apply(event)?;
-//!     recorder.after(&world, underway)?;
-//!
-//! Each function says by its contract that its value has the words of the world. Read Lines.antt of specs/ first (the events), then Turns.antt,
-//! Ranks.antt (the trace) and Waits.antt (what open steps wait for). So a schedule that is printed is the one that was played.
-//!
-//! - `recorder.rt`: [`Recorder`], which keeps the moves; `lines.rt`: the move of an event
-//! - `ranks.rt`: [`courses_of`], what came of ranks; `waits.rt`: [`waits_of`], what open steps wait for
-//!
-//! Not here: the types of a schedule, and its text (`ulfm_schedule`). No contract says which message a move has.
-//!
-//! The replay of a job, round by round, and that of the job with one more stop, at each place in turn.
+//! The replay of a job, round by round, and that of the job with one more stop, at each place in turn; and schedules as values, made of worlds.
 //!
 //!     let reports = replay(alloc, &job)?;
 //!     let moves = replay_in_order(alloc, &job)?.moves;
@@ -22,11 +8,23 @@
 //! that all laws of `ulfm_world` hold of them. Read specs/Sweep.antt for [`sweep`]: a line counts the answers of all ranks in the replay with the
 //! stop of its place.
 //!
+//! A [`Recorder`] keeps the moves of events that a world plays, whoever chooses them:
+//!
+//!     let underway = recorder.before(&world, &event)?;
+//!     world.apply(event)?;
+//!     recorder.after(&world, underway)?;
+//!
+//! Each of its calls says by its contract that its value has the words of the world, so a schedule that is printed is the one that was played.
+//! Read Lines.antt of specs/ (the events), then Turns.antt, Ranks.antt (the trace) and Waits.antt (what open steps wait for).
+//!
 //! - `rounds.rt`: [`replay`], round by round; `rounds/polling.rt`: the polls of a round
 //! - `recording.rt`: the moves of a replay, where they are asked for; `played.rt`: the reports with these
 //! - `sweeps.rt`: [`sweep`]; `line.rt`, `kind.rt`: its lines, and the kinds of answers that they count; `fault.rt`: why it fails
+//! - `recorder.rt`: [`Recorder`], which keeps the moves; `lines.rt`: the move of an event
+//! - `ranks.rt`: [`courses_of`], what came of ranks; `waits.rt`: [`waits_of`], what open steps wait for
 //!
-//! Not here: that memory suffices. No contract says anything of the moves.
+//! Not here: the types of a schedule, and its text (`ulfm_schedule`); that memory suffices. No contract says anything of a replay's moves, nor
+//! which message a move has.
 #![tactic(auto)]
 
 mod fault;

@@ -4,8 +4,8 @@ ghost use Rattle.ulfm_world.specs.Flow.{IsWorld};
 ghost use Rattle.ulfm_world.specs.Safe.{KeepsDecisions};
 ghost use Rattle.ulfm_world.specs.World.{Happens, IsRefused, outcome_of};
 
-use ulfm_schedule::Move;
 use crate::{Recorder, Underway};
+use ulfm_schedule::Move;
 use ulfm_world::{Event, Outcome, Refused, World};
 
 /// The moves of a replay.

@@ -6,12 +6,12 @@ ghost use Rattle.std.specs.Prelude.{◌≡◌, ◌<◌, ℕ, length, false, IfEr
 ghost use Rattle.ulfm_world.specs.inside.Rounds.{Moves, Follows, IsStuck};
 ghost use Rattle.ulfm_world.specs.Replay.{MadeAtRest};
 
+use crate::Recorder;
 use crate::played::Played;
 use crate::recording::{Recording, apply};
 use std::alloc::Global;
 use ulfm_job::Job;
 use ulfm_script::{Hands, RankReport, RunFault, turn};
-use crate::Recorder;
 use ulfm_world::{Event, Refused, World};
 
 /// The job, round by round. One inbox holds `capacity` items for each rank. In a round the ranks come upwards, and each

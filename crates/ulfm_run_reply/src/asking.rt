@@ -6,9 +6,9 @@ ghost use Rattle.ulfm_run_reply.specs.Asking.{as_asked, has_come, holds_among};
 
 use std::alloc::Global;
 use ulfm_answer::holds_of;
+use ulfm_command_line::is_looked_at;
 use ulfm_job::{Clause, Job};
 use ulfm_reader::Reading;
-use ulfm_command_line::is_looked_at;
 use ulfm_script::{RankReport, all_met};
 
 /// Whether a clause holds of the answers of its rank.

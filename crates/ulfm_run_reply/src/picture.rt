@@ -5,12 +5,12 @@ ghost use Rattle.ulfm_command_line.specs.CommandLine.{AreTurns};
 
 use crate::turns::given_turns;
 use std::alloc::{AllocError, Global};
+use ulfm_command_line::{DONE, Place, Reply, asked_at};
 use ulfm_draw::drawn;
 use ulfm_job::Job;
 use ulfm_json::{Form, Style, Wording};
-use ulfm_schedule::replayed;
 use ulfm_replay::{Played, replay_in_order};
-use ulfm_command_line::{DONE, Place, Reply, asked_at};
+use ulfm_schedule::replayed;
 
 /// The reply of `draw`, in this style.
 pub fn draw_reply(

@@ -4,8 +4,8 @@ use crate::asking::has_come;
 use crate::trace::is_unfinished;
 use std::alloc::{AllocError, Global};
 use ulfm_answer::StepReport;
-use ulfm_reader::Reading;
 use ulfm_command_line::{Remark, StepTold, push_unmet_answers};
+use ulfm_reader::Reading;
 use ulfm_script::RankReport;
 
 /// What is told of the reports of a job's ranks: answers that aren't as their steps expect, rows whose answers all came, and steps that are

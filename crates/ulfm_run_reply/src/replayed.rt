@@ -6,9 +6,9 @@ ghost use Rattle.ulfm_command_line.specs.CommandLine.{AreTurns};
 use crate::trace::trace_reply;
 use crate::turns::given_turns;
 use std::alloc::{AllocError, Global};
+use ulfm_command_line::{Place, Reply, asked_at};
 use ulfm_json::Form;
 use ulfm_replay::replay;
-use ulfm_command_line::{Place, Reply, asked_at};
 
 /// The reply of `replay`.
 pub fn replay_reply(

@@ -25,9 +25,9 @@ use std::thread::Threads;
 use ulfm_base::CallError;
 use ulfm_board::{Decider, Seat, seats};
 use ulfm_carrier::{Ends, LaneEnds, SharedEnds, lanes, shared};
+use ulfm_command_line::{Carrier, Failure, Reply, RunOptions, asked_at, failed};
 use ulfm_job::Job;
 use ulfm_json::Form;
-use ulfm_command_line::{Carrier, Failure, Reply, RunOptions, asked_at, failed};
 use ulfm_run::{Report, fits, run_job};
 use ulfm_script::RankReport;
 

@@ -3,11 +3,11 @@ ghost use Rattle.std.specs.Prelude.{◌≡◌, ◌++◌, IfOk, OnOk, string_byte
 ghost use Rattle.ulfm_run_reply.specs.Sweep.{IsSweepReply, sweep_in, sweep_json, sweep_line, sweep_line_in};
 
 use std::alloc::{AllocError, Global};
+use ulfm_command_line::{DONE, Reply, refusal};
 use ulfm_job::Job;
 use ulfm_json::Form;
 use ulfm_reader::ReadJob;
 use ulfm_replay::{SweepFault, SweepLine, sweep};
-use ulfm_command_line::{DONE, Reply, refusal};
 
 /// The reply of `sweep`.
 pub fn sweep_reply(alloc: Global, form: Form, bytes: &[u8]) -> Result<Reply, AllocError>

@@ -22,10 +22,10 @@ use crate::traced::trace_in;
 use std::alloc::{AllocError, Global};
 use std::sync::Wait;
 use std::thread::Threads;
+use ulfm_command_line::{Carrier, Failure, Remark, Reply};
 use ulfm_job::Job;
 use ulfm_json::Form;
 use ulfm_reader::Reading;
-use ulfm_command_line::{Carrier, Failure, Remark, Reply};
 use ulfm_script::RankReport;
 
 /// A text, as a trace, and how many runs gave it.

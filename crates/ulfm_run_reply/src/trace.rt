@@ -11,10 +11,10 @@ use crate::remarks::remarks_on;
 use crate::traced::trace_in;
 use std::alloc::{AllocError, Global};
 use ulfm_answer::{StepAnswer, StepReport};
+use ulfm_command_line::{DONE, NOT_EXPECTED, Reply, UNFINISHED};
 use ulfm_job::Job;
 use ulfm_json::Form;
 use ulfm_reader::Reading;
-use ulfm_command_line::{DONE, NOT_EXPECTED, Reply, UNFINISHED};
 use ulfm_script::RankReport;
 
 /// The trace of the reports of a job's ranks, in this form, with its status, by what its text asks for.

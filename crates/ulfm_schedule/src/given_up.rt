@@ -2,13 +2,13 @@
 
 use crate::held::{Held, all_held, enters_behind, held_at};
 use crate::missed::{Missed, missed_step};
+use crate::{Remark, Wait, awaited, due_of, need_of, position_by};
 use std::alloc::Global;
 use ulfm_answer::StepAnswer;
 use ulfm_base::OutOfMemory;
 use ulfm_job::{Job, Step};
 use ulfm_log::{Entry, tells_gone};
 use ulfm_script::RankReport;
-use crate::{Remark, Wait, awaited, due_of, need_of, position_by};
 
 /// A step that was given up, or answered only by what others did behind such steps.
 #[derive(Drop)]

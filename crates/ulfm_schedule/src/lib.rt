@@ -1,31 +1,22 @@
-//! What a step waits for that stands open or was given up, and which step of which rank would bring it.
-//!
-//!     for s in &awaited(alloc, rank, rank.log(), need)? {
-//!         let due = due_of(need, position_by(rank, need), &job, *s, done);
-//!         waits.push(Wait::of(r, k, need, *s, done, is_open, job.script(*s), due)?)?;
-//!     }
-//!
-//! Read specs/Waits.antt, then Values.antt: what a [`Wait`] says in words.
-//!
-//! - `need.rt`, `awaiting.rt`: what is waited for, and of whom; `bearing.rt`, `bearer.rt`, `remark.rt`: who would bring it, or why too late
-//! - `wait.rt`, `wording.rt`: that as a value and in words, which its contracts say
-//!
-//! Not here: that what is named would end the wait. It is the step of the script that brings such a thing, and no more is said.
-//!
-//! Schedules as values: what ranks do one after another, which message each receive gets, what came of each rank, and what steps wait for.
+//! Schedules as values: what ranks do one after another, which message each receive gets, what came of each rank, and what open steps wait for.
 //!
 //!     push_schedule(&mut text, &schedule)?;
+//!     let needed = awaited(alloc, rank, rank.log(), need)?;
 //!
-//! A [`Schedule`] is made of a world that was shown by `ulfm_replay`, which also says by contracts that its text is the one of that world;
-//! words, JSON and the pictures of `ulfm_draw` are printed from it. [`replayed`] gives that of a replay, with what steps wait for that it gave
-//! up, by the reports of its ranks.
+//! A [`Schedule`] is made of a world that was shown by `ulfm_replay`, which also says by contracts that its text is the one of that world.
+//! Words, JSON and the pictures of `ulfm_draw` are printed from it. [`replayed`] gives that of a replay, by the reports of its ranks, with what
+//! the steps that it gave up wait for.
 //!
-//! Read specs/Words.antt. No contract says anything of the numbers of messages, of what moves send, nor of [`replayed`]. Pictures, which show
-//! them, are held byte for byte by tools/gate/check-pictures.
+//! Read specs/Words.antt first (a schedule in words), then Waits.antt (what a step waits for that stands open, and which step of which rank would
+//! bring it) and Values.antt (what a [`Wait`] says in words).
 //!
-//! - `schedule.rt`, `moved.rt`, `course.rt`, `cargo.rt`, `parcel.rt`: a schedule, its moves and their parts, and its text
-//! - `numbers.rt`: which message a receive got, read off ranks
-//! - `replaying.rt`, `given_up.rt`, `held.rt`, `missed.rt`, `under_way.rt`: the schedule that a replay was, with what its steps waited for
+//! - `schedule.rt`, `moved.rt`, `cargo.rt`, `parcel.rt`, `course.rt`: a schedule and its parts; `numbers.rt`: its messages by number
+//! - `replaying.rt`, `under_way.rt`, `given_up.rt`: the schedule of a replay
+//! - `need.rt`, `awaiting.rt`: what a step waits for, and of whom; `bearing.rt`, `bearer.rt`: who would bring it
+//! - `wait.rt`, `missed.rt`, `held.rt`, `remark.rt`: an open step as it is told; `wording.rt`: its words
+//!
+//! Not here: the moves of a world's events (`ulfm_replay`). No contract says anything of the numbers of messages, of what moves send, nor of
+//! [`replayed`]. Pictures, which show them, are held byte for byte by `tools/gate/check-pictures`.
 #![tactic(auto)]
 
 mod awaiting;

@@ -2,11 +2,11 @@
 
 use crate::given_up::GivenUp;
 use crate::under_way::{letters_before, sent_by, step_of};
+use crate::would_bring;
 use ulfm_base::Topic;
 use ulfm_job::{Job, Step};
 use ulfm_log::Entry;
 use ulfm_script::RankReport;
-use crate::would_bring;
 
 /// A step that brought what was waited for, after that was given up.
 #[derive(Clone, Copy)]

@@ -4,10 +4,10 @@ ghost use Rattle.ulfm_schedule.specs.Words.{answered_text, deed_text, opened_tex
 
 use crate::cargo::{Cargo, push_cargo};
 use crate::parcel::Parcel;
+use crate::push_named;
 use std::alloc::AllocError;
 use ulfm_answer::{StepReport, push_answer};
 use ulfm_job::NotedStep;
-use crate::push_named;
 
 /// What a rank does in a move.
 #[derive(Drop)]

@@ -9,8 +9,8 @@ ghost use Rattle.ulfm_schedule.specs.Values.{wait_text};
 
 use crate::course::{Course, push_course};
 use crate::moved::{Move, push_deed};
-use std::alloc::AllocError;
 use crate::{Wait, push_wait};
+use std::alloc::AllocError;
 
 /// A schedule: what ranks do one after another, what came of each, and, where some step is to stay open, what steps wait for.
 #[derive(Drop)]

@@ -10,8 +10,8 @@ use ulfm_base::{
     Body, Context, Envelope, Letter, OutOfMemory, Pattern, RankSet, RequestId, Source, Tag,
     WorldRank,
 };
-use ulfm_match::{Arrived, Matcher};
 use ulfm_match::plain::Plain;
+use ulfm_match::{Arrived, Matcher};
 
 /// How many lists of calls are drawn.
 const LISTS: u32 = 1000;

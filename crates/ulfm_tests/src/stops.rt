@@ -2,9 +2,8 @@
 
 use std::alloc::Global;
 use std::test::Fail;
-use ulfm_job::{Job, Step};
+use ulfm_job::{Job, Place, Step, places};
 use ulfm_reader::ReadJob;
-use ulfm_job::{Place, places};
 
 /// Texts, each with the place that it is as it is written once more.
 const TEXTS: [(&str, Option<&str>); 30] = [
