@@ -1,17 +1,25 @@
-//! How items go from rank to rank: each rank has an end, by which it pushes to the inbox of each rank and pops from
-//! its own.
+//! How items go from rank to rank: each rank has an end, by which it pushes to the inbox of each rank and pops from its own.
 //!
 //! [`lanes`] makes ends with a ring for each ordered pair of ranks, [`shared`] ends with one inbox for each rank. Both are [`Ends`]:
 //!
 //!     let ends = lanes(alloc, ranks, capacity)?;
 //!
-//! The definitions are in specs/Lanes.antt and Shared.antt; Family.antt says that ends were made together.
+//! What is promised:
 //!
-//! - `ends.rt`: what every carrier has to do; `residue.rt`, `carried.rt`, `head.rt`: items on their way and left over
-//! - `lane_ends.rt`, `inlet.rt`, `wiring.rt`, `gathering.rt`: rings; `shared_ends.rt`, `inbox.rt`, `own_inbox.rt`, `shared_wiring.rt`, `emptying.rt`: inboxes
+//! - [`Ends`], `push` (`pushed`, `taken`, `others`): an accepted push adds its item, a refused one hands the same item back (`lane_pushed`,
+//!   Lanes.antt; `shared_pushed`, Shared.antt).
+//! - [`Ends`], `pop` (`taken`, `sender`, `pushed`): a pop adds what it gives to what was taken of that sender.
+//! - [`Ends`], `gather` (`residue`, `same`): once all ends are gathered, what was pushed is what was taken and then what is left, in order, for each
+//!   ordered pair of ranks (`IsGathered`, Family.antt, which also says that ends were made together).
+//! - Both carriers (`own`): if a pop finds nothing, all that the rank had pushed to itself was taken.
 //!
-//! The theorem: once ends are gathered, what was pushed is what was taken and then what is left, in order, for each ordered pair (`IsGathered`). Not here:
-//! that a push finds room or a pop an item, but what a rank pushed to itself.
+//! Files:
+//!
+//! - `ends.rt`: the contract of every carrier; `residue.rt`, `carried.rt`, `head.rt`: items on their way and left over
+//! - rings: `lane_ends.rt`, `inlet.rt`, `wiring.rt`, `gathering.rt`
+//! - inboxes: `shared_ends.rt`, `inbox.rt`, `own_inbox.rt`, `shared_wiring.rt`, `emptying.rt`
+//!
+//! Not here: that a push finds room or a pop an item, but for an item that a rank pushed to itself.
 #![tactic(auto)]
 
 mod carried;
