@@ -1,5 +1,5 @@
-//! What one rank knows of failures and revocations (ULFM): which ranks have failed, how many of them were acknowledged
-//! for each communicator, and which communicators are revoked. No call answers out of memory.
+//! What one rank knows of failures and revocations (ULFM): which ranks have failed, how many of them were acknowledged for each communicator, and
+//! which communicators are revoked. No call answers out of memory.
 //!
 //! All of it is in one [`Faults`], of which `ulfm_rank` has one for each rank:
 //!
@@ -7,10 +7,14 @@
 //!     let failed = faults.known_in(&group);
 //!     let total = faults.ack(context, &group, failed.size());
 //!
-//! Each contract names the whole of what a call changes. Read specs/Facts.antt: `known_in`, `ack_answer` and `has_unacked` are what
-//! `MPI_Comm_get_failed`, `MPI_Comm_ack_failed` and a waiting wildcard go by.
+//! What is promised: each contract names the whole of what a call changes.
 //!
-//! All of it is in `faults.rt`. Not here: how a notice comes, and whom it is passed on to.
+//! - `learn`, `known_in`: failures are known in the order of their first notices (`known_in`, Facts.antt), as `MPI_Comm_get_failed` tells them.
+//! - `ack`: acknowledged totals are each communicator's own, and never fall (`ack_answer`, Facts.antt), as `MPI_Comm_ack_failed` counts them.
+//! - `has_unacked`: whether some failure in the group isn't acknowledged, by which a waiting wildcard is pending (`has_unacked`, Facts.antt).
+//! - `revoke`: it marks this context alone, and answers whether that is the first time.
+//!
+//! All of it is in `faults.rt`. Not here: how a notice comes, and to whom it is passed on (`ulfm_log`, `ulfm_rank`).
 #![tactic(auto)]
 
 mod faults;

@@ -1,20 +1,29 @@
-//! What a rank notes, and what follows from it but for receives: its communicators, its shrinks and agreements, and what it owes to each
-//! other rank.
+//! What a rank notes, and what follows from it except for receives: its communicators, its shrinks and agreements, and what it owes to each other
+//! rank.
 //!
-//! A [`Log`] has an [`Entry`] for all that a rank did and took. Beside it stand [`Communicators`], the [`Row`]s that tell of shrinks and
-//! of the last agreements, and the [`Outboxes`]; `ulfm_rank` has one of each for a rank, and keeps them in step:
+//! A [`Log`] has an [`Entry`] for all that a rank did and took. Beside it stand [`Communicators`], the [`Row`]s that tell of shrinks and of the last
+//! agreements, and the [`Outboxes`]; `ulfm_rank` has one of each for a rank, and keeps them in step:
 //!
 //!     announce(&mut outboxes, me, known, members, entrance);
 //!     log.push_reserved(Entry::Entered(entrance));
 //!
-//! Read specs/Log.antt first (what is read off a log), then Facts.antt, Communicators.antt, Owed.antt and Proposal.antt.
+//! What is promised: each contract names the whole of what a call changes, by what is read off a log. Read Log.antt first, then:
+//!
+//! - Facts.antt: which ranks a log knows to have failed, in the order of their notices, and which failures were acknowledged (`known_in`,
+//!   `ack_answer`).
+//! - Communicators.antt: which communicators were made, with which groups.
+//! - Owed.antt: what a rank owes to another, in order, each item once (`owed`). State.antt: what waits in its outboxes, and what of a stop is owed
+//!   (`outbox`, `owes`).
+//! - Proposal.antt: when a rank has a proposal, and which one (`IsProposal`); which decisions are its own affair to adopt (`IsOwnAffair`).
+//!
+//! Files:
 //!
 //! - `log.rt`, `entry.rt`, `noted_answer.rt`, `history.rt`: the log, kept or not
 //! - `facts.rt`, `communicators.rt`: what it tells of stops, revocations and communicators
 //! - `entrances.rt`, `decisive.rt`, `row.rt`, `rounds.rt`: who entered what; `proposal.rt`, `adopting.rt`, `block.rt`: what is proposed and adopted
 //! - `outbox.rt`, `outboxes.rt`, `forwarding.rt`, `word.rt`: what goes out, and what is passed on; `message.rt`: how a found letter is named
 //!
-//! Each contract names the whole of what a call changes. Not here: receives, and so no answer of a test.
+//! Not here: receives, and so no answer of a test. The calls of a rank, with what they promise of its log, are in `ulfm_rank`.
 #![tactic(auto)]
 
 mod adopting;
