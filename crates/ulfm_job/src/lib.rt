@@ -1,8 +1,8 @@
 //! Jobs: what the ranks are to do, and where they stop.
 //!
-//! A [`Job`] has 1 to 8 ranks and 1 to 256 steps in all, or none. A [`Step`] is one call of a rank. A [`Condition`] is asked of
-//! an earlier answer for a step to be played, a [`Clause`] is what a step expects of its answer. A [`LeftStep`] may be given up while it
-//! stands open. `ulfm_reader` reads a job from its text, and all that plays one stands on this crate:
+//! A [`Job`] has 1 to 8 ranks and 1 to 256 steps in all, or none. A [`Step`] is one call of a rank. A [`Condition`] is asked of an earlier answer
+//! for a step to be played, a [`Clause`] is what a step expects of its answer. A [`LeftStep`] may be given up while it stands open. `ulfm_reader`
+//! reads a job from its text, and all that plays one stands on this crate:
 //!
 //!     for step in job.script(rank) { .. }
 //!     let job = job.with_stop(rank, at)?;
@@ -13,9 +13,20 @@
 //!     let job = place.job(alloc, &job)?;
 //!     for place in &places(alloc, &job, 1)? { .. }
 //!
-//! A job always keeps its limits: that is its invariant, `IsJob`. Read specs/Job.antt first (what a job is, and one with more stops or other
-//! turns), then Words.antt (a step in the words of traces), Begins.antt (when an answer begins as a clause says), Place.antt (what a job is with
-//! the stops of a place), Places.antt (all places of a job) and Text.antt (how they are written).
+//! A job always keeps its limits: that is its invariant, `IsJob`. Read Job.antt first, then Words.antt (a step in the words of traces) and
+//! Begins.antt (when an answer begins as a clause says).
+//!
+//! What is promised:
+//!
+//! - [`Job`], `with_turns`, `with_stop`, `with_left`: a job with other turns, one more stop, or one more step that may be given up early, is the
+//!   same in all else (`with_turns`, `with_stop`, `with_left`, Job.antt).
+//! - [`Place`], `job`: the job at a place is the job with its stops, one before each named step, in the numbers of the file; or behind it, where the
+//!   rank dies inside it, and the step may be given up. It is refused where it would have more than 256 steps (`job_at`, Place.antt).
+//! - [`places`]: the places of a job are listed in their order, up to a stop of each rank that is always played (`places_of`, Places.antt). Each is
+//!   inside the job (`IsPlaceOf`, Place.antt).
+//! - [`Place`], `parse`: a text is read as the place that is written so, or as none (`place_of_text`, `place_text`, Text.antt).
+//!
+//! Not here: whether a job gets stuck, or what its steps are answered.
 #![tactic(auto)]
 
 mod clause;

@@ -3,15 +3,25 @@
 //!     let job = Job::read(alloc, bytes)?;
 //!     for line in &written_out(alloc, ranks, items)? { .. }
 //!
-//! [`ReadJob`] has the first call: it answers the job of the text, or its first fault, in the order of docs/JOBS.md. A [`Reading`] also has
-//! the rows of answers of which no run may have all, the names of steps and their places in the file, what is asked only before the steps of
-//! a name, and reads the answers that a line of text names. Read specs/JobText.antt (a job), then StepText.antt (a step), Reacting.antt
-//! (names, conditions, what is expected), Never.antt (rows), Provisos.antt (before which steps) and Goals.antt (such a line).
+//! A [`Reading`] has, beside the job, the rows of answers of which no run may have all, the names of steps and their places in the file, and what is
+//! asked only before the steps of a name. It also reads the answers that a line of text names.
 //!
-//! By [`written_out`] blocks become their iterations, and steps for several ranks a step for each. It never fails, but for memory and for more
-//! than 256 steps: what has none of the short forms is left as it is, for the reader to refuse. Read specs/Ranks.antt first (a step for several
-//! ranks), then Iterations.antt and Blocks.antt (a block of steps), Guards.antt (where errors in a block lead), Together.antt (conditions beside a
-//! step's own), Lines.antt (all steps) and Documents.antt (the table of a job).
+//! What is promised:
+//!
+//! - [`ReadJob`], `read`: the job is the one that the text has, its steps written out, or its first fault, in the order of docs/REFUSALS.md
+//!   (`job_of_bytes`, JobText.antt; a step: StepText.antt; names, conditions and what is expected: Reacting.antt).
+//! - [`Reading`], `read`: so is this, with the rows of `never` (`reading_of_bytes`, `never_of_bytes`, JobText.antt; rows: Never.antt; before which
+//!   steps: Provisos.antt; a line of answers: Goals.antt).
+//! - [`written_out`]: a step for several ranks is one for each of them, and `to` and `from` by neighbours are numbers. A block is its steps in each
+//!   iteration, and an error in it leads to the step that it names, by conditions beside a step's own. All else is as it stands. More than 256 steps
+//!   are refused (`written_out`, Lines.antt; `iterated`, Iterations.antt; `guarded`, Guards.antt).
+//! - [`written_job`]: the table of a job with its steps and rows written out (`written_job`, Documents.antt).
+//!
+//! [`written_out`] never fails, but for memory and for more than 256 steps: a step that has none of the short forms is left as it is, for the reader
+//! to refuse. Read Ranks.antt first (a step for several ranks), then Iterations.antt and Blocks.antt (a block of steps), Guards.antt (where errors
+//! in a block lead), Together.antt (conditions beside a step's own), Lines.antt (all steps) and Documents.antt.
+//!
+//! Not here: why a text is refused, in words for people (`ulfm_explain`), and a job with the stops of a place (`ulfm_command_line`).
 #![tactic(auto)]
 
 mod answers;

@@ -4,15 +4,27 @@
 //!
 //!     let called = player.call(&step);
 //!
-//! [`turn`] is one turn of a rank over the hands of whoever runs it: items go out, one comes in, a step is polled. [`trace_text`]
-//! prints what all ranks report. Read specs/Calls.antt (what a poll says), then Answered.antt (what a report owes).
+//! [`turn`] is one turn of a rank over the hands of its caller: items go out, one comes in, a step is polled. [`trace_text`] prints what all ranks
+//! report. Read Calls.antt first (what a poll says), then Answered.antt (what a report owes).
+//!
+//! What is promised:
+//!
+//! - [`Player`], `call` (`called`): each poll answers its step by the rank's log, or leaves it open by it (`AnswersStep`, `LeavesOpen`, Calls.antt).
+//! - [`Player`], `decide` (`decides`): the first poll of a shrink or an agreement enters it. Later, where the rank has a proposal, it is handed in,
+//!   and what the board holds is adopted and told (`IsDecided`, `AnswersDecision`, Deciding.antt).
+//! - [`Player`], `is_next_played`, `skip`: a step is played exactly where it has no condition, or all those of one alternative hold of the rank's
+//!   own answers so far (`is_played`, `fulfils`, Reacting.antt of `ulfm_answer`).
+//! - [`trace_text`], [`all_met`]: the trace is the text of the reports, byte for byte, a line for each answer (`trace_of`, Trace.antt of
+//!   `ulfm_answer`). Whether all answers are as their steps expect is told (`all_met`, Reacting.antt of `ulfm_answer`).
+//!
+//! Files:
 //!
 //! - `player.rt`, with `player/` for polls, decisions, items and copies; `called.rt`: what came of a poll
 //! - `poll.rt`, `receiving.rt`, `joint.rt`, `topic.rt`, `members.rt`: one poll, by the kind of its step
 //! - `hands.rt`: a turn; `report.rt`, `trace.rt`, `expected.rt`: what a rank did, its text, and whether it is as the job expects
 //! - `fault.rt`: why a run fails
 //!
-//! The theorem: each answer of [`Player::call`] is `AnswersStep` on the rank's log (`called`). Not here: whose turn it is.
+//! Not here: whose turn it is. The trace as JSON is in `ulfm_json`.
 #![tactic(auto)]
 
 mod called;
