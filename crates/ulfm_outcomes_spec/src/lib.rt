@@ -1,17 +1,38 @@
-//! What a list of all outcomes is, a schedule that shows answers, and its text; and who finds them.
+//! The definitions of `outcomes`: what a list of all outcomes is, a schedule that shows answers, and its text; and [`Finder`], which finds them.
 //!
 //!     let reach = finder.outcomes(alloc, &job, limit, &mut watch)?;
 //!     let unmet = first_unmet(&job, &reached.found);
 //!
-//! Here are the theorems of `outcomes` as definitions. Read `IsWholeList` of specs/Outcomes.antt: it says that the list is whole, and that nothing
-//! else is in it. Then `IsPossible` and `IsSchedule` of Goals.antt, `IsScheduleText` of Schedule.antt, whose lines are said in specs/ of
-//! `ulfm_replay`, and `IsLook` of Told.antt, which puts them together.
+//! What is promised of each job is about all schedules in which ranks follow their scripts, give nothing up but what the job lets them
+//! (`may_leave`), and never lack memory, with a ring for each ordered pair of ranks (`ComesTo`, Obeying.antt of `ulfm_reduction`).
 //!
-//! - `finder.rt`: [`Finder`], with the two contracts on which replies rest
-//! - `unmet.rt`: [`first_unmet`], whether a job is as it expects in every schedule, by its list (`Judges` of Unmet.antt)
+//! [`Finder`], `outcomes`, ensures `IsList` (Outcomes.antt): `IsWholeList`, or `IsTooMany`. The fields of `IsWholeList`:
 //!
-//! Not here: the search that meets these contracts (`ulfm_outcomes`). Replies are proved over [`Finder`], and so beside that search, not after
-//! it. The program has one finder, which `main` alone names.
+//! - `complete`, `stuck`: no answer is left out, in the words of the trace. Neither is a step that some schedule leaves open for ever: no schedule
+//!   can go on, its rank runs, and it stands open (`IsOutcome`, `IsStuck`, Outcomes.antt).
+//! - `shared_complete`, `shared_stuck`: the same of schedules over shared inboxes, one for each rank (`IsSharedOutcome`, `IsSharedStuck`,
+//!   Outcomes.antt).
+//! - `possible`, `coded`: nothing is invented: each row is an answer that some schedule over rings gives, or a step that one leaves open for ever. A
+//!   row without the code of an answer is that of an open step alone (`IsOfAnswer`, `IsOfOpen`, Outcomes.antt).
+//! - `not_reached`: a step without a row is answered by no schedule, and none leaves it open for ever (`IsNotReached`, Outcomes.antt).
+//! - `reached`, `covered`, `few`: the keys that are counted are different, and each is that of a world to which a late schedule leads. In a job in
+//!   which no event goes first each such world has one of them, or goes on as one that has. Otherwise events of seven kinds go first (`choosing.rt`
+//!   of `ulfm_outcomes` has them): worlds at which one does aren't counted, and those in which others went on meanwhile aren't looked at. The keys
+//!   are no more than the limit (`AreKeysOfJob`, `HasKeyIn`, Outcomes.antt; `NoneGoesFirst`, First.antt of `ulfm_reduction`).
+//!
+//! If there are more different keys than the limit, `IsTooMany` (Outcomes.antt) says so (`many`), and nothing is said of answers.
+//!
+//! - [`Finder`], `show`: a schedule of the job with all the answers that are sought, and its text, or that there are more worlds than the limit
+//!   (`IsTold`, Told.antt), or nothing where no schedule has them all (`IsLook`, Told.antt). Read `IsPossible`, `IsSchedule`, Goals.antt, and
+//!   `IsScheduleText`, Schedule.antt, whose lines are said in `ulfm_replay`.
+//! - [`first_unmet`]: by the list, whether each answer is as its step expects in every schedule (`MeetsExpected`, `Judges`, Unmet.antt).
+//!
+//! Files:
+//!
+//! - `finder.rt`: [`Finder`], with the two contracts on which replies rest; `unmet.rt`: [`first_unmet`]
+//!
+//! Not here: the search that meets these contracts (`ulfm_outcomes`). Replies are proved over [`Finder`], and so beside that search, not after it.
+//! The program has one finder, which `main` alone names.
 #![tactic(auto)]
 
 mod finder;
