@@ -1,12 +1,17 @@
-//! What came of a job in the forms that are written: in plain words or MPI's, for people, and as JSON, an object a line, for programs. The keys
-//! of objects are in docs/JSON.md and in jobs/output.schema.json.
+//! What came of a job in the forms that are written: in plain words or MPI's, for people, and as JSON, an object a line, for programs. The keys of
+//! objects are in docs/JSON.md and in jobs/output.schema.json.
 //!
 //!     push_steps(&mut text, names, &job, rank, report.steps())?;
 //!
-//! Each call says by its contract which text it adds. A trace is `trace_json` of specs/Trace.antt, which has an object for each line of `trace_of`
-//! of `ulfm_answer`, with the names that were read of its steps. What lists and schedules share with traces stands here too: [`push_head`] begins
-//! the object of a step, and [`push_answered`] one with its answer. [`push_call_in`] and [`push_told_in`] put a call and an answer in the words of
-//! a [`Wording`].
+//! What is promised: each call says by one clause which text it adds.
+//!
+//! - [`push_steps`], [`push_end`]: a trace as JSON has an object for each line of the trace in words, with the names that were read of its steps
+//!   (`trace_json`, Trace.antt; in either form: `trace_in`, Form.antt).
+//! - [`push_head`] begins the object of a step, and [`push_answered`] one with its answer: what lists and schedules share with traces.
+//! - [`push_call_in`], [`push_told_in`], [`push_answer_in`], [`push_lines_in`]: a call, an answer and lines in the words of a [`Wording`]
+//!   (Worded.antt, WordedTrace.antt; MPI's: MpiCall.antt, MpiAnswer.antt).
+//!
+//! Files:
 //!
 //! - `trace.rt`: steps and the ends of ranks as objects; `call.rt`: what a step asks for; `answer.rt`: what it was answered; `parts.rt`: texts and
 //!   lists of objects

@@ -5,25 +5,36 @@
 //!     let list = lists_of(alloc, &job, steps, judgement, listed)?;
 //!     push_unmet(&mut text, form, Some(place), asked, unmet, &told)?;
 //!
-//! What a search found are rows: the rank, the number of its step, and the code of an answer, or nothing more where the step never ends.
-//! [`list_of`] makes the value `list_found` of specs/Listed.antt of them, [`lists_of`] the value `list_at` of List.antt, of the lists of all places,
-//! and [`push_list`] adds the text of either, `printed` of Objects.antt. What these lines tell of schedules is the law `lines_tell` of
-//! `ulfm_outcomes`. Below a list stands what isn't as it should be, and the schedule that shows it: the texts of Told.antt.
+//! A search finds rows: the rank, the number of its step, and the code of an answer, or nothing more where the step never ends. Read Text.antt first
+//! (what rows tell), then Judgement.antt (what a list comes to). Each call promises by one clause its whole result:
 //!
-//! Read specs/Text.antt first (what rows tell), then Judgement.antt (what a list comes to), Listed.antt (a list as a value), Words.antt and
-//! Objects.antt (how it is printed), Unmet.antt and Goals.antt. Then Numbers.antt (steps as the file numbers them, and at a place), Union.antt
-//! (what all lists tell of a step, and where), List.antt and Told.antt, with Scheduled.antt (a schedule as objects) and Worded.antt (in MPI's words).
+//! - [`list_of`]: each step of the job in the order of the trace, its answers in the order of their texts, each once, and whether it never ends
+//!   (`list_found`, Listed.antt). A [`StepList`] has them as values, each answer as a `ToldAnswer`.
+//! - [`lists_of`]: as one list, an answer stands at a place exactly where the list of this place has it for the same step, which the file may number
+//!   otherwise than the job at the place. So it is with a step that never ends (`list_at`, List.antt; `places_with`, Union.antt; `number_at`,
+//!   Numbers.antt).
+//! - [`push_list`]: it prints such a value, for one place or for all alike, each answer with its places (`printed`, Objects.antt), in words
+//!   (`list_text`, Words.antt) or as JSON (`list_json`, Objects.antt). In words a line names eight places at most. What lines tell of schedules is
+//!   the law `lines_tell` of `ulfm_outcomes`.
+//! - [`unmet_in`], `Goals::of`: the first answer that isn't as its step expects (`first_unmet`, Unmet.antt), and what a schedule is to show
+//!   (Goals.antt).
+//! - [`push_told`], [`push_unmet`], [`push_row`], [`push_more_at`]: what stands below a list: what isn't as it should be, and the schedule that
+//!   shows it (Told.antt), in plain words, in MPI's (Worded.antt), or as objects (`schedule_json`, Scheduled.antt).
+//!
+//! Files:
 //!
 //! - `rows.rt`: what rows tell of a step; `wanted.rt`: whether they have what goals ask for
 //! - `list.rt`: from rows to a list; `step_list.rt`, `listed_step.rt`, `outcomes.rt`, `outcome.rt`: its parts, from the whole down
-//! - `list_of_places.rt`, `union.rt`: the lists of places as one; `listed.rt`: what is kept of one of them
+//! - `list_of_places.rt`, `union.rt`: the lists of places as one; `listed.rt`: what is kept of one of them; `numbers.rt`: steps as the file numbers
+//!   them
 //! - `judgement.rt`: what a list comes to, in a word or two
 //! - `printing.rt`: a list as text, by `words.rt` (or `worded.rt`, in MPI's words) or by `objects.rt`
 //! - `unmet.rt`: answers that aren't as expected; `goals.rt`: what a schedule is to show
 //! - `told.rt`: what is told below a list; `scheduled.rt`: a schedule as JSON, of `events.rt` and `waits.rt`; `worded_places.rt`: one in MPI's words
 //! - `job_step.rt`: the steps of a job; `open_step.rt`: one that is left open
 //!
-//! Not here: whether the rows are all there are (`ulfm_outcomes`). That a schedule is one of the job is what its finder promises.
+//! Not here: whether the rows are all there are (`ulfm_outcomes`), and that a schedule is one of the job (`ulfm_outcomes_spec`). No contract says
+//! that the message of an event is the one that its step got.
 #![tactic(auto)]
 
 mod events;
