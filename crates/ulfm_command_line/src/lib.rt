@@ -1,23 +1,38 @@
-//! What is said without an engine: of the words of a command line, and of a job's text.
+//! Command lines, a job's text with the stops of a place, and the replies that need no engine: `check`, `expand`, `places`, and refusals.
 //!
 //!     let asked = asked_for(alloc, words)?;
 //!     let reply = check_reply(alloc, asked.form, bytes)?;
 //!
-//! [`asked_for`] reads the words: it answers what `meant` of specs/CommandLine.antt says that they ask for. [`asked_at`] reads a job's text with
-//! the stops of a place: `IsAskedAt` of Stopped.antt. [`check_reply`], [`expand_reply`] and [`places_reply`] are the replies that need no more
-//! than that (Replies.antt, Expanded.antt, Places.antt). The law [`nowhere_is_as_read`] says that without a stop the job is the one of the text.
-//! Read CommandLine.antt first, then Wish.antt (what of that is said in names of steps), Holding.antt (what holds at a place of what a text asks
-//! for), Stopped.antt, Named.antt (places by names), and then Replies.antt.
+//! Read CommandLine.antt first, then Wish.antt (the parts of a command line that name steps), Holding.antt (what holds at a place of what a text
+//! asks for), Stopped.antt, Named.antt (places by names), and then Replies.antt. What is promised:
 //!
-//! - words: `subcommands.rt`, `options.rt`, `flagged.rt` (what clap is told), `command.rt` (what was asked for), `listed.rt`, `wish.rt`,
-//!   `placed.rt` and `number.rt` (parts of that), `asked.rt` (the call, or what is said in its place)
+//! - [`asked_for`] (`ok`, `form`, `wish`, `files`, `ranges`, `no_fault`, `told`): it answers what the words ask for (`meant`, CommandLine.antt),
+//!   which files they name (`files_in`, CommandLine.antt), and the form of the reply (`form_asked`, CommandLine.antt). Words that can't be followed,
+//!   or ask for help, are told so (`AsksFor`, `IsWordsStatus`, CommandLine.antt).
+//! - [`asked_at`]: with `--stop PLACE` the answers are those of the job, its rows and its names with the stops of that place; a place that the job
+//!   hasn't is refused (`IsAskedAt`, `IsRefusal`, Stopped.antt). A job may ask some of it only before a step: it asks that where each stop lies
+//!   before the step (`held_at`, Holding.antt).
+//! - [`settled_place`]: a step may be named in a place: its number is that of the first step of the rank with this name, and where there is none the
+//!   text is refused (`IsNamed`, `IsUnnamed`, Named.antt; `place_named`, Naming.antt).
+//! - [`nowhere_is_as_read`]: this law says that without a stop the job is the one of the text.
+//! - [`check_reply`]: whether the job is good, or the line of its refusal (`IsCheckReply`, `refused_in`, Replies.antt).
+//! - [`expand_reply`]: a text whose TOML document is that of the job with its steps and rows written out, where it isn't nested deeper than TOML is
+//!   read (`IsExpandReply`, Expanded.antt).
+//! - [`places_reply`]: the places of the job, a line each (`IsPlacesReply`, Places.antt; `places_of`, Places.antt of `ulfm_job`).
+//! - [`failed`]: the line of a failure, in either form (`failed_in`, `out_of_memory_text`, Failure.antt).
+//!
+//! Files:
+//!
+//! - words: `subcommands.rt`, `options.rt`, `flagged.rt` (what clap is told), `command.rt` (what was asked for), `listed.rt`, `wish.rt`, `placed.rt`
+//!   and `number.rt` (parts of that), `asked.rt` (the call, or what is said in its place)
 //! - what else is said of words: `unmeant.rt`, `tips.rt`, `help.rt`, `version.rt`
-//! - a text at a place: `stopped.rt`, `holding.rt` (what is asked before the steps of a name), `looked_at.rt` (which rows count),
-//!   `copied.rt` (parts of a reading once more), `laws.rt`; places by names: `naming.rt`, `named.rt`
+//! - a text at a place: `stopped.rt`, `holding.rt` (what is asked before the steps of a name), `looked_at.rt` (which rows count), `copied.rt` (parts
+//!   of a reading once more), `laws.rt`; places by names: `naming.rt`, `named.rt`
 //! - replies: `reply.rt` (`check`, refusals, and the statuses of the program), `expanded.rt`, `written.rt` (`places`), `failure.rt` (no trace)
 //! - for standard error alone: `remark.rt`, `unmet.rt`, `verdict.rt`
 //!
-//! Not here: replies that an engine makes (`ulfm_run_reply`, `ulfm_outcomes_reply`), and the way to the streams (`ulfm_program`).
+//! Not here: replies that an engine makes (`ulfm_run_reply`, `ulfm_outcomes_reply`), and the way to the streams (`ulfm_program`). No contract speaks
+//! of the words of help, of tips and of remarks.
 #![tactic(auto)]
 
 mod asked;

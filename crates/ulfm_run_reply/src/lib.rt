@@ -1,11 +1,30 @@
-//! What `replay`, `run`, `sweep` and `draw` reply: what comes of a job that is played.
+//! The replies of `replay`, `run`, `sweep` and `draw`: what comes of a job that is played.
 //!
 //!     let reply = replay_reply(alloc, form, is_strict, turns, place, bytes)?;
 //!     let reply = run_reply(&rt, alloc, form, options, bytes)?;
 //!
-//! Each reply has a theorem in its contract: `IsReplayReply`, `IsRunReply` and `IsDrawReply` of specs/Played.antt, `IsSweepReply` of Sweep.antt.
-//! They rest on `replay` and `sweep` of `ulfm_replay` and on `run_job`, `at_rest` and `fits` of `ulfm_run`. Read Played.antt first, then
-//! Tally.antt and Brief.antt (runs that are repeated).
+//! What is promised: each call has one clause. They rest on `replay` and `sweep` of `ulfm_replay` and on `run_job`, `at_rest` and `fits` of
+//! `ulfm_run`. Read Played.antt first, then Tally.antt and Brief.antt (runs that are repeated).
+//!
+//! - [`replay_reply`]: the trace is that of a replay, which is lawful for the job and ends at rest (`IsReplayReply`, Played.antt).
+//! - [`run_reply`]: the trace is of reports that are lawful for the job, have an order that rings of its `capacity` allow, and leave no more of any
+//!   sender in an inbox than these have places (`IsRunReply`, Played.antt).
+//! - Both: a trace comes with 9 exactly where an answer isn't as its step expects, or all answers of a row of `never` came; otherwise by `--strict`
+//!   with 6 exactly where a step is unfinished, but for one that its rank may give up to die inside it; otherwise with 0. A row that names a step
+//!   inside which its rank may die isn't looked at (`as_asked`, Asking.antt; `played_status`, Unfinished.antt; `is_looked_at`, Asking.antt of
+//!   `ulfm_command_line`).
+//! - [`run_reply`] fails with F2 for good jobs alone, and with F4 only where some reports of the job's ranks show an untrue decision, an answer of
+//!   11, or no one order; or where some lawful ones have no order that rings of its `capacity` allow, or leave more of a rank in an inbox than these
+//!   have places. There is an inbox for each rank, and nothing is left in it of others (`failed_in`, Failure.antt of `ulfm_command_line`;
+//!   `ShowUntrue`, Fault.antt of `ulfm_run`; `ShowNoRoom`, `AreOfRanks`, Played.antt).
+//! - With `--turns N` a replay or a run is one of the job with `turns = N` (`given_turns`, Played.antt).
+//! - With `--repeat N` there are `N` lists of lawful reports, and each distinct trace is written once, with its count. With `--brief` too, each
+//!   distinct line is (`repeats_in`, Brief.antt).
+//! - [`sweep_reply`]: a line for each place of a stop, in order, as `ulfm_replay` promises them (`IsSweepReply`, `sweep_in`, Sweep.antt).
+//! - [`draw_reply`]: with 0 the job was replayed (`IsDrawReply`, Played.antt).
+//! - A trace is the text of the reports, byte for byte, in words or as JSON (`trace_in`, Form.antt of `ulfm_json`).
+//!
+//! Files:
 //!
 //! - `replayed.rt`, `run.rt`, `swept.rt`, `picture.rt`: the four replies
 //! - `trace.rt`: the reply that a trace is, with its status; `traced.rt`: its text, in words or as JSON
