@@ -6,7 +6,7 @@
 //! A job's conditions and expectations compare the words of an answer with their own, without a text: [`fulfils`] and [`holds_of`] follow the words
 //! as they are put. Read Told.antt first (what is told of an answer, and its code).
 //!
-//! What is promised, each call by one clause that names its whole result:
+//! It promises, each call by one clause that names its whole result:
 //!
 //! - [`is_played`], [`fulfils`]: a step is played exactly where it has no condition, or all those of one alternative hold of the rank's own answers
 //!   so far (`is_played`, `fulfils`, Reacting.antt).

@@ -4,7 +4,7 @@
 //!
 //!     let held = decider.decide(decision)?;
 //!
-//! What is promised:
+//! It promises:
 //!
 //! - [`Decider`], `decide` (`answers`, `unchanged`, `starves`): a decider answers always what it answered first (`Answers`, Known.antt). If it knew
 //!   none and is out of memory, it answers that, and nothing changes.

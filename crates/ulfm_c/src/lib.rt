@@ -1,4 +1,4 @@
-//! What C calls: an export for each call of a process, which is one rank of a running program. `c/include/ulfm.h` says what each does;
+//! The calls for C: an export for each call of a process, which is one rank of a running program. `c/include/ulfm.h` says what each does;
 //! `c/engine/ulfm.c` looks for null pointers before it calls one.
 //!
 //! A [`Process`] is a [`Rank`](ulfm_rank::Rank) that keeps no log, with its end of a carrier and its seat at a board. [`world`] makes those of a
@@ -11,7 +11,7 @@
 //! asks before what comes: `next_from`, `would`. Contracts see a process as its rank's state, its end, and what its seat knows (`ProcessView`,
 //! View.antt).
 //!
-//! What is promised of a [`Process`]:
+//! Promises of a [`Process`]:
 //!
 //! - `isend`, `irecv`, `test`, `cancel`, `iprobe`, `improbe`, `mrecv`, `dup`, `revoke`, `ack_failed`, `enter_shrink`, `enter_agree`, `stop` and the
 //!   others: each does what its rank's call does, and is refused for its causes, as `ulfm_rank` promises; else nothing of the process changes. An
@@ -35,7 +35,7 @@
 //! - [`world`]: the processes of a world start, by their numbers, with rings that join them, each with `capacity` places known to be free, and seats
 //!   of one board. Each looks first at rank 0 (`IsWorld`, Making.antt).
 //!
-//! C holds a process by a [`Handle`](handle::Handle). What is promised of each export, as `ulfm_c_isend`:
+//! C holds a process by a [`Handle`](handle::Handle). Promises of each export, as `ulfm_c_isend`:
 //!
 //! - A slot without a process is null. Each export answers it with 16, and writes nothing; `ulfm_c_end` too (`none`, `code`). Otherwise it has one
 //!   before and after (`slot_owns`, Slot.antt; `Call`, Calls.antt). `Slot` is `Send`: it may go to another thread.

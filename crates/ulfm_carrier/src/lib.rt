@@ -4,7 +4,7 @@
 //!
 //!     let ends = lanes(alloc, ranks, capacity)?;
 //!
-//! What is promised:
+//! It promises:
 //!
 //! - [`Ends`], `push` (`pushed`, `taken`, `others`): an accepted push adds its item, a refused one hands the same item back (`lane_pushed`,
 //!   Lanes.antt; `shared_pushed`, Shared.antt).

@@ -4,7 +4,7 @@
 //!     let reply = check_reply(alloc, asked.form, bytes)?;
 //!
 //! Read CommandLine.antt first, then Wish.antt (the parts of a command line that name steps), Holding.antt (what holds at a place of what a text
-//! asks for), Stopped.antt, Named.antt (places by names), and then Replies.antt. What is promised:
+//! asks for), Stopped.antt, Named.antt (places by names), and then Replies.antt. It promises:
 //!
 //! - [`asked_for`] (`ok`, `form`, `wish`, `files`, `ranges`, `no_fault`, `told`): it answers what the words ask for (`meant`, CommandLine.antt),
 //!   which files they name (`files_in`, CommandLine.antt), and the form of the reply (`form_asked`, CommandLine.antt). Words that can't be followed,

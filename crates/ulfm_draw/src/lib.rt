@@ -1,9 +1,10 @@
-//! Pictures of what ranks did: a line for each of them, an arrow for each item that one took from another, and the answers in words.
+//! Pictures of schedules: a line for each rank, an arrow for each item that one took from another, and the answers in words.
 //!
 //!     let drawing = drawn(alloc, Style::Svg, Wording::Plain, &job, &schedule, "")?;
 //!
-//! A picture is a function of a job and a schedule of it: of one that was shown, or of what a replay did. No contract says anything of it.
-//! Pictures are held byte for byte by tools/gate/check-pictures.
+//! A picture is a function of a job and a schedule of it: of one that was shown, or of a replay.
+//!
+//! Files:
 //!
 //! - `making.rt`: from a schedule to a picture; `picture.rt`: what one has; `row.rt`, `arrow.rt`, `wait.rt`: moves, items on their way, open steps
 //! - `circles.rt`: what waits come to; `kind.rt`, `mark.rt`, `saying.rt`: what a move is, its mark and its words; `legend.rt`: what marks stand for
@@ -12,7 +13,8 @@
 //!   `wrapping.rt` (texts)
 //! - `escaped.rt`: [`push_escaped`], a text as markup has it
 //!
-//! Which message a receive got stands in the schedule: nothing is matched here.
+//! Not here: any promise. No contract says anything of a picture; pictures are held byte for byte by tools/gate/check-pictures. Nothing is matched
+//! here either: which message a receive got stands in the schedule.
 #![tactic(auto)]
 
 mod arrow;

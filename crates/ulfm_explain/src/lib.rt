@@ -1,13 +1,14 @@
-//! What standard error says, for people: what is wrong with a job's text, and where, and what is to be said beside a reply.
+//! The words of standard error, for people: what is wrong with a job's text, and where, and what else is to be said beside a reply.
 //!
 //!     for explanation in explain(alloc, bytes)? { .. }
 //!     write_verdict(alloc, has_colour, &reply, &mut errors);
 //!     write_notes(alloc, wanted, bytes, &reply, &mut errors);
 //!     write_fault(alloc, usage, &mut errors);
 //!
-//! [`explain`] tells why a job is refused, [`warnings`] what of a good one will be refused. One thing is promised of both: there are ten at most
-//! (clause `few`). That a job is refused, and by which line, isn't decided here but by `ulfm_reader`; the words here come from a second look at
-//! the text, and no contract says that they are right. They are held by tools/gate/bad-jobs. What is told of steps and rows comes with the reply.
+//! It promises one thing: [`explain`], which tells why a job is refused, and [`warnings`], which tells what of a good one will be refused, give ten
+//! at most (clause `few`).
+//!
+//! Files:
 //!
 //! - `check.rt`: [`explain`], in the order in which the reader looks for faults; `warning.rt`: [`warnings`]; `findings.rt`: the ten
 //! - `explanation.rt`, `place.rt`: what is wrong, and where; `marks.rt`, `walk.rt`: where keys and steps begin in a text
@@ -19,6 +20,9 @@
 //! - `notes.rt`: the three calls that write; `told_steps.rt`: lines of steps and of rows; `counted.rt`: lines below their count
 //! - `goal.rt`: why a goal of `--show` names no answer; `naming.rt`, `unnamed.rt`: why a part of `--only`, or of `--stop`, names no step
 //! - `misplaced.rt`: why a job hasn't a place
+//!
+//! Not here: whether a job is refused, and by which line of the output. `ulfm_reader` decides that; the words here come from a second look at the
+//! text, and no contract says that they are right: tools/gate/bad-jobs holds them. The reply itself brings what is told of steps and rows.
 #![tactic(auto)]
 
 mod answering;

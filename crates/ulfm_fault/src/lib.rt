@@ -1,5 +1,5 @@
-//! What one rank knows of failures and revocations (ULFM): which ranks have failed, how many of them were acknowledged for each communicator, and
-//! which communicators are revoked. No call answers out of memory.
+//! All that one rank knows of failures and revocations (ULFM): which ranks have failed, how many of them were acknowledged for each communicator,
+//! and which communicators are revoked. No call answers out of memory.
 //!
 //! All of it is in one [`Faults`], of which `ulfm_rank` has one for each rank:
 //!
@@ -7,7 +7,7 @@
 //!     let failed = faults.known_in(&group);
 //!     let total = faults.ack(context, &group, failed.size());
 //!
-//! What is promised: each contract names the whole of what a call changes.
+//! Each contract names the whole of what a call changes.
 //!
 //! - `learn`, `known_in`: failures are known in the order of their first notices (`known_in`, Facts.antt), as `MPI_Comm_get_failed` tells them.
 //! - `ack`: acknowledged totals are each communicator's own, and never fall (`ack_answer`, Facts.antt), as `MPI_Comm_ack_failed` counts them.

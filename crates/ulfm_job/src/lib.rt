@@ -16,7 +16,7 @@
 //! A job always keeps its limits: that is its invariant, `IsJob`. Read Job.antt first, then Words.antt (a step in the words of traces) and
 //! Begins.antt (when an answer begins as a clause says).
 //!
-//! What is promised:
+//! It promises:
 //!
 //! - [`Job`], `with_turns`, `with_stop`, `with_left`: a job with other turns, one more stop, or one more step that may be given up early, is the
 //!   same in all else (`with_turns`, `with_stop`, `with_left`, Job.antt).

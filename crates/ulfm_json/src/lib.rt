@@ -1,9 +1,9 @@
-//! What came of a job in the forms that are written: in plain words or MPI's, for people, and as JSON, an object a line, for programs. The keys of
+//! The result of a job in the forms that are written: in plain words or MPI's, for people, and as JSON, an object a line, for programs. The keys of
 //! objects are in docs/JSON.md and in jobs/output.schema.json.
 //!
 //!     push_steps(&mut text, names, &job, rank, report.steps())?;
 //!
-//! What is promised: each call says by one clause which text it adds.
+//! Each call promises by one clause which text it adds:
 //!
 //! - [`push_steps`], [`push_end`]: a trace as JSON has an object for each line of the trace in words, with the names that were read of its steps
 //!   (`trace_json`, Trace.antt; in either form: `trace_in`, Form.antt).
@@ -18,8 +18,8 @@
 //! - `worded.rt`, `worded_trace.rt`: calls, answers and traces in plain words or MPI's, of `mpi_call.rt` and `mpi_answer.rt`
 //! - `form.rt`: words or JSON; `wording.rt`: whose words; `style.rt`: the forms of a picture
 //!
-//! Not here: the objects of lists (`ulfm_list`) and of sweeps (`ulfm_run_reply`). That the output is JSON by its schema isn't proved:
-//! tools/gate/check-json looks at it.
+//! Not here: the objects of lists (`ulfm_list`) and of sweeps (`ulfm_run_reply`). It isn't proved that the output is JSON by its schema:
+//! tools/gate/check-json looks at that.
 #![tactic(auto)]
 
 mod answer;

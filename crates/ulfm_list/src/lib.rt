@@ -14,8 +14,8 @@
 //!   otherwise than the job at the place. So it is with a step that never ends (`list_at`, List.antt; `places_with`, Union.antt; `number_at`,
 //!   Numbers.antt).
 //! - [`push_list`]: it prints such a value, for one place or for all alike, each answer with its places (`printed`, Objects.antt), in words
-//!   (`list_text`, Words.antt) or as JSON (`list_json`, Objects.antt). In words a line names eight places at most. What lines tell of schedules is
-//!   the law `lines_tell` of `ulfm_outcomes`.
+//!   (`list_text`, Words.antt) or as JSON (`list_json`, Objects.antt). In words a line names eight places at most. The law `lines_tell` of
+//!   `ulfm_outcomes` says what these lines tell of schedules.
 //! - [`unmet_in`], `Goals::of`: the first answer that isn't as its step expects (`first_unmet`, Unmet.antt), and what a schedule is to show
 //!   (Goals.antt).
 //! - [`push_told`], [`push_unmet`], [`push_row`], [`push_more_at`]: what stands below a list: what isn't as it should be, and the schedule that

@@ -1,5 +1,5 @@
-//! What a rank notes, and what follows from it except for receives: its communicators, its shrinks and agreements, and what it owes to each other
-//! rank.
+//! The notes of a rank, and all that follows from them except for receives: its communicators, its shrinks and agreements, and what it owes to each
+//! other rank.
 //!
 //! A [`Log`] has an [`Entry`] for all that a rank did and took. Beside it stand [`Communicators`], the [`Row`]s that tell of shrinks and of the last
 //! agreements, and the [`Outboxes`]; `ulfm_rank` has one of each for a rank, and keeps them in step:
@@ -7,7 +7,7 @@
 //!     announce(&mut outboxes, me, known, members, entrance);
 //!     log.push_reserved(Entry::Entered(entrance));
 //!
-//! What is promised: each contract names the whole of what a call changes, by what is read off a log. Read Log.antt first, then:
+//! Each contract names the whole of what a call changes, by definitions over the log. Read Log.antt first, then:
 //!
 //! - Facts.antt: which ranks a log knows to have failed, in the order of their notices, and which failures were acknowledged (`known_in`,
 //!   `ack_answer`).

@@ -3,8 +3,8 @@
 //!
 //!     let reply = list_reply(&rt, &search, asked.show, bytes, &mut watch)?;
 //!
-//! What is promised is the one clause of [`list_reply`]: `IsListReply` (ListReply.antt). It rests on the two contracts of `Finder`
-//! (`ulfm_outcomes_spec`), and on nothing else of the search. Its parts:
+//! It promises the one clause of [`list_reply`]: `IsListReply` (ListReply.antt). It rests on the two contracts of `Finder` (`ulfm_outcomes_spec`),
+//! and on nothing else of the search. Its parts:
 //!
 //! - A list (`IsOutcomesReply`, `IsJudged`, Outcomes.antt). With 0, or 6 by `--strict`, no schedule fails an expectation (`MeetsExpected`,
 //!   Unmet.antt of `ulfm_outcomes_spec`), and none has all answers of a row of `never` that is looked at (`NoneComes`, Wanted.antt). With 9 some

@@ -3,8 +3,8 @@
 //!     let reach = finder.outcomes(alloc, &job, limit, &mut watch)?;
 //!     let unmet = first_unmet(&job, &reached.found);
 //!
-//! What is promised of each job is about all schedules in which ranks follow their scripts, give nothing up but what the job lets them
-//! (`may_leave`), and never lack memory, with a ring for each ordered pair of ranks (`ComesTo`, Obeying.antt of `ulfm_reduction`).
+//! The promises of each job are about all schedules in which ranks follow their scripts, give nothing up but what the job lets them (`may_leave`),
+//! and never lack memory, with a ring for each ordered pair of ranks (`ComesTo`, Obeying.antt of `ulfm_reduction`).
 //!
 //! [`Finder`], `outcomes`, ensures `IsList` (Outcomes.antt): `IsWholeList`, or `IsTooMany`. The fields of `IsWholeList`:
 //!

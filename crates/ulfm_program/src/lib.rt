@@ -2,7 +2,7 @@
 //!
 //!     let status = run_each(&rt, &Exploration, alloc, words, &mut input, &mut output, &mut errors);
 //!
-//! What is promised. It stands on the contracts of the replies, in `ulfm_command_line`, `ulfm_run_reply` and `ulfm_outcomes_reply`:
+//! It promises the following, on the contracts of the replies, in `ulfm_command_line`, `ulfm_run_reply` and `ulfm_outcomes_reply`:
 //!
 //! - [`run_on`] (`replies`, `cut_off`, `output_failed`, `input_failed`): with status 0, 1, 3 or 6 to 9 the reply to the bytes that were read of the
 //!   input is written, whole. With 4 a beginning of it is, with 5 nothing. All this holds whatever standard error takes (`IsReplyTo`, `AreRead`,
@@ -35,8 +35,8 @@
 //!   whatever isn't as wanted, with its schedule; `nobody.rt`: who looks on meanwhile
 //!
 //! Not here: how words are read (`ulfm_command_line`), and what standard error says of a reply (`ulfm_explain`). No contract speaks of standard
-//! error or of the page, whose lists and schedules come from a `Finder`, and are what that promises. That the bytes of a file are those on the disk
-//! isn't promised either: no contract can say it.
+//! error or of the page, whose lists and schedules come from a `Finder`, and are what that promises. It isn't promised either that the bytes of a
+//! file are those on the disk: no contract can say it.
 #![tactic(auto)]
 
 mod app;

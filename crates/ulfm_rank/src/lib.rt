@@ -7,8 +7,8 @@
 //!     while let Some(item) = sender.take_out(0) { rank.prepare()?; rank.take(sender.me(), item); }
 //!     let answer = rank.test(request)?;
 //!
-//! What is promised. Every answer follows from the rank's log, which `ulfm_log` has. Read Answer.antt first, then Checks.antt (which refusals come,
-//! in which order).
+//! Every answer follows from the rank's log, which `ulfm_log` has. Read Answer.antt first, then Checks.antt (which refusals come, in which order).
+//! Promises:
 //!
 //! - [`Rank`], `log`, and `state` of each call: the log is what the rank did and took. Each accepted call that changes something, and each item
 //!   taken, adds its entry, and nothing else does. The matcher's history is read off it (`history_of`, History.antt).

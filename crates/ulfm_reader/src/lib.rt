@@ -6,7 +6,7 @@
 //! A [`Reading`] has, beside the job, the rows of answers of which no run may have all, the names of steps and their places in the file, and what is
 //! asked only before the steps of a name. It also reads the answers that a line of text names.
 //!
-//! What is promised:
+//! It promises:
 //!
 //! - [`ReadJob`], `read`: the job is the one that the text has, its steps written out, or its first fault, in the order of docs/REFUSALS.md
 //!   (`job_of_bytes`, JobText.antt; a step: StepText.antt; names, conditions and what is expected: Reacting.antt).

@@ -10,7 +10,7 @@
 //!     world.apply(event)?;
 //!     recorder.after(&world, underway)?;
 //!
-//! What is promised, by the clauses of each call:
+//! It promises, by the clauses of each call:
 //!
 //! - [`replay`] (`settled`, `refused`): it returns. Its reports are those of a run of the world that ends at rest, and it gives a step up exactly
 //!   after as many polls as the job grants (`IsReplayed`, `MadeAtRest`, Replay.antt of `ulfm_world`). So all laws of `ulfm_world` hold of it: each

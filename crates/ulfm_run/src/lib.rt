@@ -2,8 +2,8 @@
 //!
 //!     let report = run_job(rt, alloc, &job, ends, deciders)?;
 //!
-//! What is promised holds for every carrier and board that meet their contracts, in every schedule of the threads, once [`run_job`] returned a
-//! report. On `shared`, a call returns where fewer than 2^62 pushes went to one inbox.
+//! Its promises hold for every carrier and board that meet their contracts, in every schedule of the threads, once [`run_job`] returned a report. On
+//! `shared`, a call returns where fewer than 2^62 pushes went to one inbox.
 //!
 //! - [`run_job`] (`lawful`): the reports are lawful, and so all logs have one order (`LawfulReport`, Lawful.antt of `ulfm_laws`).
 //! - [`run_job`] (`flow`, `residue`): a log took what its rank's end took. This, and then what is left, is what the sender's end pushed

@@ -3,8 +3,8 @@
 //!     let reply = replay_reply(alloc, form, is_strict, turns, place, bytes)?;
 //!     let reply = run_reply(&rt, alloc, form, options, bytes)?;
 //!
-//! What is promised: each call has one clause. They rest on `replay` and `sweep` of `ulfm_replay` and on `run_job`, `at_rest` and `fits` of
-//! `ulfm_run`. Read Played.antt first, then Tally.antt and Brief.antt (runs that are repeated).
+//! Each call promises by one clause. They rest on `replay` and `sweep` of `ulfm_replay` and on `run_job`, `at_rest` and `fits` of `ulfm_run`. Read
+//! Played.antt first, then Tally.antt and Brief.antt (runs that are repeated).
 //!
 //! - [`replay_reply`]: the trace is that of a replay, which is lawful for the job and ends at rest (`IsReplayReply`, Played.antt).
 //! - [`run_reply`]: the trace is of reports that are lawful for the job, have an order that rings of its `capacity` allow, and leave no more of any

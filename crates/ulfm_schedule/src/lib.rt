@@ -3,12 +3,18 @@
 //!     push_schedule(&mut text, &schedule)?;
 //!     let needed = awaited(alloc, rank, rank.log(), need)?;
 //!
-//! A [`Schedule`] is made of a world that was shown by `ulfm_replay`, which also says by contracts that its text is the one of that world.
-//! Words, JSON and the pictures of `ulfm_draw` are printed from it. [`replayed`] gives that of a replay, by the reports of its ranks, with what
-//! the steps that it gave up wait for.
+//! A [`Schedule`] is made of a world by `ulfm_replay`, which also says by contracts that its text is the one of that world. Words, JSON and the
+//! pictures of `ulfm_draw` are printed from it. [`replayed`] gives that of a replay, by the reports of its ranks, with what the steps that it gave
+//! up wait for.
 //!
-//! Read specs/Words.antt first (a schedule in words), then Waits.antt (what a step waits for that stands open, and which step of which rank would
-//! bring it) and Values.antt (what a [`Wait`] says in words).
+//! It promises, each call by one clause:
+//!
+//! - [`push_schedule`]: the words of a schedule: its moves, a line each, the trace that it leaves, and what steps wait for (Words.antt).
+//! - [`awaited`], [`due_of`], [`would_bring`]: what a step waits for that stands open, of which ranks, and which step of a rank would bring it
+//!   (Waits.antt).
+//! - `Wait::of`, [`push_wait`]: the same as a value, and in words (Values.antt).
+//!
+//! Files:
 //!
 //! - `schedule.rt`, `moved.rt`, `cargo.rt`, `parcel.rt`, `course.rt`: a schedule and its parts; `numbers.rt`: its messages by number
 //! - `replaying.rt`, `under_way.rt`, `given_up.rt`: the schedule of a replay

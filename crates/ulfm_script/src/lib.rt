@@ -7,7 +7,7 @@
 //! [`turn`] is one turn of a rank over the hands of its caller: items go out, one comes in, a step is polled. [`trace_text`] prints what all ranks
 //! report. Read Calls.antt first (what a poll says), then Answered.antt (what a report owes).
 //!
-//! What is promised:
+//! It promises:
 //!
 //! - [`Player`], `call` (`called`): each poll answers its step by the rank's log, or leaves it open by it (`AnswersStep`, `LeavesOpen`, Calls.antt).
 //! - [`Player`], `decide` (`decides`): the first poll of a shrink or an agreement enters it. Later, where the rank has a proposal, it is handed in,

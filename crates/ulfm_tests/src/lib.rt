@@ -13,8 +13,8 @@
 //! - `stops.rt`: places as they are written, and the job at one
 //! - `streams.rt`: reading and writing whole texts, of `ulfm_reader`
 //!
-//! Not here: what the program prints (tools/gate/replies, jobs and outcomes-check), C (tools/gate/c-tests), and wrong bodies, which stand in
-//! `wrong-bodies/` of each crate.
+//! Not here: what the program prints (tools/gate/replies, jobs and outcomes-check), C (tools/gate/c-tests), and wrong bodies, which stand beside the
+//! code of each crate.
 #![tactic(auto)]
 
 #[cfg(test)]

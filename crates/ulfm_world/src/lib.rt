@@ -4,8 +4,8 @@
 //!
 //!     let outcome = world.apply(Event::Push(from, to))?;
 //!
-//! What is promised holds for every list of events, and so for every schedule, whether all senders share the places of an inbox or each has its own.
-//! Read World.antt first. Each law is a function of `laws.rt`:
+//! Its promises hold for every list of events, and so for every schedule, whether all senders share the places of an inbox or each has its own. Read
+//! World.antt first. Each law is a function of `laws.rt`:
 //!
 //! - [`World::apply`], [`run`]: an event does what its case says, or is refused for a stated cause and changes nothing (`Happens`, `IsRefused`,
 //!   World.antt).
