@@ -51,6 +51,14 @@
 //! - `ulfm_c_world`: with 0 each slot has the process of its place in a new world. With 13 no world has this size, with 12 a growth was refused:
 //!   then no slot changed (`WorldCall`, Worlds.antt).
 //!
+//! Files:
+//!
+//! - `process.rt`, with `process/` for its calls; `making.rt`: [`world`]; `outlook.rt`, `next_item.rt`: what a test would come to, and what comes
+//!   next
+//! - exports: `letters.rt`, `probes.rt`, `communicators.rt`, `recovery.rt`, `deciding.rt`, `progress.rt`, `steps.rt`, `worlds.rt`; `told.rt`,
+//!   `words.rt`: what C is told, and its types
+//! - `handle.rt`, `slot.rt`, `loose.rt`: how C holds a process
+//!
 //! Not here: that a decision was proposed, or is true of what ranks did; that memory comes back when a slot ends; and the C above this
 //! (docs/LIMITS.md).
 #![tactic(auto)]

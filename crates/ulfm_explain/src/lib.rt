@@ -10,7 +10,7 @@
 //!
 //! Files:
 //!
-//! - `check.rt`: [`explain`], in the order in which the reader looks for faults; `warning.rt`: [`warnings`]; `findings.rt`: the ten
+//! - `check.rt`: [`explain`], in the order in which the reader looks for faults; `warning.rt`: [`warnings`]; `findings.rt`, `first_ten.rt`: the ten
 //! - `explanation.rt`, `place.rt`: what is wrong, and where; `marks.rt`, `walk.rt`: where keys and steps begin in a text
 //! - `cause.rt`: all that may be wrong; `doom.rt`: all that will be refused, `fate.rt`: which steps will be; `line.rt`: how both are put in words
 //! - `steps.rt`, `keys.rt`, `asking.rt`, `never.rt`, `before.rt`, `block.rt`, `claim.rt`: what is looked at, a subject a file

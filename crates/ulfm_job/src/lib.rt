@@ -26,6 +26,16 @@
 //!   inside the job (`IsPlaceOf`, Place.antt).
 //! - [`Place`], `parse`: a text is read as the place that is written so, or as none (`place_of_text`, `place_text`, Text.antt).
 //!
+//! Files:
+//!
+//! - `job.rt`, `limits.rt`, `fault.rt`: a job, its limits, and why one is refused; `copied.rt`: a job once more
+//! - `step.rt`: a step; `words.rt`: its words; `copying.rt`: it once more; `noted_step.rt`: as a report keeps it; `label.rt`, `text.rt`, `texts.rt`:
+//!   its texts
+//! - `condition.rt`, `clause.rt`: what is asked of answers; `left_step.rt`, `joint.rt`: steps that may be given up, and those that ranks decide
+//!   together
+//! - `place.rt`, `stop.rt`: where ranks stop; `reading.rt`: a place as it is read; `listing.rt`: [`places`], all of a job; `own.rt`: its own stops
+//! - `stopped.rt`, `moved.rt`: a script with one more stop, and the numbers of its steps then
+//!
 //! Not here: whether a job gets stuck, or what its steps are answered.
 #![tactic(auto)]
 

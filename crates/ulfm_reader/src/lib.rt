@@ -21,6 +21,18 @@
 //! to refuse. Read Ranks.antt first (a step for several ranks), then Iterations.antt and Blocks.antt (a block of steps), Guards.antt (where errors
 //! in a block lead), Together.antt (conditions beside a step's own), Lines.antt (all steps) and Documents.antt.
 //!
+//! Files:
+//!
+//! - a text: `stream.rt` (all of an input), `reading.rt` ([`Reading`], the job of a text), `head.rt` (the keys of a job), `fields.rt`, `members.rt`
+//!   (keys one by one), `draft.rt` (what was read of the steps), `filed.rt` (where steps stand in the file)
+//! - a step as it is read: `ops.rt`, `letters.rt` (by its op), `placed.rt`, `ranges.rt`, `name.rt`, `reference.rt` (how it names an earlier one)
+//! - what is asked of answers: `conditions.rt`, `clauses.rt`, `claim.rt`, `asker.rt`, `beginnings.rt`, `answers.rt`, `goals.rt`; `rows.rt` (of
+//!   `never`); `proviso.rt`, `subject.rt` (only where stops lie before a step)
+//! - steps written out: `written.rt` ([`written_out`]), `line.rt`, `unwritten.rt` (why they aren't), `shared.rt`, `ranks.rt` (steps for several
+//!   ranks)
+//! - blocks written out: `block.rt`, `iteration.rt`, `tags.rt`, `guard.rt`, `together.rt`, `conditions_written_out.rt`
+//! - the rest written out: `rows_written_out.rt`, `row_words.rt` (rows of `never`), `documents.rt` (the text of a job)
+//!
 //! Not here: why a text is refused, in words for people (`ulfm_explain`), and a job with the stops of a place (`ulfm_command_line`).
 #![tactic(auto)]
 

@@ -1,4 +1,4 @@
-//! All ranks with their inboxes, in every schedule.
+//! All ranks and their inboxes, one event at a time, in every schedule.
 //!
 //! A [`World`] changes by one [`Event`] at a time: a rank calls, an item is pushed, an item is taken. A list of events is a schedule.
 //!
