@@ -1,13 +1,13 @@
 """The front pages of crates: the comment at the head of each src/lib.rt, which says what a crate promises, and what it doesn't.
 
-A front page is at most so long, and says what is 'Not here'. Each name between backticks stands in code or specs, where comments don't count, or is
+A front page is at most so long, says what is 'Not here', and names each file of the crate, or its folder. Each name between backticks stands in code or specs, where comments don't count, or is
 a file. Each file that it names is one of the crate, or of the crate behind it. Definitions stand in the file behind them: `Flows` in Flow.antt of
 ulfm_laws, where a page has '(`Flows`, Flow.antt of `ulfm_laws`)'. Names in brackets behind a call, as in '`push` (`taken`, `pushed`):', are clauses
 of the crate.
 """
 import re
 
-LONGEST = 60
+LONGEST = 64
 NAME = re.compile(r"`([^`\s]+)`")
 # Definitions, their file, and perhaps the crate that has it.
 CITED = re.compile(r"((?:`\w+`(?:, | and )?)*),? ?(?:specs/)?(?:inside/)?\b(\w+\.antt)(?: of `(\w+)`)?")
@@ -54,6 +54,14 @@ def looked_at_clauses(folder, text):
             yield name in clauses, f"no clause is named {name}"
 
 
+def looked_at_sources(sources, text):
+    """Whether each file of a crate is named: by its own name, or by that of its folder."""
+    named = {name.split("/")[-1] for name in NAME.findall(text)}
+    for file in sorted({*sources.rglob("*.rt")} - {sources / "lib.rt"}):
+        is_in_folder = file.parent != sources and f"`{file.parent.name}/`" in text
+        yield file.name in named or is_in_folder, f"doesn't name {file.relative_to(sources)}"
+
+
 def looked_at_names(root, folder, words, text):
     """The same of the other names of a front page."""
     for name in sorted(set(NAME.findall(text))):
@@ -70,6 +78,6 @@ def looked_at(root):
         head = head_of(folder)
         text = " ".join(head.split())
         found = [(len(head.splitlines()) <= LONGEST, f"has more than {LONGEST} lines"), ("Not here" in head, "doesn't say what is 'Not here'"),
-                 *looked_at_files(root / "crates", folder.name, text), *looked_at_clauses(folder, text), *looked_at_names(root, folder, words, text)]
+                 *looked_at_sources(folder / "src", text), *looked_at_files(root / "crates", folder.name, text), *looked_at_clauses(folder, text), *looked_at_names(root, folder, words, text)]
         for is_well, fault in found:
             yield is_well, f"the front page of {folder.name}: {fault}"
