@@ -1,18 +1,22 @@
-//! Ranks, groups, contexts, tags, bodies, envelopes and the patterns that admit them: the words of MPI's chapters 3
-//! and 7 that all crates above speak in.
+//! Ranks, groups, contexts, tags, bodies, envelopes and the patterns that admit them: the words of MPI's chapters 3 and 7 that all crates above
+//! speak in.
 //!
 //! - An [`Item`] goes from rank to rank: a letter, a notice of a stop or of a revocation, or an entrance into a shrink or an agreement.
-//! - A [`Pattern`] says which envelopes a receive or a probe admits (`Admits`, specs/Pattern.antt).
-//! - A [`Decision`] is what the members of a communicator agree on (`IsLawfulDecision`, specs/Decision.antt).
+//! - A [`Pattern`] says which envelopes a receive or a probe admits (`Admits`, Pattern.antt).
+//! - A [`Decision`] is what the members of a communicator agree on (`IsLawfulDecision`, Decision.antt): each value is lawful by its type.
 //! - A [`CallError`] is a refusal: its number and its name are those of traces.
 //!
 //! A context names a communicator: 0 is the world's, and that of number c has its duplicate at 2c + 1 and its shrink at 2c + 2.
 //!
-//! Files by what they are about: `rank.rt`, `group.rt`, `rank_set.rt`, `context.rt`, `tag.rt` (names); `envelope.rt`, `body.rt`, `pattern.rt`,
-//! `request_id.rt` (messages and receives); `item.rt`, `item_kind.rt`, `noted.rt`, `noted_item.rt`, `noted_letter.rt` (items, and as a log keeps
-//! them); `topic.rt`, `entrance.rt`, `contribution.rt`, `decision.rt` (shrinks and agreements); `error.rt` (refusals).
+//! Files:
 //!
-//! Not here: what a rank does with any of these. A decision is lawful by its type; that it is true of what ranks did is said far above.
+//! - names: `rank.rt`, `group.rt`, `rank_set.rt`, `context.rt`, `tag.rt`
+//! - messages and receives: `envelope.rt`, `body.rt`, `pattern.rt`, `request_id.rt`
+//! - items, and as a log keeps them: `item.rt`, `item_kind.rt`, `noted.rt`, `noted_item.rt`, `noted_letter.rt`
+//! - shrinks and agreements: `topic.rt`, `entrance.rt`, `contribution.rt`, `decision.rt`; refusals: `error.rt`
+//!
+//! Not here: what a rank does with any of these (`ulfm_log`, `ulfm_rank`). Nor whether a decision is true of what ranks did: `ulfm_laws` says that
+//! of adopted ones.
 #![tactic(auto)]
 
 mod body;

@@ -10,8 +10,8 @@
 //!   which files they name (`files_in`, CommandLine.antt), and the form of the reply (`form_asked`, CommandLine.antt). Words that can't be followed,
 //!   or ask for help, are told so (`AsksFor`, `IsWordsStatus`, CommandLine.antt).
 //! - [`asked_at`]: with `--stop PLACE` the answers are those of the job, its rows and its names with the stops of that place; a place that the job
-//!   hasn't is refused (`IsAskedAt`, `IsRefusal`, Stopped.antt). A job may ask some of it only before a step: it asks that where each stop lies
-//!   before the step (`held_at`, Holding.antt).
+//!   hasn't is refused (`IsAskedAt`, `IsRefusal`, Stopped.antt). A job may ask some things only before a step (docs/JOBS.md): they are asked where
+//!   each stop lies before that step (`held_at`, Holding.antt).
 //! - [`settled_place`]: a step may be named in a place: its number is that of the first step of the rank with this name, and where there is none the
 //!   text is refused (`IsNamed`, `IsUnnamed`, Named.antt; `place_named`, Naming.antt).
 //! - [`nowhere_is_as_read`]: this law says that without a stop the job is the one of the text.

@@ -42,8 +42,8 @@
 //!
 //! Two laws stand in `laws.rt`:
 //!
-//! - [`produced_is_lawful`]: an engine has to show less, `AreProduced` (Lawful.antt): scripts, flow, one order of all logs, answers, none of which
-//!   is 11, and decisions that agree and are true. This law gives the rest.
+//! - [`produced_is_lawful`]: an engine, `replay` or `run_job`, has to show less, `AreProduced` (Lawful.antt): scripts, flow, one order of all logs,
+//!   answers, none of which is 11, and decisions that agree and are true. This law gives the rest.
 //! - [`causes_come_first`]: in that one order each message that is taken was sent to this rank by an earlier entry (`letters`), each revocation
 //!   comes after some rank's own call (`revocations`), each notice of a failure after the stop (`failures`), and each decision after the stops of
 //!   those that it excludes (`exclusions`). It is the whole proposal of the rank that made it, about the group that its log had made (`proposals`).

@@ -10,7 +10,7 @@
 //!
 //! - [`ReadJob`], `read`: the job is the one that the text has, its steps written out, or its first fault, in the order of docs/REFUSALS.md
 //!   (`job_of_bytes`, JobText.antt; a step: StepText.antt; names, conditions and what is expected: Reacting.antt).
-//! - [`Reading`], `read`: so is this, with the rows of `never` (`reading_of_bytes`, `never_of_bytes`, JobText.antt; rows: Never.antt; before which
+//! - [`Reading`], `read`: the same, with the rows of `never` (`reading_of_bytes`, `never_of_bytes`, JobText.antt; rows: Never.antt; before which
 //!   steps: Provisos.antt; a line of answers: Goals.antt).
 //! - [`written_out`]: a step for several ranks is one for each of them, and `to` and `from` by neighbours are numbers. A block is its steps in each
 //!   iteration, and an error in it leads to the step that it names, by conditions beside a step's own. All else is as it stands. More than 256 steps
