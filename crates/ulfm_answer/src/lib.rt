@@ -19,16 +19,16 @@
 //!
 //! - `answer.rt`: what comes of a step; `told_answer.rt`: what is told of it; `codes.rt`, `reading.rt`: its code, there and back
 //! - `putting.rt`, `sink.rt`, `bytes.rt`: its words, piece by piece; `lines.rt`: the lines of a trace
-//! - `follow.rt`: whether the words begin so; `conditions.rt`, `clauses.rt`: what a job asks of them
+//! - `follow.rt`: whether the words begin so; `conditions.rt`, `expectations.rt`: what a job asks of them
 //!
 //! Not here: which answer a step gets (`ulfm_script`).
 #![tactic(auto)]
 
 mod answer;
 mod bytes;
-mod clauses;
 mod codes;
 mod conditions;
+mod expectations;
 mod follow;
 mod lines;
 mod putting;
@@ -38,9 +38,9 @@ mod told_answer;
 
 pub use answer::{StepAnswer, StepReport};
 pub use bytes::Bytes;
-pub use clauses::{each_met, holds_of};
 pub use codes::push_code;
 pub use conditions::{fulfils, is_played};
+pub use expectations::{each_met, holds_of};
 pub use follow::begins_told;
 pub use lines::{push_answer, push_closing, push_steps, push_told};
 pub use putting::numbers_of;

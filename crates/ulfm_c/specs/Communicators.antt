@@ -6,7 +6,7 @@ use Rattle.ulfm_base.specs.declared.error.CallError.{CallError}
 use Rattle.ulfm_base.specs.declared.error.CallError.TheVariants.{NoComm, NotMember}
 use Rattle.ulfm_c.specs.Calls.{Answers, Checked, CommCall}
 use Rattle.ulfm_c.specs.Told.{listed}
-use Rattle.ulfm_c.specs.declared.told.CGroup.{CGroup}
+use Rattle.ulfm_c.specs.declared.c_status.CGroup.{CGroup}
 use Rattle.ulfm_c.specs.View.{ProcessView, with_rank}
 use Rattle.ulfm_rank.specs.Checks.{dup_checks}
 use Rattle.ulfm_log.specs.Communicators.{group_of}

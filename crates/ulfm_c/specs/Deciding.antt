@@ -8,7 +8,7 @@ use Rattle.ulfm_base.specs.declared.error.CallError.{CallError}
 use Rattle.ulfm_base.specs.declared.topic.Topic.{Topic}
 use Rattle.ulfm_c.specs.Calls.{AreKept, CommCall, number_of}
 use Rattle.ulfm_c.specs.Told.{listed}
-use Rattle.ulfm_c.specs.declared.told.CGroup.{CGroup}
+use Rattle.ulfm_c.specs.declared.c_status.CGroup.{CGroup}
 use Rattle.ulfm_c.specs.Adopting.{Adopts, IsPollRefusal, Waits}
 use Rattle.ulfm_c.specs.View.{ProcessView}
 use Rattle.ulfm_log.specs.Proposal.{last_agreement}

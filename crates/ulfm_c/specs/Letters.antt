@@ -4,7 +4,7 @@ use Rattle.ulfm_base.specs.declared.pattern.Pattern.{Pattern}
 use Rattle.ulfm_base.specs.declared.tag.Tag.{Tag}
 use Rattle.ulfm_c.specs.Calls.{AreKept, Checked, CommCall, Refused, TagCall, source_named}
 use Rattle.ulfm_c.specs.Told.{Tells, TellsCancel}
-use Rattle.ulfm_c.specs.declared.told.CStatus.{CStatus}
+use Rattle.ulfm_c.specs.declared.c_status.CStatus.{CStatus}
 use Rattle.ulfm_match.specs.History.{count_before}
 use Rattle.ulfm_match.specs.Pairing.{Pairing, LawfulPairing}
 use Rattle.ulfm_base.specs.declared.request_id.RequestId.{RequestId}

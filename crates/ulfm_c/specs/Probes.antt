@@ -5,7 +5,7 @@ use Rattle.ulfm_base.specs.declared.pattern.Pattern.{Pattern}
 use Rattle.ulfm_base.specs.declared.tag.Tag.{Tag}
 use Rattle.ulfm_c.specs.Calls.{AreKept, CommCall, Refused, TagCall, source_named}
 use Rattle.ulfm_c.specs.Told.{Tells, status_of}
-use Rattle.ulfm_c.specs.declared.told.CStatus.{CStatus}
+use Rattle.ulfm_c.specs.declared.c_status.CStatus.{CStatus}
 use Rattle.ulfm_match.specs.Pairing.{Pairing, LawfulPairing}
 use Rattle.ulfm_c.specs.View.{ProcessView, with_rank}
 use Rattle.ulfm_rank.specs.Checks.{Passes, receive_checks}

@@ -3,7 +3,7 @@ use Rattle.std.specs.Prelude.{◌≡◌, ℕ, ⊤, [], Some, None, min, if◌the
 use Rattle.ulfm_base.specs.Topic.{shrink_topic}
 use Rattle.ulfm_c.specs.Calls.{Answers, Checked, CommCall}
 use Rattle.ulfm_c.specs.Told.{listed}
-use Rattle.ulfm_c.specs.declared.told.CGroup.{CGroup}
+use Rattle.ulfm_c.specs.declared.c_status.CGroup.{CGroup}
 use Rattle.ulfm_c.specs.View.{ProcessView, with_rank}
 use Rattle.ulfm_rank.specs.Calls.{Enters, acknowledging, revoking}
 use Rattle.ulfm_rank.specs.Checks.{Fails, Passes, agree_checks, comm_checks, group_at, shrink_checks}

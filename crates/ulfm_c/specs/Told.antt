@@ -1,8 +1,8 @@
 -- What C is told.
 use Rattle.std.specs.Prelude.{◌≡◌, ℕ, List, [], ◌∷◌, ◌++◌, length, min, take, drop, get_or}
 use Rattle.ulfm_c.specs.Calls.{number_of}
-use Rattle.ulfm_c.specs.declared.told.CGroup.{CGroup}
-use Rattle.ulfm_c.specs.declared.told.CStatus.{CStatus}
+use Rattle.ulfm_c.specs.declared.c_status.CGroup.{CGroup}
+use Rattle.ulfm_c.specs.declared.c_status.CStatus.{CStatus}
 use Rattle.ulfm_log.specs.declared.entry.Cancel.{Cancel}
 use Rattle.ulfm_log.specs.declared.entry.Cancel.TheVariants.{Cancelled, Completed}
 use Rattle.ulfm_log.specs.declared.entry.Status.{Status}

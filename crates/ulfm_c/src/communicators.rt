@@ -4,8 +4,8 @@ ghost use Rattle.ulfm_c.specs.Calls.{Call};
 ghost use Rattle.ulfm_c.specs.Communicators.{DupCall, GroupCall, PositionCall};
 
 use crate::Process;
+use crate::c_status::{CGroup, list};
 use crate::handle::Handle;
-use crate::told::{CGroup, list};
 use crate::words::{comm_of, number_of};
 use std::alloc::Global;
 

@@ -4,8 +4,8 @@ ghost use Rattle.ulfm_c.specs.Calls.{AreKept, Call};
 ghost use Rattle.ulfm_c.specs.Letters.{CancelCall, ReceiveCall, SendCall, TestCall};
 
 use crate::Process;
+use crate::c_status::{CStatus, ended, tell};
 use crate::handle::Handle;
-use crate::told::{CStatus, ended, tell};
 use crate::words::{comm_of, number_of, position_of, room_of, source_of, tag_of};
 use std::alloc::Global;
 use ulfm_base::{RequestId, Tag};

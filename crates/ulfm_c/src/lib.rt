@@ -55,7 +55,7 @@
 //!
 //! - `process.rt`, with `process/` for its calls; `making.rt`: [`world`]; `outlook.rt`, `next_item.rt`: what a test would come to, and what comes
 //!   next
-//! - exports: `letters.rt`, `probes.rt`, `communicators.rt`, `recovery.rt`, `deciding.rt`, `progress.rt`, `steps.rt`, `worlds.rt`; `told.rt`,
+//! - exports: `letters.rt`, `probes.rt`, `communicators.rt`, `recovery.rt`, `deciding.rt`, `progress.rt`, `steps.rt`, `worlds.rt`; `c_status.rt`,
 //!   `words.rt`: what C is told, and its types
 //! - `handle.rt`, `slot.rt`, `loose.rt`: how C holds a process
 //!
@@ -63,6 +63,7 @@
 //! (docs/LIMITS.md).
 #![tactic(auto)]
 
+mod c_status;
 mod communicators;
 mod deciding;
 mod handle;
@@ -77,7 +78,6 @@ mod progress;
 mod recovery;
 mod slot;
 mod steps;
-mod told;
 mod words;
 mod worlds;
 

@@ -4,8 +4,8 @@ ghost use Rattle.ulfm_c.specs.Calls.{AreKept, Call};
 ghost use Rattle.ulfm_c.specs.Probes.{LookCall, MessageCall, ProbeCall};
 
 use crate::Process;
+use crate::c_status::{CStatus, status_of, tell};
 use crate::handle::Handle;
-use crate::told::{CStatus, status_of, tell};
 use crate::words::{comm_of, number_of, source_of, tag_of};
 use std::alloc::Global;
 use ulfm_log::{MessageId, Probed};

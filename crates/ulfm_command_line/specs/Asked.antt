@@ -3,8 +3,8 @@ use Rattle.std.specs.Prelude.{◌≡◌, ⊤}
 use Rattle.clap.specs.declared.error.kind.ErrorKind.{ErrorKind}
 use Rattle.clap.specs.Words.{Kinds, IsAmong}
 use Rattle.ulfm_command_line.specs.CommandLine.{status_of}
-use Rattle.ulfm_command_line.specs.declared.asked.Unfollowed.{Unfollowed}
-use Rattle.ulfm_command_line.specs.declared.asked.Unfollowed.TheVariants.{OutOfMemory, Help, Usage}
+use Rattle.ulfm_command_line.specs.declared.unfollowed.Unfollowed.{Unfollowed}
+use Rattle.ulfm_command_line.specs.declared.unfollowed.Unfollowed.TheVariants.{OutOfMemory, Help, Usage}
 
 -- what is said of a kind of fault: help is no failure
 abbrev pub IsToldAs : ErrorKind → Unfollowed → Type 0

@@ -5,10 +5,10 @@ ghost use Rattle.ulfm_command_line.specs.CommandLine.{AreInRange, HasRanges, ask
 ghost use Rattle.ulfm_command_line.specs.Wish.{wish_asked, wish_view};
 
 use crate::flagged::{is_flagged, is_strict, style_of};
-use crate::listed::listed;
+use crate::list_options::listed;
 use crate::number::number_given;
 use crate::options::MOST_RUNS;
-use crate::placed::{place_in, stops_wanted};
+use crate::place_option::{place_in, stops_wanted};
 use crate::subcommands::command_line;
 use crate::unmeant::unmeant;
 use crate::wish::{Wish, wish_in};

@@ -23,64 +23,64 @@
 //!
 //! Files:
 //!
-//! - words: `subcommands.rt`, `options.rt`, `flagged.rt` (what clap is told), `command.rt` (what was asked for), `listed.rt`, `wish.rt`, `placed.rt`
-//!   and `number.rt` (parts of that), `asked.rt` (the call, or what is said in its place)
+//! - words: `subcommands.rt`, `options.rt`, `flagged.rt` (what clap is told), `command.rt` (what was asked for), `list_options.rt`, `wish.rt`, `place_option.rt`
+//!   and `number.rt` (parts of that), `unfollowed.rt` (the call, or what is said in its place)
 //! - what else is said of words: `unmeant.rt`, `tips.rt`, `help.rt`, `version.rt`
-//! - a text at a place: `stopped.rt`, `holding.rt` (what is asked before the steps of a name), `looked_at.rt` (which rows count), `copied.rt` (parts
-//!   of a reading once more), `laws.rt`; places by names: `naming.rt`, `named.rt`
-//! - replies: `reply.rt` (`check`, refusals, and the statuses of the program), `expanded.rt`, `written.rt` (`places`), `failure.rt` (no trace)
+//! - a text at a place: `reading_at_place.rt`, `holding.rt` (what is asked before the steps of a name), `looked_at.rt` (which rows count), `copied.rt` (parts
+//!   of a reading once more), `laws.rt`; places by names: `place_names.rt`, `settled_place.rt`
+//! - replies: `reply.rt` (`check`, refusals, and the statuses of the program), `expand_reply.rt`, `places_reply.rt` (`places`), `failure.rt` (no trace)
 //! - for standard error alone: `remark.rt`, `unmet.rt`, `verdict.rt`
 //!
 //! Not here: replies that an engine makes (`ulfm_run_reply`, `ulfm_outcomes_reply`), and the way to the streams (`ulfm_program`). No contract speaks
 //! of the words of help, of tips and of remarks.
 #![tactic(auto)]
 
-mod asked;
 mod command;
 mod copied;
-mod expanded;
+mod expand_reply;
 mod failure;
 mod flagged;
 mod help;
 mod holding;
 mod laws;
-mod listed;
+mod list_options;
 mod looked_at;
-mod named;
-mod naming;
 mod number;
 mod options;
-mod placed;
+mod place_names;
+mod place_option;
+mod places_reply;
+mod reading_at_place;
 mod remark;
 mod reply;
-mod stopped;
+mod settled_place;
 mod subcommands;
 mod tips;
+mod unfollowed;
 mod unmeant;
 mod unmet;
 mod verdict;
 mod version;
 mod wish;
-mod written;
 
-pub use asked::{Unfollowed, asked_for};
 pub use command::{Asked, Carrier, ListOptions, RunOptions, Wanted};
-pub use expanded::expand_reply;
+pub use expand_reply::expand_reply;
 pub use failure::{Failure, failed, failed_line};
 pub use holding::{expects, holds_at, stops_at};
 pub use laws::nowhere_is_as_read;
 pub use looked_at::is_looked_at;
-pub use named::settled_place;
 pub use options::MOST_THREADS;
+pub use places_reply::places_reply;
+pub use reading_at_place::{asked_at, stopped_at};
 pub use remark::{Remark, StepTold};
 pub use reply::{
     DONE, INPUT_FAILED, JOB_REFUSED, NO_SCHEDULE, NOT_EXPECTED, OUTPUT_FAILED, PAST_LIMIT,
     RUN_FAILED, Reply, UNFINISHED, USAGE, check_reply, refusal,
 };
-pub use stopped::{asked_at, stopped_at};
+pub use settled_place::settled_place;
 pub use ulfm_job::Place;
 pub use ulfm_json::{Form, Wording};
+pub use unfollowed::{Unfollowed, asked_for};
 pub use unmet::push_unmet_answers;
 pub use verdict::{Extent, Verdict, Where};
 pub use wish::{Choice, Wish};
-pub use written::places_reply;

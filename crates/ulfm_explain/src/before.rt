@@ -1,13 +1,13 @@
 //! What is wrong with the names before whose steps every stop has to lie.
 
 use crate::cause::Cause;
+use crate::excerpt::Shown;
 use crate::findings::Findings;
 use crate::keys::{list_at, text_at};
 use crate::nearest::nearest_key;
 use crate::never::tell;
 use crate::rules::{Key, row_rules};
 use crate::script::{is_label, name_of};
-use crate::shown::Shown;
 use crate::steps::place_of;
 use std::alloc::AllocError;
 use toml::{Table, Value};

@@ -1,11 +1,11 @@
 //! What is wrong with a block of steps.
 
 use crate::cause::Cause;
+use crate::excerpt::{Shown, shown_value};
 use crate::explanation::StepPlace;
 use crate::findings::Findings;
 use crate::keys::list_in;
 use crate::line::{Line, Part};
-use crate::shown::{Shown, shown_value};
 use std::alloc::{AllocError, Global};
 use toml::{Table, Value};
 use ulfm_job::MOST_STEPS;

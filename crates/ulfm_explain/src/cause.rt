@@ -1,11 +1,11 @@
 //! What is wrong with a job.
 
 use crate::block::BlockFault;
-use crate::doom::Doom;
+use crate::excerpt::Shown;
 use crate::kind::Kind;
 use crate::line::{Line, Part};
+use crate::refusal_cause::Doom;
 use crate::rules::{Key, Rules};
-use crate::shown::Shown;
 use std::fmt;
 use toml::de::Error;
 use ulfm_job::limits::{

@@ -2,11 +2,11 @@
 ghost use Rattle.std.specs.Prelude.{◌≤◌, IfOk, vec_len};
 
 use crate::cause::Cause;
+use crate::excerpt::Shown;
 use crate::explanation::Explanation;
 use crate::findings::Findings;
 use crate::lines::lines_of;
 use crate::place::{Place, place_at};
-use crate::shown::Shown;
 use crate::steps::explain_job;
 use std::alloc::{AllocError, Global};
 use toml::Table;

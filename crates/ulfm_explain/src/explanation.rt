@@ -1,8 +1,8 @@
 //! What is wrong, and where.
 
 use crate::cause::Cause;
+use crate::numbered_step::Numbered;
 use crate::place::Place;
-use crate::told::Numbered;
 use std::fmt;
 
 /// A step of the file.

@@ -1,13 +1,13 @@
 //! What is wrong with the keys of a table.
 
 use crate::cause::Cause;
+use crate::excerpt::{Shown, shown_value};
 use crate::explanation::StepPlace;
 use crate::findings::Findings;
 use crate::kind::Kind;
 use crate::nearest::nearest_key;
 use crate::rules::{Key, Rules};
 use crate::script::is_label;
-use crate::shown::{Shown, shown_value};
 use std::alloc::AllocError;
 use toml::{Table, Value};
 

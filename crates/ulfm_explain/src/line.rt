@@ -1,11 +1,11 @@
 //! A line of text, and what stands in it.
 
 use crate::answers::{beginnings, comes};
+use crate::excerpt::Shown;
 use crate::kind::Kind;
+use crate::numbered_step::Numbered;
 use crate::ops::OPS;
 use crate::rules::{Key, Rules};
-use crate::shown::Shown;
-use crate::told::Numbered;
 use std::fmt;
 use toml::de::Error;
 

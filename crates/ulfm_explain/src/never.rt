@@ -3,11 +3,11 @@
 use crate::answers::may_begin;
 use crate::cause::Cause;
 use crate::claim::claim_of;
+use crate::excerpt::Shown;
 use crate::findings::Findings;
 use crate::keys::list_at;
 use crate::rules::Key;
 use crate::script::{Script, op_of};
-use crate::shown::Shown;
 use std::alloc::AllocError;
 use toml::{Table, Value};
 use ulfm_job::limits::{FEWEST_OF_ROW, MOST_OF_ROW, MOST_WORDS};

@@ -2,9 +2,9 @@
 
 use crate::goal::goal_reason;
 use crate::misplaced::{misplaced_line, place_of};
-use crate::naming::name_line;
-use crate::told_steps::{remarks_told, verdict_line};
-use crate::unnamed::unnamed_line;
+use crate::only_names::name_line;
+use crate::remark_lines::{remarks_told, verdict_line};
+use crate::stop_names::unnamed_line;
 use crate::{Explanation, explain, warnings};
 use std::alloc::{AllocError, Global};
 use std::io::Write;

@@ -1,9 +1,9 @@
 //! What is wrong with a job and with its steps.
 
-use crate::asking::explain_asking;
 use crate::before::{explain_befores, explain_row_tables};
 use crate::block::{explain_block, is_block};
 use crate::cause::Cause;
+use crate::excerpt::Shown;
 use crate::explanation::StepPlace;
 use crate::findings::Findings;
 use crate::keys::{Sheet, integer_at, list_at, text_at};
@@ -12,7 +12,7 @@ use crate::nearest::nearest_op;
 use crate::never::explain_never;
 use crate::ops::op_named;
 use crate::rules::{Key, any_step_rules, job_rules};
-use crate::shown::Shown;
+use crate::step_clauses::explain_asking;
 use std::alloc::AllocError;
 use toml::{Table, Value};
 use ulfm_job::MOST_STEPS;

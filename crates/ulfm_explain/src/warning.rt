@@ -2,13 +2,13 @@
 ghost use Rattle.std.specs.Prelude.{◌≤◌, IfOk, vec_len};
 
 use crate::cause::Cause;
-use crate::doom::Doom;
 use crate::explanation::{Explanation, StepPlace};
-use crate::fate::Placed;
 use crate::findings::Findings;
 use crate::lines::lines_of;
+use crate::refusal_cause::Doom;
 use crate::script::kept_name;
 use crate::steps::place_of;
+use crate::sure_refusals::Placed;
 use std::alloc::{AllocError, Global};
 use toml::{Table, Value};
 use ulfm_reader::ranks_in;

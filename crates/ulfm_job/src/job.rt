@@ -8,8 +8,10 @@ use crate::fault::JobFault;
 use crate::joint::{agreements, is_decided_together, is_left, without};
 use crate::left_step::LeftStep;
 use crate::limits::MOST_STEPS;
+use crate::script_with_stop::{
+    copied_scripts, moved_clauses, moved_conditions, moved_left, stopped_at,
+};
 use crate::step::Step;
-use crate::stopped::{copied_scripts, moved_clauses, moved_conditions, moved_left, stopped_at};
 use std::marker::Model;
 use ulfm_base::OutOfMemory;
 

@@ -33,8 +33,8 @@
 //!   its texts
 //! - `condition.rt`, `clause.rt`: what is asked of answers; `left_step.rt`, `joint.rt`: steps that may be given up, and those that ranks decide
 //!   together
-//! - `place.rt`, `stop.rt`: where ranks stop; `reading.rt`: a place as it is read; `listing.rt`: [`places`], all of a job; `own.rt`: its own stops
-//! - `stopped.rt`, `moved.rt`: a script with one more stop, and the numbers of its steps then
+//! - `place.rt`, `stop.rt`: where ranks stop; `place_text.rt`: a place as it is read; `places.rt`: [`places`], all of a job; `own_stops.rt`: its own stops
+//! - `script_with_stop.rt`, `shifted_numbers.rt`: a script with one more stop, and the numbers of its steps then
 //!
 //! Not here: whether a job gets stuck, or what its steps are answered.
 #![tactic(auto)]
@@ -49,15 +49,15 @@ mod joint;
 mod label;
 mod left_step;
 pub mod limits;
-mod listing;
-mod moved;
 mod noted_step;
-mod own;
+mod own_stops;
 mod place;
-mod reading;
+mod place_text;
+mod places;
+mod script_with_stop;
+mod shifted_numbers;
 mod step;
 mod stop;
-mod stopped;
 mod text;
 mod texts;
 mod words;
@@ -70,10 +70,10 @@ pub use job::Job;
 pub use label::Label;
 pub use left_step::LeftStep;
 pub use limits::MOST_STEPS;
-pub use listing::places;
 pub use noted_step::NotedStep;
-pub use own::own_stops;
+pub use own_stops::own_stops;
 pub use place::Place;
+pub use places::places;
 pub use step::Step;
 pub use stop::Stop;
 pub use text::Text;

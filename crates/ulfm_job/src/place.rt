@@ -5,7 +5,7 @@ ghost use Rattle.ulfm_job.specs.Place.{IsPlaceOf, IsStopOf, job_at, stopped, sto
 ghost use Rattle.ulfm_job.specs.Text.{place_of_text, place_text};
 
 use crate::copied::copied_job;
-use crate::reading::place_of_text;
+use crate::place_text::place_of_text;
 use crate::stop::Stop;
 use crate::{Job, JobFault, MOST_STEPS};
 use std::alloc::Global;

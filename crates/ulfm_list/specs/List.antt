@@ -6,7 +6,7 @@ use Rattle.ulfm_list.specs.Listed.{ListView, ListedView, OutcomeView, OutcomesVi
 use Rattle.ulfm_list.specs.declared.judgement.Judgement.{Judgement}
 use Rattle.ulfm_job.specs.Job.{JobView}
 use Rattle.ulfm_list.specs.Union.{answers_of, places_with, some_never_ends}
-use Rattle.ulfm_list.specs.declared.listed.Listed.{Listed}
+use Rattle.ulfm_list.specs.declared.place_list.Listed.{Listed}
 
 -- an answer of the step k of the rank r, with its places
 abbrev pub placed : JobView → List Listed → ℕ → ℕ → ToldAnswer → OutcomeView

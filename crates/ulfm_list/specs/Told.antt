@@ -12,8 +12,8 @@ use Rattle.ulfm_job.specs.Text.{place_text}
 use Rattle.ulfm_job.specs.declared.place.Place.{Place}
 use Rattle.ulfm_list.specs.Scheduled.{schedule_json}
 use Rattle.ulfm_list.specs.Worded.{schedule_in}
-use Rattle.ulfm_list.specs.declared.told.Told.{Told}
-use Rattle.ulfm_list.specs.declared.told.Told.TheVariants.{Schedule, Many}
+use Rattle.ulfm_list.specs.declared.search_result.Told.{Told}
+use Rattle.ulfm_list.specs.declared.search_result.Told.TheVariants.{Schedule, Many}
 
 -- that in these words, of this job
 abbrev pub told_words : Wording → JobView → Told → List ℕ

@@ -8,7 +8,7 @@ use Rattle.ulfm_list.specs.Text as one_list
 use Rattle.ulfm_list.specs.Text.{codes_found, with_answer}
 use Rattle.ulfm_job.specs.declared.place.Place.{Place}
 use Rattle.ulfm_list.specs.Numbers.{number_at}
-use Rattle.ulfm_list.specs.declared.listed.Listed.{Listed}
+use Rattle.ulfm_list.specs.declared.place_list.Listed.{Listed}
 
 -- the row tells this code of the step k of the rank r: that of an answer, or no bytes where the step never ends
 abbrev pub is_row : ℕ → ℕ → List ℕ → List ℕ → Bool

@@ -23,14 +23,14 @@
 //!
 //! Files:
 //!
-//! - `rows.rt`: what rows tell of a step; `wanted.rt`: whether they have what goals ask for
+//! - `rows.rt`: what rows tell of a step; `goals_met.rt`: whether they have what goals ask for
 //! - `list.rt`: from rows to a list; `step_list.rt`, `listed_step.rt`, `outcomes.rt`, `outcome.rt`: its parts, from the whole down
-//! - `list_of_places.rt`, `union.rt`: the lists of places as one; `listed.rt`: what is kept of one of them; `numbers.rt`: steps as the file numbers
+//! - `list_of_places.rt`, `union.rt`: the lists of places as one; `place_list.rt`: what is kept of one of them; `numbers.rt`: steps as the file numbers
 //!   them
 //! - `judgement.rt`: what a list comes to, in a word or two
 //! - `printing.rt`: a list as text, by `words.rt` (or `worded.rt`, in MPI's words) or by `objects.rt`
 //! - `unmet.rt`: answers that aren't as expected; `goals.rt`: what a schedule is to show
-//! - `told.rt`: what is told below a list; `scheduled.rt`: a schedule as JSON, of `events.rt` and `waits.rt`; `worded_places.rt`: one in MPI's words
+//! - `search_result.rt`: what is told below a list; `scheduled.rt`: a schedule as JSON, of `events.rt` and `waits.rt`; `worded_places.rt`: one in MPI's words
 //! - `job_step.rt`: the steps of a job; `open_step.rt`: one that is left open
 //!
 //! Not here: whether the rows are all there are (`ulfm_outcomes`), and that a schedule is one of the job (`ulfm_outcomes_spec`). No contract says
@@ -39,47 +39,47 @@
 
 mod events;
 mod goals;
+mod goals_met;
 mod job_step;
 mod judgement;
 mod list;
 mod list_of_places;
-mod listed;
 mod listed_step;
 mod numbers;
 mod objects;
 mod open_step;
 mod outcome;
 mod outcomes;
+mod place_list;
 mod printing;
 mod rows;
 mod scheduled;
+mod search_result;
 mod step_list;
-mod told;
 mod union;
 mod unmet;
 mod waits;
-mod wanted;
 mod worded;
 mod worded_places;
 mod words;
 
 pub use goals::Goals;
+pub use goals_met::has_each;
 pub use job_step::{JobStep, steps_of};
 pub use judgement::Judgement;
 pub use list::list_of;
 pub use list_of_places::lists_of;
-pub use listed::Listed;
 pub use listed_step::ListedStep;
 pub use numbers::{filed_number, number_at};
 pub use open_step::OpenStep;
 pub use outcome::Outcome;
 pub use outcomes::Outcomes;
+pub use place_list::Listed;
 pub use printing::{more_in, push_list};
 pub use rows::{add_answers, code_at, in_order, is_stuck, some_never_end};
+pub use search_result::{Told, push_more_at, push_row, push_told, push_unmet};
 pub use step_list::StepList;
-pub use told::{Told, push_more_at, push_row, push_told, push_unmet};
 pub use union::some_never_ends;
 pub use unmet::{Unmet, is_expected, unmet_in};
-pub use wanted::has_each;
 pub use worded::Worded;
 pub use worded_places::push_schedule_in;

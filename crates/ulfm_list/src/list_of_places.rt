@@ -3,7 +3,7 @@ ghost use Rattle.std.specs.Prelude.{◌≡◌, map, IfOk};
 ghost use Rattle.ulfm_list.specs.Listed.{list_view, listed_view, outcome_view, outcomes_view, step_view};
 ghost use Rattle.ulfm_list.specs.List.{list_at, listed_at, placed, states_of, told_of};
 
-use crate::listed::Listed;
+use crate::place_list::Listed;
 use crate::union::{answers_of, places_with, some_never_ends};
 use crate::{JobStep, Judgement, ListedStep, Outcome, Outcomes, StepList, Worded};
 use std::alloc::{AllocError, Global};

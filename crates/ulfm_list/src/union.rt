@@ -2,8 +2,8 @@
 ghost use Rattle.std.specs.Prelude.{◌≡◌, IfOk};
 ghost use Rattle.ulfm_list.specs.Union.{answers_of, is_row, is_told, is_told_at, places_with, some_never_ends};
 
-use crate::listed::Listed;
 use crate::numbers::number_at;
+use crate::place_list::Listed;
 use crate::{Worded, add_answers, in_order, some_never_end};
 use std::alloc::Global;
 use std::collections::BTreeSet;

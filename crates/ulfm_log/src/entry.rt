@@ -2,7 +2,7 @@
 
 ghost use Rattle.std.specs.Prelude.{◌≡◌};
 
-use crate::block::HeldDecision;
+use crate::held_decision::HeldDecision;
 use crate::message::MessageId;
 use crate::noted_answer::NotedAnswer;
 use ulfm_base::{

@@ -20,20 +20,20 @@
 //!
 //! - `log.rt`, `entry.rt`, `noted_answer.rt`, `history.rt`: the log, kept or not
 //! - `facts.rt`, `communicators.rt`: what it tells of stops, revocations and communicators
-//! - `entrances.rt`, `decisive.rt`, `row.rt`, `rounds.rt`: who entered what; `proposal.rt`, `adopting.rt`, `block.rt`: what is proposed and adopted
+//! - `entrances.rt`, `decisive.rt`, `row.rt`, `rounds.rt`: who entered what; `proposal.rt`, `adopting.rt`, `held_decision.rt`: what is proposed and adopted
 //! - `outbox.rt`, `outboxes.rt`, `forwarding.rt`, `word.rt`: what goes out, and what is passed on; `message.rt`: how a found letter is named
 //!
 //! Not here: receives, and so no answer of a test. The calls of a rank, with what they promise of its log, are in `ulfm_rank`.
 #![tactic(auto)]
 
 mod adopting;
-mod block;
 mod communicators;
 mod decisive;
 mod entrances;
 mod entry;
 mod facts;
 mod forwarding;
+mod held_decision;
 mod history;
 mod log;
 mod message;
@@ -46,13 +46,13 @@ mod row;
 mod word;
 
 pub use adopting::is_foreign;
-pub use block::{Block, HeldDecision};
 pub use communicators::Communicators;
 pub use decisive::{forget, hear, make_place, tell};
 pub use entrances::{has_adopted, is_adopted, listed};
 pub use entry::{Cancel, Comm, Entry, Probed, Status, TestAnswer};
 pub use facts::{is_gone_item, is_revoked, revokes, tells_gone};
 pub use forwarding::{announce, forward, pass_on};
+pub use held_decision::{Block, HeldDecision};
 pub use log::Log;
 pub use message::MessageId;
 pub use noted_answer::NotedAnswer;

@@ -17,8 +17,8 @@ use Rattle.ulfm_list.specs.declared.goals.Goals.{Goals}
 use Rattle.ulfm_outcomes_reply.specs.Outcomes.{IsShowReply, goals_asked, nowhere, shown, too_many}
 use Rattle.ulfm_outcomes_reply.specs.Wanted.{NeverComes, NoneComes}
 use Rattle.ulfm_list.specs.Told.{told_in}
-use Rattle.ulfm_list.specs.declared.told.Told.{Told}
-use Rattle.ulfm_list.specs.declared.told.Told.TheVariants as told
+use Rattle.ulfm_list.specs.declared.search_result.Told.{Told}
+use Rattle.ulfm_list.specs.declared.search_result.Told.TheVariants as told
 use Rattle.ulfm_outcomes_reply.specs.inside.Looking.{IsLookText, look_status}
 
 -- those of which that holds, with one more

@@ -19,9 +19,9 @@ use Rattle.ulfm_json.specs.declared.form.Form.{Form}
 use Rattle.ulfm_json.specs.declared.style.Style.{Style}
 use Rattle.ulfm_list.proofs.Telling.{drop-item}
 use Rattle.ulfm_list.specs.Told.{told_in}
-use Rattle.ulfm_list.specs.declared.listed.Listed.{Listed}
-use Rattle.ulfm_list.specs.declared.told.Told.{Told}
-use Rattle.ulfm_list.specs.declared.told.Told.TheVariants as told
+use Rattle.ulfm_list.specs.declared.place_list.Listed.{Listed}
+use Rattle.ulfm_list.specs.declared.search_result.Told.{Told}
+use Rattle.ulfm_list.specs.declared.search_result.Told.TheVariants as told
 use Rattle.ulfm_command_line.specs.Stopped.{Asked, asked_at}
 use Rattle.ulfm_command_line.specs.declared.reply.Reply.{Reply}
 use Rattle.ulfm_outcomes_reply.specs.EachPlace.{IsUndrawn}

@@ -11,7 +11,7 @@ use Rattle.ulfm_job.specs.Job.{JobView}
 use Rattle.ulfm_json.specs.declared.form.Form.{Form}
 use Rattle.ulfm_json.specs.declared.style.Style.{Style}
 use Rattle.ulfm_list.specs.Told.{told_in}
-use Rattle.ulfm_list.specs.declared.told.Told.TheVariants as told
+use Rattle.ulfm_list.specs.declared.search_result.Told.TheVariants as told
 use Rattle.ulfm_schedule.specs.declared.schedule.Schedule.{Schedule}
 use Rattle.ulfm_command_line.specs.Stopped.{Asked}
 use Rattle.ulfm_command_line.specs.declared.command.ListOptions.{ListOptions}

@@ -8,7 +8,7 @@ use Rattle.ulfm_job.specs.declared.place.Place.TheVariants.{Nowhere}
 use Rattle.ulfm_outcomes_reply.specs.Lists.{AreLists}
 use Rattle.ulfm_list.specs.Told.{more_at}
 use Rattle.ulfm_list.specs.Union.{some_never_ends}
-use Rattle.ulfm_list.specs.declared.listed.Listed.{Listed}
+use Rattle.ulfm_list.specs.declared.place_list.Listed.{Listed}
 use Rattle.ulfm_list.specs.declared.judgement.Judgement.{Judgement}
 use Rattle.ulfm_list.specs.declared.judgement.Judgement.TheVariants.{NotKnown}
 use Rattle.ulfm_json.specs.declared.form.Form.{Form}

@@ -6,7 +6,7 @@ use Rattle.ulfm_list.specs.Listed.{StepView, all_steps}
 use Rattle.ulfm_list.specs.Text.{never_ends}
 use Rattle.ulfm_list.specs.declared.judgement.Judgement.{Judgement}
 use Rattle.ulfm_list.specs.Numbers.{number_at}
-use Rattle.ulfm_list.specs.declared.listed.Listed.{Listed}
+use Rattle.ulfm_list.specs.declared.place_list.Listed.{Listed}
 use Rattle.ulfm_command_line.specs.Holding.{expects, stops_at}
 use Rattle.ulfm_command_line.specs.Stopped.{Asked}
 use Rattle.ulfm_job.specs.declared.place.Place.{Place}

@@ -19,8 +19,8 @@ use Rattle.ulfm_command_line.specs.Stopped.{Asked, IsAskedAt, IsRefusal, asked_a
 use Rattle.ulfm_command_line.specs.declared.command.ListOptions.{ListOptions}
 use Rattle.ulfm_outcomes_reply.specs.Outcomes.{goals_asked, no_goal, nowhere_in}
 use Rattle.ulfm_list.specs.Told.{told_in}
-use Rattle.ulfm_list.specs.declared.told.Told.{Told}
-use Rattle.ulfm_list.specs.declared.told.Told.TheVariants as told
+use Rattle.ulfm_list.specs.declared.search_result.Told.{Told}
+use Rattle.ulfm_list.specs.declared.search_result.Told.TheVariants as told
 use Rattle.ulfm_schedule.specs.declared.schedule.Schedule.{Schedule}
 
 -- clauses of the file's steps, by the numbers that these have beside a stop

@@ -18,8 +18,8 @@ use Rattle.ulfm_list.specs.declared.unmet.Unmet.{Unmet}
 use Rattle.ulfm_json.specs.declared.form.Form.{Form}
 use Rattle.ulfm_list.specs.Numbers.{filed_number}
 use Rattle.ulfm_list.specs.Told.{row_in, unmet_in}
-use Rattle.ulfm_list.specs.declared.told.Told.{Told}
-use Rattle.ulfm_list.specs.declared.told.Told.TheVariants as told
+use Rattle.ulfm_list.specs.declared.search_result.Told.{Told}
+use Rattle.ulfm_list.specs.declared.search_result.Told.TheVariants as told
 use Rattle.ulfm_schedule.specs.declared.schedule.Schedule.{Schedule}
 use Rattle.ulfm_command_line.specs.Asking.{is_looked_at}
 use Rattle.ulfm_command_line.specs.Stopped.{Asked}

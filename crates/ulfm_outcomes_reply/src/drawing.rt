@@ -10,7 +10,7 @@ ghost use Rattle.ulfm_outcomes_reply.specs.inside.Looking.{IsDrawnOf};
 
 use crate::onlooker::{Onlooker, Seen};
 use crate::search::Search;
-use crate::shown::told_reply;
+use crate::show_reply::told_reply;
 use crate::unwanted::told_of;
 use std::alloc::AllocError;
 use ulfm_command_line::{Place, Reply, stopped_at};

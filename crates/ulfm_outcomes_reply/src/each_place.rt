@@ -9,12 +9,12 @@ ghost use Rattle.ulfm_outcomes_reply.specs.Chosen.{unknown_part};
 ghost use Rattle.ulfm_outcomes_reply.specs.EachPlace.{IsEachPlaceReply};
 ghost use Rattle.ulfm_outcomes_reply.specs.inside.Judging.{AreListedOf, AreSharing, IsEachText, lists_judgement, lists_status, lists_text};
 
-use crate::choosing::{chosen, no_name, printed, unknown_part};
 use crate::drawing::first_drawn;
 use crate::hang::judgement_of_all;
-use crate::listed::{below, list_status};
+use crate::list_reply::{below, list_status};
 use crate::lists::Lists;
 use crate::onlooker::Onlooker;
+use crate::picked_steps::{chosen, no_name, printed, unknown_part};
 use crate::search::Search;
 use crate::threads::list_places;
 use crate::unheld::with_unheld;

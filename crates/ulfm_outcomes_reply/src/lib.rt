@@ -29,10 +29,10 @@
 //! Files:
 //!
 //! - `search.rt`: a search, with its limit and its form: what most functions here take
-//! - `listed.rt`: [`list_reply`], and the reply to one job; `listing.rt`, `lists.rt`: the lists of places; `threads.rt`: these by threads
-//! - `choosing.rt`: the steps whose lines a list has (`--only`, `--notes`)
-//! - `unwanted.rt`: whatever a job doesn't want, and where it comes first; `looking.rt`: rows of `never`; `finding.rt`: what was found
-//! - `each_place.rt`: the reply with `--stops`; `shown.rt`, `show_each.rt`: with `--show`, and with both
+//! - `list_reply.rt`: [`list_reply`], and the reply to one job; `place_lists.rt`, `lists.rt`: the lists of places; `threads.rt`: these by threads
+//! - `picked_steps.rt`: the steps whose lines a list has (`--only`, `--notes`)
+//! - `unwanted.rt`: whatever a job doesn't want, and where it comes first; `never_rows.rt`: rows of `never`; `finding.rt`: what was found
+//! - `each_place.rt`: the reply with `--stops`; `show_reply.rt`, `show_each_place.rt`: with `--show`, and with both
 //! - `drawing.rt`: the step that `--draw` draws; `hanging.rt`, `hang.rt`: the first step that never ends
 //! - `onlooker.rt`: who is told how far the lists are
 //! - for standard error alone: `verdicts.rt`, `mistakes.rt`, `remarks.rt`, `unheld.rt`
@@ -41,29 +41,29 @@
 //! mistakes and of what a picture shows.
 #![tactic(auto)]
 
-mod choosing;
 mod drawing;
 mod each_place;
 mod finding;
 mod hang;
 mod hanging;
-mod listed;
-mod listing;
+mod list_reply;
 mod lists;
-mod looking;
 mod mistakes;
+mod never_rows;
 mod onlooker;
+mod picked_steps;
+mod place_lists;
 mod remarks;
 mod search;
-mod show_each;
-mod shown;
+mod show_each_place;
+mod show_reply;
 mod threads;
 mod unheld;
 mod unwanted;
 mod verdicts;
 
 pub use hanging::open_goals;
-pub use listed::list_reply;
+pub use list_reply::list_reply;
 pub use lists::Lists;
 pub use onlooker::{Onlooker, Seen};
 pub use search::Search;

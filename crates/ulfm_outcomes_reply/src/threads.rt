@@ -6,9 +6,9 @@ ghost use Rattle.ulfm_outcomes_reply.specs.Lists.{AreLists};
 ghost use Rattle.ulfm_command_line.specs.Stopped.{asked_view};
 ghost use Rattle.ulfm_outcomes_reply.specs.inside.Parts.{AreJoined, AreParts, IsPart};
 
-use crate::listing::list_part;
 use crate::lists::Lists;
 use crate::onlooker::Onlooker;
+use crate::place_lists::list_part;
 use crate::search::Search;
 use std::alloc::Global;
 use std::thread;

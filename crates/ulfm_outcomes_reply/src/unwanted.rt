@@ -13,7 +13,7 @@ ghost use Rattle.ulfm_outcomes_reply.specs.inside.Looking.{row_judgement, row_st
 ghost use Rattle.ulfm_outcomes_reply.specs.inside.Judging.{AreListedOf, IsFirstUnwanted, IsListedOf, IsUnwanted, IsUnwantedAt, is_found};
 
 use crate::finding::Finding;
-use crate::looking::{FirstRow, first_row, row_judgement, row_status};
+use crate::never_rows::{FirstRow, first_row, row_judgement, row_status};
 use crate::onlooker::{Onlooker, Seen};
 use crate::search::Search;
 use crate::verdicts::{row_remarks, unmet_remarks, where_of};

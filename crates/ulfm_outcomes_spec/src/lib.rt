@@ -16,7 +16,7 @@
 //!   row without the code of an answer is that of an open step alone (`IsOfAnswer`, `IsOfOpen`, Outcomes.antt).
 //! - `not_reached`: a step without a row is answered by no schedule, and none leaves it open for ever (`IsNotReached`, Outcomes.antt).
 //! - `reached`, `covered`, `few`: the keys that are counted are different, and each is that of a world to which a late schedule leads. In a job in
-//!   which no event goes first each such world has one of them, or goes on as one that has. Otherwise events of seven kinds go first (`choosing.rt`
+//!   which no event goes first each such world has one of them, or goes on as one that has. Otherwise events of seven kinds go first (`first_event.rt`
 //!   of `ulfm_outcomes` has them): worlds at which one does aren't counted, and those in which others went on meanwhile aren't looked at. The keys
 //!   are no more than the limit (`AreKeysOfJob`, `HasKeyIn`, Outcomes.antt; `NoneGoesFirst`, First.antt of `ulfm_reduction`).
 //!

@@ -1,8 +1,8 @@
 //! What the steps of a job come to at a place.
 
 use crate::cell::{Cell, Kind};
-use crate::nobody::Nobody;
-use crate::wanted::{Unwanted, unwanted_at};
+use crate::silent_watch::Nobody;
+use crate::unwanted::{Unwanted, unwanted_at};
 use std::alloc::{AllocError, Global};
 use ulfm_command_line::{Place, stopped_at};
 use ulfm_job::Job;

@@ -8,7 +8,7 @@ ghost use Rattle.ulfm_command_line.specs.CommandLine.{AsksFor, HasRanges, IsWord
 ghost use Rattle.ulfm_command_line.specs.Wish.{wish_asked, wish_view};
 
 use crate::app::{follow, run_on, write_starved};
-use crate::page::{tell_unpaged, write_page};
+use crate::page_file::{tell_unpaged, write_page};
 use std::alloc::Global;
 use std::convert::AsStr;
 use std::fmt;

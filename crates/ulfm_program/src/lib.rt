@@ -29,10 +29,10 @@
 //! - `app.rt`: [`run_on`], from words and one input to a status; [`without_words`], where there are no words
 //! - `reply.rt`: which reply a command gets
 //! - `progress.rt`, `far.rt`: how far a search is, on standard error
-//! - `page.rt`: the page of `--html`, beside the reply: a table, a step a row and a place a column, and behind whatever isn't as wanted a picture of
+//! - `page_file.rt`: the page of `--html`, beside the reply: a table, a step a row and a place a column, and behind whatever isn't as wanted a picture of
 //!   a schedule. It stands alone: nothing is fetched, and no script runs
-//! - `report_page.rt`: that page, from a job's bytes to its text; `column.rt`, `cell.rt`: a place, and what a step comes to there; `wanted.rt`:
-//!   whatever isn't as wanted, with its schedule; `nobody.rt`: who looks on meanwhile
+//! - `page.rt`: that page, from a job's bytes to its text; `column.rt`, `cell.rt`: a place, and what a step comes to there; `unwanted.rt`:
+//!   whatever isn't as wanted, with its schedule; `silent_watch.rt`: who looks on meanwhile
 //!
 //! Not here: how words are read (`ulfm_command_line`), and what standard error says of a reply (`ulfm_explain`). No contract speaks of standard
 //! error or of the page, whose lists and schedules come from a `Finder`, and are what that promises. It isn't promised either that the bytes of a
@@ -44,13 +44,13 @@ mod cell;
 mod column;
 mod far;
 mod files;
-mod nobody;
 mod page;
+mod page_file;
 mod progress;
 mod reply;
-mod report_page;
-mod wanted;
+mod silent_watch;
+mod unwanted;
 
 pub use app::{run_on, without_words};
 pub use files::run_each;
-pub use report_page::page_of;
+pub use page::page_of;

@@ -2,8 +2,8 @@
 use denote.Param.Send.{IsSend, sendable}
 use Rattle.std.proofs.Crossing.{crosses}
 use Rattle.ulfm_match.proofs.matcher.Matcher.TheSendSync as matcher
-use Rattle.ulfm_log.specs.contracts.block.Block as block
-use Rattle.ulfm_log.specs.contracts.block.HeldDecision as held
+use Rattle.ulfm_log.specs.contracts.held_decision.Block as block
+use Rattle.ulfm_log.specs.contracts.held_decision.HeldDecision as held
 use Rattle.ulfm_log.specs.contracts.entry.Entry as entry
 use Rattle.ulfm_rank.specs.contracts.rank.Rank as rank
 use Rattle.ulfm_log.specs.contracts.row.Row as row

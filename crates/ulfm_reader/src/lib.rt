@@ -28,7 +28,7 @@
 //! - a step as it is read: `ops.rt`, `letters.rt` (by its op), `placed.rt`, `ranges.rt`, `name.rt`, `reference.rt` (how it names an earlier one)
 //! - what is asked of answers: `conditions.rt`, `clauses.rt`, `claim.rt`, `asker.rt`, `beginnings.rt`, `answers.rt`, `goals.rt`; `rows.rt` (of
 //!   `never`); `proviso.rt`, `subject.rt` (only where stops lie before a step)
-//! - steps written out: `written.rt` ([`written_out`]), `line.rt`, `unwritten.rt` (why they aren't), `shared.rt`, `ranks.rt` (steps for several
+//! - steps written out: `steps_written_out.rt` ([`written_out`]), `line.rt`, `unwritten.rt` (why they aren't), `shared.rt`, `ranks.rt` (steps for several
 //!   ranks)
 //! - blocks written out: `block.rt`, `iteration.rt`, `tags.rt`, `guard.rt`, `together.rt`, `conditions_written_out.rt`
 //! - the rest written out: `rows_written_out.rt`, `row_words.rt` (rows of `never`), `documents.rt` (the text of a job)
@@ -67,12 +67,12 @@ mod row_words;
 mod rows;
 mod rows_written_out;
 mod shared;
+mod steps_written_out;
 mod stream;
 mod subject;
 mod tags;
 mod together;
 mod unwritten;
-mod written;
 
 pub use beginnings::{REFUSALS, begins, begins_with, is_alike};
 pub use documents::{ranks_in, written_job};
@@ -83,7 +83,7 @@ pub use name::{Name, is_name, name_at, named};
 pub use proviso::Proviso;
 pub use reading::{ReadJob, Reading, no_toml};
 pub use rows_written_out::{MOST_ROWS, rows_out};
+pub use steps_written_out::written_out;
 pub use stream::{InputFault, read_front, write_whole};
 pub use subject::Subject;
 pub use unwritten::Unwritten;
-pub use written::written_out;

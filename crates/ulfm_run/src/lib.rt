@@ -27,7 +27,7 @@
 //! - `job.rt`: [`run_job`], from ends and deciders to a report; `report.rt`: what it gives
 //! - `threads.rt`: a thread for each rank; `worker.rt`, `at_work.rt`: a rank in it, turn by turn; `polling.rt`: its polls; `finished.rt`: which are
 //!   done
-//! - looks at the reports: `order.rt` and `owing.rt` (one order of all logs), `adopted.rt`, `asking.rt`, `listing.rt` and `proposing.rt` (decisions
+//! - looks at the reports: `order.rt` and `owing.rt` (one order of all logs), `adopted.rt`, `step_topic.rt`, `listing.rt` and `proposing.rt` (decisions
 //!   are true), `foreign.rt` (no step is refused by 11), `comparing.rt` (deciders agree)
 //! - `left.rt`, `rest.rt`, `room.rt`: what is left in inboxes, whether that is rest, and whether rings allow it
 //!
@@ -36,7 +36,6 @@
 #![tactic(auto)]
 
 mod adopted;
-mod asking;
 mod at_work;
 mod comparing;
 mod finished;
@@ -51,6 +50,7 @@ mod proposing;
 mod report;
 mod rest;
 mod room;
+mod step_topic;
 mod threads;
 mod worker;
 

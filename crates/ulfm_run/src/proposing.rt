@@ -3,9 +3,9 @@ ghost use Rattle.std.specs.Prelude.{◌≡◌, ◌≤◌, ◌↔◌, IsTrue, len
 ghost use Rattle.ulfm_run.specs.inside.Listed.{AdoptsHere, IsAdoptedWithin, IsAdoption, IsProposedByRank, IsProposedIn, IsStarvedWithin, StarvesHere};
 ghost use Rattle.ulfm_run.specs.inside.Walk.{IsProposedByWalked};
 
-use crate::asking::is_decided_on;
 use crate::listing::proposes_by;
 use crate::order::first;
+use crate::step_topic::is_decided_on;
 use ulfm_answer::{StepAnswer, StepReport};
 use ulfm_base::{CallError, Decision, Topic};
 use ulfm_log::Entry;

@@ -28,7 +28,7 @@
 //!
 //! - `replayed.rt`, `run.rt`, `swept.rt`, `picture.rt`: the four replies
 //! - `trace.rt`: the reply that a trace is, with its status; `traced.rt`: its text, in words or as JSON
-//! - `asking.rt`: whether answers are as the job asks
+//! - `demands.rt`: whether answers are as the job asks
 //! - `tally.rt`: `run --repeat`, each trace once with its count; `brief.rt`: each line once
 //! - `turns.rt`: the job with the turns of `--turns`; `faults.rt`: why a run has no trace
 //! - `remarks.rt`: what standard error is to tell of the reports
@@ -36,8 +36,8 @@
 //! Not here: that a run ends or comes to rest, and what a picture shows. No contract speaks of what is told on standard error.
 #![tactic(auto)]
 
-mod asking;
 mod brief;
+mod demands;
 mod faults;
 mod picture;
 mod remarks;

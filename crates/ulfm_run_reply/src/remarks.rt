@@ -1,6 +1,6 @@
 //! What standard error tells of reports: for people, and none of it is promised.
 
-use crate::asking::has_come;
+use crate::demands::has_come;
 use crate::trace::is_unfinished;
 use std::alloc::{AllocError, Global};
 use ulfm_answer::StepReport;

@@ -13,8 +13,8 @@ ghost use Rattle.ulfm_run_reply.specs.Tally.{counted, counted_once, row_in, row_
 ghost use Rattle.ulfm_run_reply.specs.Asking.{as_asked};
 ghost use Rattle.ulfm_run_reply.specs.Unfinished.{has_unfinished, played_status};
 
-use crate::asking::as_asked;
 use crate::brief::brief_text;
+use crate::demands::as_asked;
 use crate::remarks::remarks_on;
 use crate::run::run_by_carrier;
 use crate::trace::{has_unfinished, played_status};

@@ -6,7 +6,7 @@ ghost use Rattle.ulfm_reader.specs.JobText.{rows_of};
 ghost use Rattle.ulfm_run_reply.specs.Asking.{as_asked};
 ghost use Rattle.ulfm_run_reply.specs.Unfinished.{has_unfinished, left_from, leaves_unfinished, played_status};
 
-use crate::asking::as_asked;
+use crate::demands::as_asked;
 use crate::remarks::remarks_on;
 use crate::traced::trace_in;
 use std::alloc::{AllocError, Global};

@@ -33,22 +33,21 @@
 //! Files:
 //!
 //! - `world.rt`, `world/reading.rt`, `world/copying.rt`: a world; `inbox.rt`, `room.rt`: its inboxes, of two kinds
-//! - `event.rt`, `asked.rt`, `steps.rt`: what may happen, and what that does; `schedule.rt`: a list of events
+//! - `event.rt`, `lent_step.rt`, `steps.rt`: what may happen, and what that does; `schedule.rt`: a list of events
 //! - `laws.rt`: what holds of each world that events lead to
 //!
 //! Not here: in which order things happen (`ulfm_replay`, `ulfm_outcomes`), and threads (`ulfm_run`).
 #![tactic(auto)]
 
-mod asked;
 mod event;
 mod inbox;
 mod laws;
+mod lent_step;
 mod room;
 mod schedule;
 mod steps;
 mod world;
 
-pub use asked::Asked;
 pub use event::{Event, Outcome, Refused};
 pub use inbox::Inbox;
 pub use laws::{
@@ -59,6 +58,7 @@ pub use laws::{
     one_order, one_pairing_each, proposed_at_rest, receives_keep_order, refused_never_happens,
     reports_are_faithful, revoked_by_a_rank, rings_give_all, settled_safely,
 };
+pub use lent_step::Asked;
 pub use room::Room;
 pub use schedule::run;
 pub use world::World;

@@ -5,7 +5,7 @@ use Rattle.ulfm_job.specs.Job.{JobView}
 use Rattle.ulfm_job.specs.Place.{IsPlaceOf, job_at}
 use Rattle.ulfm_job.specs.declared.place.Place.{Place}
 use Rattle.ulfm_list.specs.Union.{some_never_ends}
-use Rattle.ulfm_list.specs.declared.listed.Listed.{Listed}
+use Rattle.ulfm_list.specs.declared.place_list.Listed.{Listed}
 use Rattle.ulfm_outcomes_reply.specs.declared.lists.Lists.{Lists}
 use Rattle.ulfm_json.specs.declared.form.Form.{Form}
 use Rattle.ulfm_command_line.specs.Stopped.{Asked, asked_at}
@@ -23,8 +23,8 @@ use Rattle.ulfm_outcomes_reply.specs.Lists.{job_asked_at}
 use Rattle.ulfm_outcomes_reply.specs.Outcomes.{list_status, nowhere_in}
 use Rattle.ulfm_outcomes_reply.specs.ShowEach.{AreGoalsAt, IsNowhereAt}
 use Rattle.ulfm_outcomes_reply.specs.Wanted.{HasList, IsToldOf, IsWanted}
-use Rattle.ulfm_outcomes_reply.specs.declared.show_each.LookAt.{LookAt}
-use Rattle.ulfm_list.specs.declared.told.Told.{Told}
+use Rattle.ulfm_outcomes_reply.specs.declared.show_each_place.LookAt.{LookAt}
+use Rattle.ulfm_list.specs.declared.search_result.Told.{Told}
 use Rattle.ulfm_outcomes_spec.specs.Told.{IsLook}
 use Rattle.ulfm_outcomes_reply.specs.inside.Looking.{IsDrawnOf, IsLookText, look_status}
 use Rattle.ulfm_list.specs.declared.goals.Goals.{Goals}

@@ -10,8 +10,8 @@ use Rattle.ulfm_list.specs.declared.judgement.Judgement.TheVariants.{ComeTogethe
 use Rattle.ulfm_json.specs.declared.style.Style.{Style}
 use Rattle.ulfm_json.specs.declared.form.Form.{Form}
 use Rattle.ulfm_list.specs.Told.{told_in}
-use Rattle.ulfm_list.specs.declared.told.Told.{Told}
-use Rattle.ulfm_list.specs.declared.told.Told.TheVariants.{Schedule, Many}
+use Rattle.ulfm_list.specs.declared.search_result.Told.{Told}
+use Rattle.ulfm_list.specs.declared.search_result.Told.TheVariants.{Schedule, Many}
 use Rattle.ulfm_command_line.specs.Stopped.{Asked}
 use Rattle.ulfm_command_line.specs.declared.command.ListOptions.{ListOptions}
 use Rattle.ulfm_command_line.specs.declared.reply.Reply.{Reply}
@@ -19,7 +19,7 @@ use Rattle.ulfm_job.specs.declared.place.Place.{Place}
 use Rattle.ulfm_outcomes_reply.specs.Drawn.{IsDrawn, left_drawn}
 use Rattle.ulfm_outcomes_reply.specs.Outcomes.{nowhere_in}
 use Rattle.ulfm_outcomes_reply.specs.Wanted.{AreOfRow, NeverComes, NoneComes}
-use Rattle.ulfm_outcomes_reply.specs.declared.looking.FirstRow.{FirstRow}
+use Rattle.ulfm_outcomes_reply.specs.declared.never_rows.FirstRow.{FirstRow}
 
 -- what came of a search for the answers of a row: none for one that isn't looked at
 abbrev pub IsLookForRow : JobView → List Clause → Bool → ℕ → Option Told → Type 0

@@ -1,6 +1,6 @@
 use Rattle.std.proofs.Common.{sym}
 use Rattle.ulfm_list.specs.Union.{is_told_at, places_with}
-use Rattle.ulfm_list.specs.declared.listed.Listed.{Listed}
+use Rattle.ulfm_list.specs.declared.place_list.Listed.{Listed}
 use Rattle.ulfm_list.proofs.Telling.{items-with, items-without}
 use Rattle.ulfm_list.proofs.union.places_with.Goals as goal
 

@@ -1,0 +1,10 @@
+use Rattle.std.proofs.Common.{◌≡◌, false, rules, sym, ◌∙◌}
+use Rattle.std.proofs.lemmas.Bool.{false≢true}
+use Rattle.ulfm_list.specs.Goals.{has_each}
+use Rattle.ulfm_outcomes_spec.proofs.Together.{each_listed}
+use Rattle.ulfm_outcomes_reply.proofs.never_rows.look_for_row.Goals as goal
+
+pub returns-then-not-has_each : goal.returns-then-not-has_each
+returns-then-not-has_each g c =
+    let lacks : has_each c.args.found.now c.in_ok-goals.goals ≡ false = search rules in
+    λ _. (c.in_ok-goals.goals, c.in_ok-goals.ensures, λ possible. false≢true (sym lacks ∙ each_listed c.args.job.now _ c.args.search.now.options.limit c.requires.0 c.args.found.now c.in_ok-goals.goals c.requires.1 possible))
