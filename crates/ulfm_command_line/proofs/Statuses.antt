@@ -1,7 +1,7 @@
 -- The statuses that replies have.
 use Rattle.std.proofs.Common.{◌≢◌, ◌≤◌, ℕ, List, arith}
 use Rattle.ulfm_job.specs.declared.place.Place.{Place}
-use Rattle.ulfm_json.specs.declared.form.Form.{Form}
+use Rattle.ulfm_forms.specs.declared.form.Form.{Form}
 use Rattle.ulfm_command_line.specs.Expanded as expanded
 use Rattle.ulfm_command_line.specs.Expanded.{IsExpandReply}
 use Rattle.ulfm_command_line.specs.Named as named

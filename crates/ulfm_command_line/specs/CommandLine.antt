@@ -9,12 +9,12 @@ use Rattle.ulfm_command_line.specs.declared.command.ListOptions.{ListOptions}
 use Rattle.ulfm_command_line.specs.declared.command.RunOptions.{RunOptions}
 use Rattle.ulfm_command_line.specs.declared.command.Wanted.{Wanted}
 use Rattle.ulfm_command_line.specs.declared.command.Wanted.TheVariants.{Check, Replay, Run, Sweep, Outcomes, Places, Expand, Draw}
-use Rattle.ulfm_json.specs.declared.style.Style.{Style}
-use Rattle.ulfm_json.specs.declared.style.Style.TheVariants as style
-use Rattle.ulfm_json.specs.declared.form.Form.{Form}
-use Rattle.ulfm_json.specs.declared.form.Form.TheVariants.{Words, Json}
-use Rattle.ulfm_json.specs.declared.wording.Wording.{Wording}
-use Rattle.ulfm_json.specs.declared.wording.Wording.TheVariants.{Plain, Mpi}
+use Rattle.ulfm_forms.specs.declared.style.Style.{Style}
+use Rattle.ulfm_forms.specs.declared.style.Style.TheVariants as style
+use Rattle.ulfm_forms.specs.declared.form.Form.{Form}
+use Rattle.ulfm_forms.specs.declared.form.Form.TheVariants.{Words, Json}
+use Rattle.ulfm_forms.specs.declared.wording.Wording.{Wording}
+use Rattle.ulfm_forms.specs.declared.wording.Wording.TheVariants.{Plain, Mpi}
 use Rattle.ulfm_job.specs.Text.{place_of_text}
 use Rattle.ulfm_job.specs.declared.place.Place.{Place}
 use Rattle.ulfm_job.specs.declared.place.Place.TheVariants.{Nowhere}

@@ -6,7 +6,7 @@ use Rattle.toml.specs.Parse.{parse_document}
 use Rattle.ulfm_job.specs.declared.fault.JobFault.{JobFault}
 use Rattle.ulfm_job.specs.declared.fault.JobFault.TheVariants.{OutOfMemory}
 use Rattle.ulfm_reader.specs.Documents.{written_job}
-use Rattle.ulfm_json.specs.declared.form.Form.{Form}
+use Rattle.ulfm_forms.specs.declared.form.Form.{Form}
 use Rattle.ulfm_reader.specs.JobText.{job_of_bytes}
 use Rattle.ulfm_reader.specs.Plan.{Plan}
 use Rattle.ulfm_command_line.specs.Failure.{out_of_memory_in}

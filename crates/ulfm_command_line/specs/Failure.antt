@@ -1,7 +1,7 @@
 -- Why a run has no trace, and how that is printed.
 use Rattle.std.specs.Prelude.{ℕ, List, codes}
-use Rattle.ulfm_json.specs.declared.form.Form.{Form}
-use Rattle.ulfm_json.specs.declared.form.Form.TheVariants.{Words, Json}
+use Rattle.ulfm_forms.specs.declared.form.Form.{Form}
+use Rattle.ulfm_forms.specs.declared.form.Form.TheVariants.{Words, Json}
 use Rattle.ulfm_command_line.specs.declared.failure.Failure.{Failure}
 use Rattle.ulfm_command_line.specs.declared.failure.Failure.TheVariants as run
 

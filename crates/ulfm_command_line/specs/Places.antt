@@ -9,8 +9,8 @@ use Rattle.ulfm_job.specs.Text.{place_text}
 use Rattle.ulfm_job.specs.declared.place.Place.{Place}
 use Rattle.ulfm_reader.specs.Plan.{plan_of}
 use Rattle.ulfm_reader.specs.JobText.{job_of_bytes}
-use Rattle.ulfm_json.specs.declared.form.Form.{Form}
-use Rattle.ulfm_json.specs.declared.form.Form.TheVariants.{Words, Json}
+use Rattle.ulfm_forms.specs.declared.form.Form.{Form}
+use Rattle.ulfm_forms.specs.declared.form.Form.TheVariants.{Words, Json}
 use Rattle.ulfm_command_line.specs.Failure.{out_of_memory_in}
 use Rattle.ulfm_command_line.specs.Replies.{refused_in}
 

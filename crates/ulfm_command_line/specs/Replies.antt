@@ -8,8 +8,8 @@ use Rattle.ulfm_job.specs.declared.fault.JobFault.TheVariants.{NotToml, InJob, I
 use Rattle.ulfm_job.specs.Job.{JobView, step_count}
 use Rattle.ulfm_reader.specs.Plan.{plan_of}
 use Rattle.ulfm_reader.specs.JobText.{job_of_bytes}
-use Rattle.ulfm_json.specs.declared.form.Form.{Form}
-use Rattle.ulfm_json.specs.declared.form.Form.TheVariants.{Words, Json}
+use Rattle.ulfm_forms.specs.declared.form.Form.{Form}
+use Rattle.ulfm_forms.specs.declared.form.Form.TheVariants.{Words, Json}
 use Rattle.ulfm_command_line.specs.Failure.{out_of_memory_in}
 
 -- how a fault of a table of keys is printed

@@ -14,8 +14,8 @@ use Rattle.ulfm_reader.specs.Plan.{plan_of}
 use Rattle.ulfm_reader.specs.declared.filed.Filed.{Filed}
 use Rattle.ulfm_reader.specs.declared.name.Name.{Name}
 use Rattle.ulfm_reader.specs.declared.reading.Reading.{Reading as Kept}
-use Rattle.ulfm_json.specs.declared.form.Form.{Form}
-use Rattle.ulfm_json.specs.declared.form.Form.TheVariants.{Words, Json}
+use Rattle.ulfm_forms.specs.declared.form.Form.{Form}
+use Rattle.ulfm_forms.specs.declared.form.Form.TheVariants.{Words, Json}
 pub use Rattle.ulfm_command_line.specs.AskedFor.{Asked, asked_view, reading_as}
 use Rattle.ulfm_command_line.specs.Holding.{held_at}
 use Rattle.ulfm_command_line.specs.Replies.{refused_in}

@@ -18,7 +18,7 @@ use std::alloc::{AllocError, Global};
 use std::convert::AsStr;
 use ulfm_job::Place;
 use ulfm_job::limits::MOST_TURNS;
-use ulfm_json::{Form, Style, Wording};
+use ulfm_forms::{Form, Style, Wording};
 
 /// What takes the items of a run from rank to rank.
 #[derive(Clone, Copy, Debug, PartialEq, Eq)]

@@ -11,7 +11,7 @@ use crate::reply::{DONE, Reply, refusal};
 use std::alloc::{AllocError, Global};
 use toml::{Table, Value};
 use ulfm_job::Job;
-use ulfm_json::Form;
+use ulfm_forms::Form;
 use ulfm_reader::{ReadJob, written_job};
 
 /// The reply of `expand`: the text of the job with its steps written out.

@@ -4,7 +4,7 @@ ghost use Rattle.ulfm_command_line.specs.Failure.{failed_in};
 
 use crate::reply::{RUN_FAILED, Reply};
 use std::alloc::{AllocError, Global};
-use ulfm_json::Form;
+use ulfm_forms::Form;
 
 /// Why a run has no trace.
 #[derive(Clone, Copy, Debug, PartialEq, Eq)]

@@ -5,7 +5,7 @@ ghost use Rattle.ulfm_command_line.specs.CommandLine.{drawn_in, is_flagged, is_s
 
 use crate::command::value_of;
 use clap::ArgMatches;
-use ulfm_json::Style;
+use ulfm_forms::Style;
 
 /// Whether the flag `--strict` was given.
 pub(crate) fn is_strict(options: &ArgMatches<'_>) -> bool

@@ -79,7 +79,7 @@ pub use reply::{
 };
 pub use settled_place::settled_place;
 pub use ulfm_job::Place;
-pub use ulfm_json::{Form, Wording};
+pub use ulfm_forms::{Form, Wording};
 pub use unfollowed::{Unfollowed, asked_for};
 pub use unmet::push_unmet_answers;
 pub use verdict::{Extent, Verdict, Where};

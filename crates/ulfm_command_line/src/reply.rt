@@ -6,7 +6,7 @@ use crate::remark::Remark;
 use std::alloc::{AllocError, Global};
 use std::fmt;
 use ulfm_job::{Fault, Job, JobFault};
-use ulfm_json::Form;
+use ulfm_forms::Form;
 use ulfm_reader::ReadJob;
 
 /// The statuses (docs/JSON.md).

@@ -8,8 +8,8 @@ use Rattle.ulfm_answer.specs.declared.answer.StepAnswer.TheVariants.{Unfinished}
 use Rattle.ulfm_answer.specs.declared.answer.StepReport.{StepReport}
 use Rattle.ulfm_job.specs.Job.{JobView, script_at}
 use Rattle.ulfm_job.specs.declared.step.Step.{Step}
-use Rattle.ulfm_json.specs.Parts.{objects_json}
-use Rattle.ulfm_json.specs.Trace.{answered_json, ended_json}
+use Rattle.ulfm_forms.specs.Parts.{objects_json}
+use Rattle.ulfm_forms.specs.Trace.{answered_json, ended_json}
 use Rattle.ulfm_schedule.specs.declared.course.Course.{Course}
 use Rattle.ulfm_schedule.specs.declared.course.End.{End}
 use Rattle.ulfm_schedule.specs.declared.course.End.TheVariants.{Done, Stopped, Unreached}

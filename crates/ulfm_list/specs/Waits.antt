@@ -5,8 +5,8 @@ use Rattle.ulfm_answer.specs.declared.answer.StepAnswer.TheVariants.{Unfinished}
 use Rattle.ulfm_base.specs.declared.context.Context.{Context}
 use Rattle.ulfm_base.specs.declared.tag.Tag.{Tag}
 use Rattle.ulfm_job.specs.Job.{JobView, script_at}
-use Rattle.ulfm_json.specs.Call.{comm_json, tag_json}
-use Rattle.ulfm_json.specs.Trace.{answered_json, head_json}
+use Rattle.ulfm_forms.specs.Call.{comm_json, tag_json}
+use Rattle.ulfm_forms.specs.Trace.{answered_json, head_json}
 use Rattle.ulfm_reader.specs.declared.name.Name.{Name}
 use Rattle.ulfm_schedule.specs.declared.bearer.Bearer.{Bearer}
 use Rattle.ulfm_schedule.specs.declared.bearer.Fate.{Fate}

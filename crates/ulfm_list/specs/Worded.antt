@@ -6,10 +6,10 @@ use Rattle.ulfm_answer.specs.declared.answer.StepAnswer.{StepAnswer}
 use Rattle.ulfm_answer.specs.declared.answer.StepAnswer.TheVariants.{Unfinished}
 use Rattle.ulfm_job.specs.Job.{JobView}
 use Rattle.ulfm_job.specs.declared.step.Step.{Step}
-use Rattle.ulfm_json.specs.Worded.{answer_in}
-use Rattle.ulfm_json.specs.WordedTrace.{call_at, line_in, lines_in}
-use Rattle.ulfm_json.specs.declared.wording.Wording.{Wording}
-use Rattle.ulfm_json.specs.declared.wording.Wording.TheVariants.{Plain, Mpi}
+use Rattle.ulfm_forms.specs.Worded.{answer_in}
+use Rattle.ulfm_forms.specs.WordedTrace.{call_at, line_in, lines_in}
+use Rattle.ulfm_forms.specs.declared.wording.Wording.{Wording}
+use Rattle.ulfm_forms.specs.declared.wording.Wording.TheVariants.{Plain, Mpi}
 use Rattle.ulfm_schedule.specs.Words.{end_text, open_text, passed_text, schedule_text}
 use Rattle.ulfm_schedule.specs.declared.course.Course.{Course}
 use Rattle.ulfm_schedule.specs.declared.moved.Deed.{Deed}

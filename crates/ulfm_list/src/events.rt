@@ -1,13 +1,13 @@
 //! What ranks do in a schedule, as objects.
 ghost use Rattle.std.specs.Prelude.{◌≡◌, ◌++◌, IfOk, OnOk, slice_get, string_bytes};
 ghost use Rattle.ulfm_job.specs.Job.{script_at};
-ghost use Rattle.ulfm_json.specs.Trace.{answered_json, head_json};
+ghost use Rattle.ulfm_forms.specs.Trace.{answered_json, head_json};
 ghost use Rattle.ulfm_list.specs.Events.{cargo_json, deed_json, done_json, kind_json, left_json, letter_json, message_json, move_json, opened_json, took_json};
 
 use std::alloc::{AllocError, Global};
 use ulfm_answer::StepAnswer;
 use ulfm_base::{Context, Tag};
-use ulfm_json::{push_answered, push_comm, push_head};
+use ulfm_forms::{push_answered, push_comm, push_head};
 use ulfm_reader::Reading;
 use ulfm_schedule::{Cargo, Deed, Move};
 

@@ -8,7 +8,7 @@ use crate::step_list::StepList;
 use crate::words::push_words;
 use std::alloc::{AllocError, Global};
 use ulfm_base::OutOfMemory;
-use ulfm_json::Form;
+use ulfm_forms::Form;
 use ulfm_reader::Name;
 
 /// Puts a list of steps that have these names behind a text, in this form: a line for each step with its answers, in the order in which they

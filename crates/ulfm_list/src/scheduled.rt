@@ -11,7 +11,7 @@ use crate::waits::wait_object;
 use std::alloc::{AllocError, Global};
 use ulfm_answer::{StepAnswer, StepReport};
 use ulfm_job::NotedStep;
-use ulfm_json::{push_ended, push_objects};
+use ulfm_forms::{push_ended, push_objects};
 use ulfm_reader::Reading;
 use ulfm_schedule::{Course, End, Move, Schedule, Wait};
 

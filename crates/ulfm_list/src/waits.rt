@@ -6,7 +6,7 @@ use crate::events::{push_step_answered, push_step_head};
 use std::alloc::{AllocError, Global};
 use ulfm_answer::StepAnswer;
 use ulfm_base::{Context, Tag};
-use ulfm_json::{push_comm, push_tag};
+use ulfm_forms::{push_comm, push_tag};
 use ulfm_reader::Reading;
 use ulfm_schedule::{Bearer, Fate, Need, Wait};
 

@@ -14,7 +14,7 @@ use Rattle.ulfm_outcomes_reply.specs.Lists.{AreLists, IsListedAt, job_asked_at}
 use Rattle.ulfm_list.specs.declared.place_list.Listed.{Listed}
 use Rattle.ulfm_job.specs.declared.clause.Clause.{Clause}
 use Rattle.ulfm_job.specs.Places.{places_of}
-use Rattle.ulfm_json.specs.declared.form.Form.{Form}
+use Rattle.ulfm_forms.specs.declared.form.Form.{Form}
 use Rattle.ulfm_command_line.specs.Stopped.{Asked, IsAskedAt, asked_at}
 use Rattle.ulfm_command_line.specs.Wish.{ChoiceView}
 use Rattle.ulfm_command_line.specs.declared.command.ListOptions.{ListOptions}

@@ -7,7 +7,7 @@ use Rattle.ulfm_list.specs.declared.judgement.Judgement.{Judgement}
 use Rattle.ulfm_list.specs.declared.unmet.Unmet.{Unmet}
 use Rattle.ulfm_reach.specs.declared.reached.Reached.{Reached}
 use Rattle.ulfm_list.specs.Union.{some_never_ends as each_never_ends}
-use Rattle.ulfm_json.specs.declared.form.Form.{Form}
+use Rattle.ulfm_forms.specs.declared.form.Form.{Form}
 use Rattle.ulfm_command_line.proofs.Statuses as statuses
 use Rattle.ulfm_command_line.proofs.Statuses.{IsKnown, no_play}
 use Rattle.ulfm_command_line.specs.Failure.{out_of_memory_in}

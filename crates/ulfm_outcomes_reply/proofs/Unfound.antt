@@ -8,7 +8,7 @@ use Rattle.std.specs.Option.{option_or}
 use Rattle.std.specs.Prelude.{All}
 use Rattle.ulfm_job.specs.declared.place.Place.{Place}
 use Rattle.ulfm_list.specs.declared.place_list.Listed.{Listed}
-use Rattle.ulfm_json.specs.declared.form.Form.{Form}
+use Rattle.ulfm_forms.specs.declared.form.Form.{Form}
 use Rattle.ulfm_command_line.specs.Stopped.{Asked, asked_at}
 use Rattle.ulfm_command_line.specs.declared.command.ListOptions.{ListOptions}
 use Rattle.ulfm_list.specs.declared.judgement.Judgement.{Judgement}

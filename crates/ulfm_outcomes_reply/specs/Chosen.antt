@@ -8,7 +8,7 @@ use Rattle.ulfm_list.specs.Objects.{printed}
 use Rattle.ulfm_list.specs.declared.judgement.Judgement.{Judgement}
 use Rattle.ulfm_job.specs.declared.step.Step.{Step}
 use Rattle.ulfm_job.specs.declared.step.Step.TheVariants.{Note}
-use Rattle.ulfm_json.specs.declared.form.Form.{Form}
+use Rattle.ulfm_forms.specs.declared.form.Form.{Form}
 use Rattle.ulfm_list.specs.List.{list_at}
 use Rattle.ulfm_list.specs.declared.place_list.Listed.{Listed}
 use Rattle.ulfm_reach.specs.declared.reached.Reached.{Reached}

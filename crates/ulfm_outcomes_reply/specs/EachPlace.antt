@@ -11,7 +11,7 @@ use Rattle.ulfm_list.specs.Union.{some_never_ends}
 use Rattle.ulfm_list.specs.declared.place_list.Listed.{Listed}
 use Rattle.ulfm_list.specs.declared.judgement.Judgement.{Judgement}
 use Rattle.ulfm_list.specs.declared.judgement.Judgement.TheVariants.{NotKnown}
-use Rattle.ulfm_json.specs.declared.form.Form.{Form}
+use Rattle.ulfm_forms.specs.declared.form.Form.{Form}
 use Rattle.ulfm_command_line.specs.Failure.{out_of_memory_in}
 use Rattle.ulfm_command_line.specs.Replies.{refused_in}
 use Rattle.ulfm_command_line.specs.Stopped.{Asked, IsAskedAt, IsRefusal, asked_at}

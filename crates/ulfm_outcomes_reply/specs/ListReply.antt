@@ -1,6 +1,6 @@
 -- What `outcomes` writes, with `--show` and `--stops` or without.
 use Rattle.std.specs.Prelude.{ℕ, List, Option, Some, None}
-use Rattle.ulfm_json.specs.declared.form.Form.{Form}
+use Rattle.ulfm_forms.specs.declared.form.Form.{Form}
 use Rattle.ulfm_command_line.specs.Wish.{ChoiceView}
 use Rattle.ulfm_command_line.specs.declared.command.ListOptions.{ListOptions}
 use Rattle.ulfm_outcomes_reply.specs.EachPlace.{IsEachPlaceReply}

@@ -10,8 +10,8 @@ use Rattle.ulfm_outcomes_spec.specs.Outcomes.{IsList}
 use Rattle.ulfm_outcomes_spec.specs.Told.{IsTold}
 use Rattle.ulfm_list.specs.Text.{some_never_ends}
 use Rattle.ulfm_list.specs.declared.goals.Goals.{Goals}
-use Rattle.ulfm_json.specs.declared.form.Form.{Form}
-use Rattle.ulfm_json.specs.declared.form.Form.TheVariants.{Words, Json}
+use Rattle.ulfm_forms.specs.declared.form.Form.{Form}
+use Rattle.ulfm_forms.specs.declared.form.Form.TheVariants.{Words, Json}
 use Rattle.ulfm_list.specs.Objects.{more_in}
 use Rattle.ulfm_list.specs.declared.judgement.Judgement.{Judgement}
 use Rattle.ulfm_list.specs.Told.{told_in}

@@ -12,7 +12,7 @@ use Rattle.ulfm_outcomes_spec.specs.Goals.{IsPossible}
 use Rattle.ulfm_outcomes_spec.specs.Told.{IsTold}
 use Rattle.ulfm_list.specs.Goals.{AreOfClauses}
 use Rattle.ulfm_list.specs.declared.goals.Goals.{Goals}
-use Rattle.ulfm_json.specs.declared.form.Form.{Form}
+use Rattle.ulfm_forms.specs.declared.form.Form.{Form}
 use Rattle.ulfm_command_line.specs.Failure.{out_of_memory_in}
 use Rattle.ulfm_command_line.specs.Replies.{refused_in}
 use Rattle.ulfm_command_line.specs.Stopped.{Asked, IsAskedAt, IsRefusal, asked_at, clauses_beside}

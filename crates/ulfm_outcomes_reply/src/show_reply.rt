@@ -10,7 +10,7 @@ use ulfm_command_line::{
     DONE, JOB_REFUSED, NO_SCHEDULE, PAST_LIMIT, Place, Remark, Reply, asked_at,
 };
 use ulfm_draw::drawn;
-use ulfm_json::Form;
+use ulfm_forms::Form;
 use ulfm_list::{Goals, Told, push_told};
 use ulfm_outcomes_spec::Finder;
 use ulfm_reach::Watch;

@@ -1,6 +1,6 @@
 -- Replies to words that are followed.
 use Rattle.std.proofs.Common.{◌≡◌, ℕ, List, Option, sym}
-use Rattle.ulfm_json.specs.declared.form.Form.{Form}
+use Rattle.ulfm_forms.specs.declared.form.Form.{Form}
 use Rattle.ulfm_command_line.specs.declared.command.Wanted.{Wanted}
 use Rattle.ulfm_command_line.specs.Wish.{WishView}
 use Rattle.ulfm_program.specs.Replies.{IsReplyIn, IsReplyTo, GetsReply, GetsBeginning, followed}

@@ -1,6 +1,6 @@
 -- The statuses that replies have.
 use Rattle.std.proofs.Common.{ℕ, List, Option, Some, None}
-use Rattle.ulfm_json.specs.declared.form.Form.{Form}
+use Rattle.ulfm_forms.specs.declared.form.Form.{Form}
 use Rattle.ulfm_command_line.proofs.Statuses.{IsKnown, checked, expand_known, places_known, unnamed_known}
 use Rattle.ulfm_command_line.specs.Named.{wanted_at}
 use Rattle.ulfm_command_line.specs.declared.command.Wanted.{Wanted}

@@ -1,7 +1,7 @@
 -- What the program writes for a job.
 use Rattle.std.specs.Prelude.{◌≡◌, ◌≢◌, ◌⊎◌, ℕ, List, take, Option, Some, None, IfSome, codes}
 use Rattle.std.specs.Io.KnownBytes.{Appends}
-use Rattle.ulfm_json.specs.declared.form.Form.{Form}
+use Rattle.ulfm_forms.specs.declared.form.Form.{Form}
 use Rattle.ulfm_outcomes_reply.specs.ListReply.{IsListReply}
 use Rattle.ulfm_run_reply.specs.Sweep.{IsSweepReply}
 use Rattle.ulfm_command_line.specs.declared.command.Wanted.{Wanted}

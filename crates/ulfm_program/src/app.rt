@@ -21,7 +21,7 @@ use ulfm_command_line::{
     Unfollowed, asked_for, failed_line,
 };
 use ulfm_explain::{write_fault, write_notes, write_verdict};
-use ulfm_json::{Form, Wording};
+use ulfm_forms::{Form, Wording};
 use ulfm_outcomes_spec::Finder;
 use ulfm_reader::{InputFault, read_front, write_whole};
 

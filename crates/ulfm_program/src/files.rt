@@ -19,7 +19,7 @@ use std::sync::Wait;
 use std::thread::Threads;
 use std::time::Clock;
 use ulfm_command_line::{Asked, DONE, INPUT_FAILED, OUTPUT_FAILED, Unfollowed, asked_for};
-use ulfm_json::{Form, Wording};
+use ulfm_forms::{Form, Wording};
 use ulfm_outcomes_spec::Finder;
 use ulfm_reader::write_whole;
 

@@ -6,7 +6,7 @@ use std::fs::File;
 use std::io::Write;
 use std::rt::Files;
 use ulfm_command_line::{Asked, JOB_REFUSED, ListOptions, Wanted};
-use ulfm_json::{Form, Wording};
+use ulfm_forms::{Form, Wording};
 use ulfm_outcomes_reply::Search;
 use ulfm_outcomes_spec::Finder;
 use ulfm_reader::{read_front, write_whole};

@@ -11,7 +11,7 @@ use std::thread::Threads;
 use ulfm_command_line::{
     Asked, Reply, Wanted, check_reply, expand_reply, places_reply, settled_place,
 };
-use ulfm_json::Form;
+use ulfm_forms::Form;
 use ulfm_outcomes_reply::{Onlooker, Search, list_reply};
 use ulfm_outcomes_spec::Finder;
 use ulfm_reach::Watch;

@@ -7,7 +7,7 @@ use std::alloc::AllocError;
 use ulfm_command_line::is_looked_at;
 use ulfm_draw::drawn;
 use ulfm_job::Clause;
-use ulfm_json::Style;
+use ulfm_forms::Style;
 use ulfm_list::{Goals, OpenStep, Told, filed_number, has_each, number_at};
 use ulfm_outcomes_reply::{Search, open_goals};
 use ulfm_outcomes_spec::{Finder, first_unmet};

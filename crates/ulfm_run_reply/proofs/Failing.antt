@@ -7,7 +7,7 @@ use Rattle.ulfm_run.specs.Fault.{ShowUntrue}
 use Rattle.ulfm_answer.specs.Report.{Report}
 use Rattle.ulfm_script.specs.declared.fault.RunFault.{RunFault}
 use Rattle.ulfm_script.specs.declared.fault.RunFault.TheVariants as faults
-use Rattle.ulfm_json.specs.declared.form.Form.{Form}
+use Rattle.ulfm_forms.specs.declared.form.Form.{Form}
 use Rattle.ulfm_command_line.specs.declared.command.RunOptions.{RunOptions}
 use Rattle.ulfm_command_line.specs.Failure.{failed_in}
 use Rattle.ulfm_run_reply.specs.Failing.{failure_of}

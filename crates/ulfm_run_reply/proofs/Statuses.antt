@@ -2,7 +2,7 @@
 use Rattle.std.proofs.Common.{ℕ, Bool, true, false, List, Option}
 use Rattle.std.specs.List.{list_all, list_any}
 use Rattle.ulfm_job.specs.declared.place.Place.{Place}
-use Rattle.ulfm_json.specs.declared.form.Form.{Form}
+use Rattle.ulfm_forms.specs.declared.form.Form.{Form}
 use Rattle.ulfm_command_line.proofs.Statuses.{IsKnown, done, left_open, no_job, no_play, not_wanted, run_fails}
 use Rattle.ulfm_run_reply.specs.Asking.{as_asked}
 use Rattle.ulfm_run_reply.specs.Unfinished.{has_unfinished, played_status}

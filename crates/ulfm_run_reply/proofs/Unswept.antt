@@ -9,7 +9,7 @@ use Rattle.ulfm_reader.specs.Plan.{plan_of}
 use Rattle.ulfm_replay.specs.Sweep.{IsStarved}
 use Rattle.ulfm_replay.specs.declared.fault.SweepFault.{SweepFault}
 use Rattle.ulfm_replay.specs.declared.fault.SweepFault.TheVariants.{Job}
-use Rattle.ulfm_json.specs.declared.form.Form.{Form}
+use Rattle.ulfm_forms.specs.declared.form.Form.{Form}
 use Rattle.ulfm_command_line.specs.Replies.{refused_in}
 use Rattle.ulfm_run_reply.specs.Sweep.{IsSweepReply, unread, full, unmade}
 

@@ -4,8 +4,8 @@ use Rattle.std.specs.Fmt.{decimal}
 use Rattle.std.specs.List.{ends_with, flat_map, range_with_len, starts_with}
 use Rattle.std.specs.Str.Lines.{lines}
 use Rattle.ulfm_job.specs.Job.{JobView, script_at}
-use Rattle.ulfm_json.specs.declared.form.Form.{Form}
-use Rattle.ulfm_json.specs.declared.form.Form.TheVariants.{Words, Json}
+use Rattle.ulfm_forms.specs.declared.form.Form.{Form}
+use Rattle.ulfm_forms.specs.declared.form.Form.TheVariants.{Words, Json}
 use Rattle.ulfm_run_reply.specs.Tally.{Row, counted, row_in, row_json, tally_in}
 
 -- how the line of a rank's step of this number begins

@@ -6,8 +6,8 @@ use Rattle.ulfm_base.specs.Items.{items_from}
 use Rattle.ulfm_job.specs.Job.{JobView, with_turns}
 use Rattle.ulfm_job.specs.declared.place.Place.{Place}
 use Rattle.ulfm_answer.specs.Report.{Report}
-use Rattle.ulfm_json.specs.Form.{trace_in}
-use Rattle.ulfm_json.specs.declared.form.Form.{Form}
+use Rattle.ulfm_forms.specs.Form.{trace_in}
+use Rattle.ulfm_forms.specs.declared.form.Form.{Form}
 use Rattle.ulfm_laws.specs.Flow.{AreWithin, Inboxes, inbox_of}
 use Rattle.ulfm_laws.specs.Lawful.{IsLawful}
 use Rattle.ulfm_laws.specs.Reports.{IsEach}

@@ -3,8 +3,8 @@ use Rattle.std.specs.Prelude.{ℕ, ◌+◌, List, [], ◌∷◌, ◌++◌, codes
 use Rattle.std.specs.Fmt.{decimal}
 use Rattle.std.specs.List.{flat_map}
 use Rattle.std.specs.Str.{bytes_eq}
-use Rattle.ulfm_json.specs.declared.form.Form.{Form}
-use Rattle.ulfm_json.specs.declared.form.Form.TheVariants.{Words, Json}
+use Rattle.ulfm_forms.specs.declared.form.Form.{Form}
+use Rattle.ulfm_forms.specs.declared.form.Form.TheVariants.{Words, Json}
 
 -- a text, as a trace, and how many runs gave it
 abbrev pub Row : Type 0

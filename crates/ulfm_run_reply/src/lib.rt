@@ -22,7 +22,7 @@
 //!   distinct line is (`repeats_in`, Brief.antt).
 //! - [`sweep_reply`]: a line for each place of a stop, in order, as `ulfm_replay` promises them (`IsSweepReply`, `sweep_in`, Sweep.antt).
 //! - [`draw_reply`]: with 0 the job was replayed (`IsDrawReply`, Played.antt).
-//! - A trace is the text of the reports, byte for byte, in words or as JSON (`trace_in`, Form.antt of `ulfm_json`).
+//! - A trace is the text of the reports, byte for byte, in words or as JSON (`trace_in`, Form.antt of `ulfm_forms`).
 //!
 //! Files:
 //!

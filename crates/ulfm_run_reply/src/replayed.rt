@@ -7,7 +7,7 @@ use crate::trace::trace_reply;
 use crate::turns::given_turns;
 use std::alloc::{AllocError, Global};
 use ulfm_command_line::{Place, Reply, asked_at};
-use ulfm_json::Form;
+use ulfm_forms::Form;
 use ulfm_replay::replay;
 
 /// The reply of `replay`.

@@ -4,7 +4,7 @@ ghost use Rattle.std.specs.List.{list_all, list_any};
 ghost use Rattle.ulfm_run_reply.specs.Played.{AreOfRun};
 ghost use Rattle.ulfm_reader.specs.JobText.{rows_of as rows_asked};
 ghost use Rattle.ulfm_answer.specs.Report.{Report};
-ghost use Rattle.ulfm_json.specs.Form.{trace_in};
+ghost use Rattle.ulfm_forms.specs.Form.{trace_in};
 ghost use Rattle.ulfm_run_reply.specs.declared.tally.Counted.{Counted as Kept};
 ghost use Rattle.ulfm_run_reply.specs.inside.Tallied.{row_of, rows_of};
 ghost use Rattle.ulfm_run_reply.specs.inside.Shown.{IsShown};
@@ -24,7 +24,7 @@ use std::sync::Wait;
 use std::thread::Threads;
 use ulfm_command_line::{Carrier, Failure, Remark, Reply};
 use ulfm_job::Job;
-use ulfm_json::Form;
+use ulfm_forms::Form;
 use ulfm_reader::Reading;
 use ulfm_script::RankReport;
 

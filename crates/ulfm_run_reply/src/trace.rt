@@ -1,7 +1,7 @@
 //! The reply that a trace is.
 ghost use Rattle.std.specs.Prelude.{◌≡◌, IfOk, string_bytes};
 ghost use Rattle.ulfm_answer.specs.Report.{is_unfinished};
-ghost use Rattle.ulfm_json.specs.Form.{trace_in};
+ghost use Rattle.ulfm_forms.specs.Form.{trace_in};
 ghost use Rattle.ulfm_reader.specs.JobText.{rows_of};
 ghost use Rattle.ulfm_run_reply.specs.Asking.{as_asked};
 ghost use Rattle.ulfm_run_reply.specs.Unfinished.{has_unfinished, left_from, leaves_unfinished, played_status};
@@ -13,7 +13,7 @@ use std::alloc::{AllocError, Global};
 use ulfm_answer::{StepAnswer, StepReport};
 use ulfm_command_line::{DONE, NOT_EXPECTED, Reply, UNFINISHED};
 use ulfm_job::Job;
-use ulfm_json::Form;
+use ulfm_forms::Form;
 use ulfm_reader::Reading;
 use ulfm_script::RankReport;
 

@@ -1,16 +1,16 @@
 //! The trace in each form.
 ghost use Rattle.std.specs.Prelude.{◌≡◌, ◌++◌, IfOk, OnOk, string_bytes};
-ghost use Rattle.ulfm_json.specs.Form.{trace_in};
-ghost use Rattle.ulfm_json.specs.Trace.{rank_json, trace_json};
-ghost use Rattle.ulfm_json.specs.WordedTrace.{rank_in, words_of};
-ghost use Rattle.ulfm_json.specs.declared.wording.Wording.TheVariants.{Mpi};
+ghost use Rattle.ulfm_forms.specs.Form.{trace_in};
+ghost use Rattle.ulfm_forms.specs.Trace.{rank_json, trace_json};
+ghost use Rattle.ulfm_forms.specs.WordedTrace.{rank_in, words_of};
+ghost use Rattle.ulfm_forms.specs.declared.wording.Wording.TheVariants.{Mpi};
 ghost use Rattle.std.specs.List.{flat_map};
 
 use std::alloc::{AllocError, Global};
 use ulfm_answer::push_closing;
 use ulfm_base::OutOfMemory;
 use ulfm_job::Job;
-use ulfm_json::{Form, Wording, push_end, push_lines_in, push_steps};
+use ulfm_forms::{Form, Wording, push_end, push_lines_in, push_steps};
 use ulfm_reader::Name;
 use ulfm_script::{RankReport, trace_text};
 

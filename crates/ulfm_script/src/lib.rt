@@ -24,7 +24,7 @@
 //! - `hands.rt`: a turn; `report.rt`, `trace.rt`, `expected.rt`: what a rank did, its text, and whether it is as the job expects
 //! - `fault.rt`: why a run fails
 //!
-//! Not here: whose turn it is. The trace as JSON is in `ulfm_json`.
+//! Not here: whose turn it is. The trace as JSON is in `ulfm_forms`.
 #![tactic(auto)]
 
 mod called;

@@ -7,7 +7,7 @@ use Rattle.ulfm_job.specs.declared.place.Place.{Place}
 use Rattle.ulfm_list.specs.Union.{some_never_ends}
 use Rattle.ulfm_list.specs.declared.place_list.Listed.{Listed}
 use Rattle.ulfm_outcomes_reply.specs.declared.lists.Lists.{Lists}
-use Rattle.ulfm_json.specs.declared.form.Form.{Form}
+use Rattle.ulfm_forms.specs.declared.form.Form.{Form}
 use Rattle.ulfm_command_line.specs.Stopped.{Asked, asked_at}
 use Rattle.ulfm_command_line.specs.declared.command.ListOptions.{ListOptions}
 use Rattle.ulfm_command_line.specs.declared.reply.Reply.{Reply}
@@ -28,7 +28,7 @@ use Rattle.ulfm_list.specs.declared.search_result.Told.{Told}
 use Rattle.ulfm_outcomes_spec.specs.Told.{IsLook}
 use Rattle.ulfm_outcomes_reply.specs.inside.Looking.{IsDrawnOf, IsLookText, look_status}
 use Rattle.ulfm_list.specs.declared.goals.Goals.{Goals}
-use Rattle.ulfm_json.specs.declared.style.Style.{Style}
+use Rattle.ulfm_forms.specs.declared.style.Style.{Style}
 
 -- so many threads share the places: as many as are asked for, and one at least, else 64 at most
 abbrev pub AreSharing : Option ℕ → ℕ → Type 0

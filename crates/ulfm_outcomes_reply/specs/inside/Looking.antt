@@ -7,8 +7,8 @@ use Rattle.ulfm_list.specs.declared.goals.Goals.{Goals}
 use Rattle.ulfm_list.specs.declared.unmet.Unmet.{Unmet}
 use Rattle.ulfm_list.specs.declared.judgement.Judgement.{Judgement}
 use Rattle.ulfm_list.specs.declared.judgement.Judgement.TheVariants.{ComeTogether, NotKnown}
-use Rattle.ulfm_json.specs.declared.style.Style.{Style}
-use Rattle.ulfm_json.specs.declared.form.Form.{Form}
+use Rattle.ulfm_forms.specs.declared.style.Style.{Style}
+use Rattle.ulfm_forms.specs.declared.form.Form.{Form}
 use Rattle.ulfm_list.specs.Told.{told_in}
 use Rattle.ulfm_list.specs.declared.search_result.Told.{Told}
 use Rattle.ulfm_list.specs.declared.search_result.Told.TheVariants.{Schedule, Many}

@@ -1,6 +1,6 @@
 use Rattle.std.proofs.Common.{ℕ, List, ◌++◌, ap, ◌∙◌, codes, slice_get, string_bytes, append_assoc}
 use Rattle.ulfm_job.specs.Job.{script_at}
-use Rattle.ulfm_json.specs.Trace.{head_json}
+use Rattle.ulfm_forms.specs.Trace.{head_json}
 use Rattle.ulfm_list.proofs.events.push_opened.Goals as goal
 
 pub returns : goal.returns

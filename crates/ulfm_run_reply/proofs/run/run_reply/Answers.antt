@@ -7,7 +7,7 @@ use Rattle.ulfm_reader.specs.JobText.{rows_of}
 use Rattle.ulfm_reader.specs.declared.reading.Reading.{Reading}
 use Rattle.ulfm_command_line.specs.Stopped.{IsAsked, asked_view}
 use Rattle.ulfm_run_reply.specs.Played.{AreOfRun, ran, repeated, not_run, given_turns}
-use Rattle.ulfm_json.specs.Form.{trace_in}
+use Rattle.ulfm_forms.specs.Form.{trace_in}
 use Rattle.ulfm_run_reply.specs.Brief.{repeats_in}
 use Rattle.ulfm_run_reply.specs.Tally.{tally}
 use Rattle.ulfm_run_reply.specs.Asking.{as_asked}

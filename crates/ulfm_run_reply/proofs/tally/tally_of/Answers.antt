@@ -2,7 +2,7 @@ use Rattle.std.proofs.Common.{◌≤◌, List, [], ◌∷◌, ◌++◌, ◌+◌,
 use Rattle.std.proofs.lemmas.List.Elements.{All-nil, All-push}
 use Rattle.ulfm_run_reply.specs.Played.{AreOfRun}
 use Rattle.ulfm_reader.specs.JobText.{rows_of as rows_asked}
-use Rattle.ulfm_json.specs.Form.{trace_in}
+use Rattle.ulfm_forms.specs.Form.{trace_in}
 use Rattle.ulfm_run_reply.specs.Tally.{counted_once}
 use Rattle.ulfm_run_reply.specs.declared.tally.Counted.{Counted}
 use Rattle.ulfm_run_reply.specs.inside.Tallied.{rows_of}

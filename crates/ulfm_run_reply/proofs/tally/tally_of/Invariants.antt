@@ -3,7 +3,7 @@ use Rattle.std.specs.List.{list_all, list_any}
 use Rattle.ulfm_run_reply.specs.Played.{AreOfRun}
 use Rattle.ulfm_reader.specs.JobText.{rows_of as rows_asked}
 use Rattle.ulfm_answer.specs.Report.{Report}
-use Rattle.ulfm_json.specs.Form.{trace_in}
+use Rattle.ulfm_forms.specs.Form.{trace_in}
 use Rattle.ulfm_run_reply.specs.declared.tally.Counted.{Counted}
 use Rattle.ulfm_run_reply.specs.inside.Tallied.{rows_of}
 use Rattle.ulfm_run_reply.specs.Tally.{tally}

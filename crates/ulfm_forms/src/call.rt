@@ -1,0 +1,118 @@
+//! What a step asks for.
+ghost use Rattle.std.specs.Prelude.{◌≡◌, ◌++◌, OnOk, string_bytes};
+ghost use Rattle.ulfm_forms.specs.Call.{call_json, comm_json, from_json, keys_json, op_text, sought_json, tag_json};
+
+use std::alloc::AllocError;
+use ulfm_base::{Context, Tag};
+use ulfm_job::Step;
+
+/// The op of a step.
+fn op_name(step: &Step) -> &'static str
+    ensures { result.now ≡ op_text step.now }
+{
+    match step {
+        Step::Send { .. } => "send",
+        Step::Recv { .. } => "recv",
+        Step::Wait { .. } => "wait",
+        Step::Probe { .. } => "probe",
+        Step::Mrecv { .. } => "mrecv",
+        Step::Cancel { .. } => "cancel",
+        Step::Failed { .. } => "failed",
+        Step::Ack { .. } => "ack",
+        Step::Revoke { .. } => "revoke",
+        Step::Dup { .. } => "dup",
+        Step::Shrink { .. } => "shrink",
+        Step::Agree { .. } => "agree",
+        Step::Note { .. } => "note",
+        Step::Stop => "stop",
+    }
+}
+
+/// The key of a source, where any is `null`.
+fn push_from(text: &mut String, from: Option<u8>) -> Result<(), AllocError>
+    ensures { OnOk result (string_bytes text.new ≡ string_bytes text.old ++ from_json from) }
+{
+    match from {
+        Some(rank) => write!(text, ",\"from\":{rank}"),
+        None => text.push_str(",\"from\":null"),
+    }
+}
+
+/// The key of a tag, where any is `null`.
+pub fn push_tag(text: &mut String, tag: Option<Tag>) -> Result<(), AllocError>
+    ensures { OnOk result (string_bytes text.new ≡ string_bytes text.old ++ tag_json tag) }
+{
+    match tag {
+        Some(tag) => write!(text, ",\"tag\":{}", tag.number),
+        None => text.push_str(",\"tag\":null"),
+    }
+}
+
+/// The key of a communicator.
+pub fn push_comm(text: &mut String, comm: Context) -> Result<(), AllocError>
+    ensures { OnOk result (string_bytes text.new ≡ string_bytes text.old ++ comm_json comm) }
+{
+    write!(text, ",\"comm\":{}", comm.number)
+}
+
+/// The keys of what is sought: a source, a tag, and a communicator.
+fn push_sought(
+    text: &mut String,
+    from: Option<u8>,
+    tag: Option<Tag>,
+    comm: Context,
+) -> Result<(), AllocError>
+    ensures { OnOk result (string_bytes text.new ≡ string_bytes text.old ++ sought_json from tag comm) }
+{
+    push_from(text, from)?;
+    push_tag(text, tag)?;
+    push_comm(text, comm)
+}
+
+/// The keys that a step has beside its op.
+fn push_keys(text: &mut String, step: &Step) -> Result<(), AllocError>
+    ensures { OnOk result (string_bytes text.new ≡ string_bytes text.old ++ keys_json step.now) }
+{
+    match step {
+        Step::Send { to, tag, comm, .. } => {
+            write!(text, ",\"to\":{to},\"tag\":{}", tag.number)?;
+            push_comm(text, *comm)
+        }
+        Step::Recv {
+            from,
+            tag,
+            comm,
+            ..
+        }
+        | Step::Probe { from, tag, comm } => push_sought(text, *from, *tag, *comm),
+        Step::Wait { req } | Step::Mrecv { req, .. } | Step::Cancel { req } => {
+            write!(text, ",\"req\":{req}")
+        }
+        Step::Ack { count, comm } => {
+            write!(text, ",\"count\":{count}")?;
+            push_comm(text, *comm)
+        }
+        Step::Agree { flag, comm } => {
+            write!(text, ",\"flag\":{flag}")?;
+            push_comm(text, *comm)
+        }
+        Step::Failed { comm }
+        | Step::Revoke { comm }
+        | Step::Dup { comm }
+        | Step::Shrink { comm } => push_comm(text, *comm),
+        Step::Note { text: label } => {
+            let label = label.as_str();
+            write!(text, ",\"text\":\"{label}\"")
+        }
+        Step::Stop => Ok(()),
+    }
+}
+
+/// The keys of a step: its op, and what the words of the step have.
+pub(crate) fn push_call(text: &mut String, step: &Step) -> Result<(), AllocError>
+    ensures { OnOk result (string_bytes text.new ≡ string_bytes text.old ++ call_json step.now) }
+{
+    let op = op_name(step);
+    write!(text, "\"op\":\"{op}\"")?;
+    push_keys(text, step)
+}
