@@ -15,7 +15,7 @@
 //! - items, and as a log keeps them: `item.rt`, `item_kind.rt`, `noted.rt`, `noted_item.rt`, `noted_letter.rt`
 //! - shrinks and agreements: `topic.rt`, `entrance.rt`, `contribution.rt`, `decision.rt`; refusals: `error.rt`
 //!
-//! Not here: what a rank does with any of these (`ulfm_log`, `ulfm_rank`). Nor whether a decision is true of what ranks did: `ulfm_laws` says that
+//! Not here: what a rank does with any of these (`ulfm_log`, `ulfm_rank`). Nor whether a decision is true of what ranks did: `ulfm_report_laws` says that
 //! of adopted ones.
 #![tactic(auto)]
 

@@ -5,7 +5,7 @@ use Rattle.ulfm_replay.specs.Sweep.{answers_of, place_of, places_in}
 use Rattle.std.proofs.lemmas.List.FromFn.{map-range_with_len_more}
 use Rattle.std.proofs.lemmas.List.Sums.{count_by-le-length, get_or-le-sum_by, sum_by-le, sum_by-le-sum_by}
 use Rattle.ulfm_base.specs.Lists.{at}
-use Rattle.ulfm_laws.proofs.Mail.{flat-push}
+use Rattle.ulfm_report_laws.proofs.Mail.{flat-push}
 use Rattle.ulfm_answer.specs.Report.{Report}
 use Rattle.ulfm_script.specs.Script.{is_played_stop, reported_step, through_stop}
 use Rattle.ulfm_replay.specs.declared.line.SweepLine.{SweepLine}

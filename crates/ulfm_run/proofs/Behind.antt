@@ -4,7 +4,7 @@ use Rattle.std.specs.List.{count_by}
 use Rattle.std.proofs.lemmas.List.{drop_all, drop-drop}
 use Rattle.std.proofs.lemmas.List.Sums.{sum_by-take-drop}
 use Rattle.ulfm_run.proofs.Common.{Entry}
-use Rattle.ulfm_laws.specs.Room.{takes_sent, taken_behind}
+use Rattle.ulfm_report_laws.specs.Room.{takes_sent, taken_behind}
 
 pub fewer_behind : (s n m : ℕ) (log : List Entry) → n ≤ m → taken_behind s m log ≤ taken_behind s n log
 fewer_behind s n m log le =

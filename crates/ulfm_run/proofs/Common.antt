@@ -10,7 +10,7 @@ pub use Rattle.ulfm_base.specs.declared.item.Item.{Item}
 pub use Rattle.ulfm_base.specs.declared.rank.WorldRank.{WorldRank}
 pub use Rattle.ulfm_carrier.specs.Family.{IsFresh, IsGathered, Keeps}
 pub use Rattle.ulfm_job.specs.Job.{script_at, JobView, IsJob}
-pub use Rattle.ulfm_laws.specs.Answers.{AgreeAt, AllAgree}
+pub use Rattle.ulfm_report_laws.specs.Answers.{AgreeAt, AllAgree}
 pub use Rattle.ulfm_log.specs.Facts.{is_stopped, IsSigned}
 pub use Rattle.ulfm_log.specs.State.{IsState, State, GoesOut, logged, no_mark, outbox, returned, start_state, went_out}
 pub use Rattle.ulfm_log.specs.declared.entry.Entry.{Entry}
@@ -26,15 +26,15 @@ pub use Rattle.ulfm_run.specs.inside.Turns.{WentOn}
 pub use Rattle.std.proofs.lemmas.Bool.{cases_eq, cases_lt, eq-eqb, eqb-true, false≢true, ne_eqb, or_cases, or_left, or_right}
 pub use Rattle.std.proofs.lemmas.List.Elements.{All-get_or, All-nil, All-push}
 pub use Rattle.ulfm_base.specs.Items.{ComesFrom, items_from}
-pub use Rattle.ulfm_laws.specs.Flow.{Flows, inbox_of}
-pub use Rattle.ulfm_laws.specs.Decisions.{AdoptsTruly, AreTrue, EnteredWith, StoppedAt}
+pub use Rattle.ulfm_report_laws.specs.Flow.{Flows, inbox_of}
+pub use Rattle.ulfm_report_laws.specs.Decisions.{AdoptsTruly, AreTrue, EnteredWith, StoppedAt}
 pub use Rattle.ulfm_rank.specs.Joined.{IsJoined}
 pub use Rattle.ulfm_run.specs.inside.Joined.{IsAtWork, Moves, Polls, SkipsOn}
 pub use Rattle.ulfm_script.proofs.Honestly.{honest-answers, honest-left, honest-moved, honest-start}
 pub use Rattle.std.specs.Vec.Iter.{into_iter_items, into_iter_len}
 pub use Rattle.ulfm_job.specs.declared.step.Step.{Step}
-pub use Rattle.ulfm_laws.specs.Reports.{IsRunning}
-pub use Rattle.ulfm_laws.specs.Rest.{IsServed}
+pub use Rattle.ulfm_report_laws.specs.Reports.{IsRunning}
+pub use Rattle.ulfm_report_laws.specs.Rest.{IsServed}
 pub use Rattle.ulfm_run.specs.declared.worker.Ran.{Ran}
 pub use Rattle.ulfm_script.proofs.Progress.{next-free}
 pub use Rattle.ulfm_script.specs.inside.SoFar.{AnswersFollowSoFar}

@@ -2,8 +2,8 @@
 use Rattle.std.proofs.Common.{ℕ, List, Option, Some, None, IfSome, arith}
 use Rattle.ulfm_log.specs.declared.entry.Entry.TheVariants.{Adopted, Stopped, Took}
 use Rattle.ulfm_run.proofs.Common.{Report, slice_get_within}
-use Rattle.ulfm_laws.specs.Order.{HaveOneOrder}
-use Rattle.ulfm_laws.specs.Room.{StopsHaveRoom}
+use Rattle.ulfm_report_laws.specs.Order.{HaveOneOrder}
+use Rattle.ulfm_report_laws.specs.Room.{StopsHaveRoom}
 use Rattle.ulfm_run.specs.inside.Walk.{IsWalked, HaveOrder, AreAtEnds}
 
 -- what was walked to its end has one order

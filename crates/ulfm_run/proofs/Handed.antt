@@ -1,7 +1,7 @@
 -- Lists that are handed over, one element after another, and what came of each.
 use Rattle.std.proofs.Common.{◌≡◌, ℕ, zero, suc, List, [], ◌∷◌, map, length, refl, ap, sym, ◌∙◌, arith, subst, slice_get, All}
 use Rattle.ulfm_script.specs.Answered.{AnswersFollow}
-use Rattle.ulfm_laws.specs.Answers.{AllAnswersFollow}
+use Rattle.ulfm_report_laws.specs.Answers.{AllAnswersFollow}
 use Rattle.ulfm_run.proofs.Common.{at, at_view, contents, Global, IsFresh, Item, Known, Report, Vec, WorldRank, same_Some, slice_get_within, get_or_from_slice_get, inbox_of, All-get_or, Ran, EachFresh, GaveAnswers, report_in, decider_in}
 
 pub fresh_first : {E : Type 0} (count : E → ℕ) (pushed taken : E → ℕ → List Item) (ready : E → Type 0) {n : ℕ} {all rest : List E} {x : E} → EachFresh count pushed taken ready n all → all ≡ x ∷ rest → IsFresh count pushed taken ready n x

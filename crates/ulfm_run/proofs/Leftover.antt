@@ -8,9 +8,9 @@ use Rattle.ulfm_base.specs.declared.item.Item.{Item}
 use Rattle.ulfm_base.specs.declared.rank.WorldRank.{WorldRank}
 use Rattle.ulfm_base.specs.Items.{items_from}
 use Rattle.ulfm_base.specs.Lists.{at}
-use Rattle.ulfm_laws.specs.Flow.{AreWithin, inbox_of}
+use Rattle.ulfm_report_laws.specs.Flow.{AreWithin, inbox_of}
 use Rattle.ulfm_run.specs.Flow.{contents}
-use Rattle.ulfm_laws.proofs.Counted.{none_far}
+use Rattle.ulfm_report_laws.proofs.Counted.{none_far}
 use Rattle.ulfm_run.proofs.Handed.{inbox_there}
 
 -- of a rank past the last one nothing is

@@ -7,7 +7,7 @@ use Rattle.ulfm_base.specs.declared.decision.Decision.{Decision}
 use Rattle.ulfm_base.specs.declared.topic.Topic.{Topic}
 use Rattle.ulfm_log.specs.declared.entry.Entry.TheVariants.{Adopted}
 use Rattle.ulfm_script.specs.Deciding.{topic_of}
-use Rattle.ulfm_laws.specs.Proposed.{AdoptsAt, ProposesAt, ProposesBy}
+use Rattle.ulfm_report_laws.specs.Proposed.{AdoptsAt, ProposesAt, ProposesBy}
 use Rattle.ulfm_run.proofs.Common.{at, cases_lt, Entry, Report, same_Some, slice_get_within}
 use Rattle.ulfm_run.specs.inside.Listed.{IsAdoption, IsListedAs, IsProposedByRank, IsProposedIn}
 use Rattle.ulfm_run.specs.inside.Walk.{IsProposedByWalked}

@@ -13,7 +13,7 @@ use Rattle.ulfm_job.specs.Job.{turns_at}
 use Rattle.ulfm_script.proofs.Advance.{ready-at, advance-called, advance-left, advance-skipped, left-polls}
 use Rattle.ulfm_script.proofs.Progress.{polls_small}
 use Rattle.ulfm_script.proofs.Reacting.{goes-called, goes-decided, goes-skipped}
-use Rattle.ulfm_laws.proofs.Spent.{goes-spent}
+use Rattle.ulfm_report_laws.proofs.Spent.{goes-spent}
 use Rattle.ulfm_script.proofs.Decisions.{ready-decided, advance-decided, quiet-decided}
 use Rattle.ulfm_run.proofs.Common.{GoesThrough, is_stopped, IsState, polls_left, SkipsOn, State, Polls, Step, JobView, IsJob, script_at}
 

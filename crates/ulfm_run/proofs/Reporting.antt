@@ -4,12 +4,12 @@ use Rattle.ulfm_board.specs.Known.{OneBoard}
 use Rattle.ulfm_script.specs.Played.{FollowsScript}
 use Rattle.ulfm_answer.specs.Reacting.{SkipsRightly}
 use Rattle.ulfm_script.specs.Script.{through_stop, GivesUpRightly}
-use Rattle.ulfm_laws.specs.Answers.{AllAgree, AllFollowScripts}
-use Rattle.ulfm_laws.specs.Lawful.{AreProduced}
+use Rattle.ulfm_report_laws.specs.Answers.{AllAgree, AllFollowScripts}
+use Rattle.ulfm_report_laws.specs.Lawful.{AreProduced}
 use Rattle.ulfm_run.proofs.Common.{at, cases_lt, Global, InPlace, IsGathered, IsPlayed, Item, Keeps, Known, length-map, Report, slice_get_within, Vec, WorldRank, items_from, Flows, there, AreTrue, Ran, NameOneBoard, report_in, end_in, decider_in, WerePlayed, GaveAnswers, JobView, script_at}
 use Rattle.ulfm_run.specs.Fault.{ShowUntrue, Fits}
-use Rattle.ulfm_laws.specs.Decisions.{NoneIsForeign}
-use Rattle.ulfm_laws.specs.Order.{HaveOneOrder}
+use Rattle.ulfm_report_laws.specs.Decisions.{NoneIsForeign}
+use Rattle.ulfm_report_laws.specs.Order.{HaveOneOrder}
 use Rattle.ulfm_run.specs.Flow.{EndsMatchLogs, contents}
 use Rattle.ulfm_run.proofs.Paired.{one_board_names}
 use Rattle.ulfm_run.proofs.Flowing.{AllPlayed, carried, flowed, ordered}

@@ -4,12 +4,12 @@ use Rattle.std.proofs.lemmas.Option.{IfSome_then}
 use Rattle.ulfm_log.specs.declared.entry.Entry.TheVariants.{Adopted, Stopped, Took}
 use Rattle.ulfm_base.specs.declared.decision.Decision.{Decision}
 use Rattle.ulfm_run.proofs.Common.{at, there, Entry, Item, Report, WorldRank, cases_lt}
-use Rattle.ulfm_laws.proofs.Owes.{owe_later, owe_whole}
-use Rattle.ulfm_laws.specs.Order.{Owe, IsOwedEarlier, HaveOneOrder}
-use Rattle.ulfm_laws.specs.Proposed.{IsProposedEarlier}
+use Rattle.ulfm_report_laws.proofs.Owes.{owe_later, owe_whole}
+use Rattle.ulfm_report_laws.specs.Order.{Owe, IsOwedEarlier, HaveOneOrder}
+use Rattle.ulfm_report_laws.specs.Proposed.{IsProposedEarlier}
 use Rattle.ulfm_run.proofs.Behind.{fewer_behind, none_behind}
 use Rattle.ulfm_run.proofs.Placed.{by_place}
-use Rattle.ulfm_laws.specs.Room.{StopsHaveRoom}
+use Rattle.ulfm_report_laws.specs.Room.{StopsHaveRoom}
 use Rattle.ulfm_run.specs.inside.Walk.{GoesOn, HasRoomNow, AreAtEnds}
 
 module _ {room : Option ℕ} {reports : List Report} (o : HaveOneOrder reports) (rooms : IfSome room (StopsHaveRoom reports o.time)) (fronts : List ℕ) (stuck : (d : ℕ) → GoesOn room reports fronts d → ⊥) where

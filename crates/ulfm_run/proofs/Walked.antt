@@ -6,7 +6,7 @@ use Rattle.ulfm_log.specs.declared.entry.Entry.TheVariants.{Adopted, Stopped, To
 use Rattle.ulfm_base.proofs.Places.{only_at}
 use Rattle.ulfm_base.specs.declared.decision.Decision.{Decision}
 use Rattle.ulfm_run.proofs.Common.{at, Entry, Item, Report, WorldRank, get_or-blank, slice_get_within}
-use Rattle.ulfm_laws.proofs.Times.{time_else, time_here, with_time}
+use Rattle.ulfm_report_laws.proofs.Times.{time_else, time_here, with_time}
 use Rattle.ulfm_run.proofs.Fronts.{walked_cases, walked_still}
 use Rattle.ulfm_run.proofs.Placed.{IsPlaced, placed}
 use Rattle.ulfm_run.specs.inside.Walk.{IsOwedByWalked, HasRoomNow, MayPass, GoesOn, StepsOn, IsOwedWithin, IsProposedWithin, StopHasRoom, IsWalked}

@@ -4,10 +4,10 @@ use Rattle.ulfm_base.specs.Lists.{InPlace}
 use Rattle.ulfm_job.specs.Job.{JobView}
 use Rattle.ulfm_script.specs.Deciding.{Known}
 use Rattle.ulfm_answer.specs.Report.{Report}
-use Rattle.ulfm_laws.specs.Answers.{AllFollowScripts, AllAnswersFollow}
-use Rattle.ulfm_laws.specs.Decisions.{AreTrue, NoneIsForeign}
-use Rattle.ulfm_laws.specs.Order.{HaveOneOrder}
-use Rattle.ulfm_laws.specs.Reports.{IsEach}
+use Rattle.ulfm_report_laws.specs.Answers.{AllFollowScripts, AllAnswersFollow}
+use Rattle.ulfm_report_laws.specs.Decisions.{AreTrue, NoneIsForeign}
+use Rattle.ulfm_report_laws.specs.Order.{HaveOneOrder}
+use Rattle.ulfm_report_laws.specs.Reports.{IsEach}
 
 -- there is an end and a decider for each rank, and the ends stand at the places of their numbers
 pub record Fits {E D : Type 0} (place : E → ℕ) (job : JobView) (ends : List E) (deciders : List D) : Type 0 where

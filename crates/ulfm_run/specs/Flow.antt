@@ -9,7 +9,7 @@ use Rattle.ulfm_base.specs.Lists.{at}
 use Rattle.ulfm_log.specs.Facts.{took}
 use Rattle.ulfm_log.specs.State.{State}
 use Rattle.ulfm_answer.specs.Report.{Report}
-use Rattle.ulfm_laws.specs.Flow.{Inboxes}
+use Rattle.ulfm_report_laws.specs.Flow.{Inboxes}
 
 -- what is left in each inbox
 abbrev pub contents : List (Vec (WorldRank × Item) Global) → Inboxes

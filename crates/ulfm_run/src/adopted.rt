@@ -3,7 +3,7 @@ ghost use Rattle.std.specs.Prelude.{◌≡◌, ◌↔◌, ℕ, IsTrue, Some, sli
 ghost use Rattle.ulfm_log.specs.declared.entry.Entry.{Entry as Logged};
 ghost use Rattle.ulfm_log.specs.Log.{first_given};
 ghost use Rattle.ulfm_log.specs.Proposal.{entry_of};
-ghost use Rattle.ulfm_laws.specs.Decisions.{AreTrue, AdoptsTruly, IsTrueOf, ExcludesStopped, ListsTruly, StoppedAt, EnteredWith};
+ghost use Rattle.ulfm_report_laws.specs.Decisions.{AreTrue, AdoptsTruly, IsTrueOf, ExcludesStopped, ListsTruly, StoppedAt, EnteredWith};
 
 use ulfm_base::{Contribution, Decision, Listing, MOST_RANKS, RankSet, Topic, WorldRank};
 use ulfm_log::Entry;

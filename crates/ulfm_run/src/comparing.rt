@@ -1,7 +1,7 @@
 //! The deciders of a run, compared with one another.
 ghost use Rattle.std.specs.Prelude.{◌≡◌, ◌<◌, ℕ, length, map};
 ghost use Rattle.ulfm_run.specs.inside.Threads.{NameOneBoard};
-ghost use Rattle.ulfm_laws.specs.Answers.{AllAgree, AgreeAt};
+ghost use Rattle.ulfm_report_laws.specs.Answers.{AllAgree, AgreeAt};
 
 use ulfm_board::Decider;
 

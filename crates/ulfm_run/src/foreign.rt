@@ -1,6 +1,6 @@
 //! Steps that are refused since a decision isn't one for their rank to adopt (ULFM, shrink and agree).
 ghost use Rattle.std.specs.Prelude.{◌≡◌, ◌≢◌, ◌↔◌, ℕ, IsTrue, Some, slice_get};
-ghost use Rattle.ulfm_laws.specs.Decisions.{NoneIsForeign};
+ghost use Rattle.ulfm_report_laws.specs.Decisions.{NoneIsForeign};
 ghost use Rattle.ulfm_answer.specs.declared.answer.StepReport.{StepReport as Answered};
 
 use ulfm_answer::{StepAnswer, StepReport};

@@ -1,7 +1,7 @@
 //! How much is left in inboxes, once the ranks are done.
 ghost use Rattle.std.specs.Prelude.{◌≡◌, ◌≤◌, ◌↔◌, ℕ, IsTrue, length};
 ghost use Rattle.ulfm_base.specs.Items.{items_from};
-ghost use Rattle.ulfm_laws.specs.Flow.{AreWithin};
+ghost use Rattle.ulfm_report_laws.specs.Flow.{AreWithin};
 ghost use Rattle.ulfm_run.specs.Flow.{contents};
 
 use ulfm_base::{Item, MOST_RANKS, WorldRank};
@@ -33,7 +33,7 @@ fn is_within(inbox: &[(WorldRank, Item)], places: u8) -> bool
 }
 
 /// How many items of this rank there are.
-#[tactic(auto, using(ulfm_laws::proofs::Counted::counted_from))]
+#[tactic(auto, using(ulfm_report_laws::proofs::Counted::counted_from))]
 fn len_from(inbox: &[(WorldRank, Item)], source: u8) -> usize
     ensures { result ≡ length (items_from source inbox.now) }
 {

@@ -5,7 +5,7 @@
 //! Its promises hold for every carrier and board that meet their contracts, in every schedule of the threads, once [`run_job`] returned a report. On
 //! `shared`, a call returns where fewer than 2^62 pushes went to one inbox.
 //!
-//! - [`run_job`] (`lawful`): the reports are lawful, and so all logs have one order (`LawfulReport`, Lawful.antt of `ulfm_laws`).
+//! - [`run_job`] (`lawful`): the reports are lawful, and so all logs have one order (`LawfulReport`, Lawful.antt of `ulfm_report_laws`).
 //! - [`run_job`] (`flow`, `residue`): a log took what its rank's end took. This, and then what is left, is what the sender's end pushed
 //!   (`EndsMatchLogs`, Flow.antt; `IsGathered`, Family.antt of `ulfm_carrier`).
 //! - [`run_job`] (`same_ends`, `same_boards`, `sizes`): ends, inboxes and deciders come back, one for each rank.
@@ -14,10 +14,10 @@
 //!   reports (`ShowUntrue`, Fault.antt).
 //! - [`run_job`] (`fits`, `bad_ends`, `misfits`): ends and deciders that don't fit the job are answered with `BadEnds`, and no others are (`Fits`,
 //!   Fault.antt).
-//! - [`at_rest`]: whether nothing waits for any running rank (`IsAtRest`, Rest.antt of `ulfm_laws`).
+//! - [`at_rest`]: whether nothing waits for any running rank (`IsAtRest`, Rest.antt of `ulfm_report_laws`).
 //! - [`fits`]: whether rings of so many places allow a run. All logs have one order in which, as a rank stops, no more items that another one takes
-//!   of it later are on the way to that one (`HaveRoom`, Room.antt of `ulfm_laws`). And no more items of any sender are left in an inbox
-//!   (`AreWithin`, Flow.antt of `ulfm_laws`).
+//!   of it later are on the way to that one (`HaveRoom`, Room.antt of `ulfm_report_laws`). And no more items of any sender are left in an inbox
+//!   (`AreWithin`, Flow.antt of `ulfm_report_laws`).
 //!
 //! Decisions, answers of 11 and the order are looked for in the reports, once all threads have ended. A replay has one world, and needs no such
 //! look.

@@ -5,7 +5,7 @@ ghost use Rattle.ulfm_base.specs.Decision.{in_entry};
 ghost use Rattle.ulfm_log.specs.Facts.{is_gone};
 ghost use Rattle.ulfm_log.specs.Log.{first_given};
 ghost use Rattle.ulfm_log.specs.Proposal.{heard_of, item_entry, listed_of};
-ghost use Rattle.ulfm_laws.specs.Proposed.{ProposesBy};
+ghost use Rattle.ulfm_report_laws.specs.Proposed.{ProposesBy};
 ghost use Rattle.ulfm_run.specs.inside.Listed.{ListsAs, IsListedAs, ExcludesAs};
 
 use crate::adopted::{are_same, entry_of};

@@ -9,7 +9,7 @@
 //! topic, or failed to for want of memory. A rank's own adoption counts, and that of another one before its entry is there: a thread may see
 //! the decision between the step that hands it in and the entry.
 ghost use Rattle.std.specs.Prelude.{◌≡◌, ◌≤◌, ◌↔◌, ℕ, IsTrue, IfSome, IfNone, false, length, take};
-ghost use Rattle.ulfm_laws.specs.Order.{HaveOneOrder};
+ghost use Rattle.ulfm_report_laws.specs.Order.{HaveOneOrder};
 ghost use Rattle.ulfm_run.specs.inside.Walk.{GoesOn, HaveOrder, MayPass, IsOwedByWalked, StepsOn, AreAtEnds};
 
 use crate::owing::owe;

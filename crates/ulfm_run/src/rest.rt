@@ -1,9 +1,9 @@
 //! Whether a run came to rest.
 ghost use Rattle.std.specs.Prelude.{◌≡◌, ◌↔◌, ◌<◌, [], ℕ, IsTrue};
 ghost use Rattle.ulfm_base.specs.Lists.{at};
-ghost use Rattle.ulfm_laws.specs.Flow.{inbox_of};
-ghost use Rattle.ulfm_laws.specs.Reports.{IsRunning};
-ghost use Rattle.ulfm_laws.specs.Rest.{IsAtRest, IsServed};
+ghost use Rattle.ulfm_report_laws.specs.Flow.{inbox_of};
+ghost use Rattle.ulfm_report_laws.specs.Reports.{IsRunning};
+ghost use Rattle.ulfm_report_laws.specs.Rest.{IsAtRest, IsServed};
 ghost use Rattle.ulfm_log.specs.State.{outbox};
 ghost use Rattle.ulfm_run.specs.Flow.{contents};
 ghost use Rattle.ulfm_answer.specs.Report.{Report as Told};

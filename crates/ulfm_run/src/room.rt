@@ -4,8 +4,8 @@
 //! so they need no room. Of what was on the way only what was taken counts, since no report tells when a lost item was lost. It is counted by
 //! pairs of ranks, as rings have places, also over shared inboxes, which hold less.
 ghost use Rattle.std.specs.Prelude.{◌≡◌, ◌≤◌, ◌↔◌, IsTrue, length};
-ghost use Rattle.ulfm_laws.specs.Flow.{AreWithin};
-ghost use Rattle.ulfm_laws.specs.Room.{HaveRoom, takes_sent, taken_behind};
+ghost use Rattle.ulfm_report_laws.specs.Flow.{AreWithin};
+ghost use Rattle.ulfm_report_laws.specs.Room.{HaveRoom, takes_sent, taken_behind};
 ghost use Rattle.ulfm_run.specs.Flow.{contents};
 ghost use Rattle.ulfm_run.specs.inside.Walk.{HasRoomNow};
 

@@ -8,7 +8,7 @@ use Rattle.ulfm_base.specs.Items.{items_from}
 use Rattle.ulfm_base.proofs.Places.{there}
 use Rattle.ulfm_job.specs.Job.{JobView}
 use Rattle.ulfm_carrier.specs.Family.{IsGathered}
-use Rattle.ulfm_laws.specs.Reports.{IsEach}
+use Rattle.ulfm_report_laws.specs.Reports.{IsEach}
 use Rattle.ulfm_run.specs.Flow.{contents}
 use Rattle.ulfm_run.proofs.Handed.{inbox_there}
 use Rattle.ulfm_run.proofs.Served.{no_inbox}

@@ -8,11 +8,11 @@ use Rattle.ulfm_job.specs.declared.place.Place.{Place}
 use Rattle.ulfm_answer.specs.Report.{Report}
 use Rattle.ulfm_forms.specs.Form.{trace_in}
 use Rattle.ulfm_forms.specs.declared.form.Form.{Form}
-use Rattle.ulfm_laws.specs.Flow.{AreWithin, Inboxes, inbox_of}
-use Rattle.ulfm_laws.specs.Lawful.{IsLawful}
-use Rattle.ulfm_laws.specs.Reports.{IsEach}
+use Rattle.ulfm_report_laws.specs.Flow.{AreWithin, Inboxes, inbox_of}
+use Rattle.ulfm_report_laws.specs.Lawful.{IsLawful}
+use Rattle.ulfm_report_laws.specs.Reports.{IsEach}
 use Rattle.ulfm_run.specs.Fault.{ShowUntrue}
-use Rattle.ulfm_laws.specs.Room.{HaveRoom}
+use Rattle.ulfm_report_laws.specs.Room.{HaveRoom}
 use Rattle.ulfm_world.specs.Replay.{MadeAtRest}
 use Rattle.ulfm_run_reply.specs.Brief.{repeats_in}
 use Rattle.ulfm_run_reply.specs.Tally.{tally}

@@ -11,7 +11,7 @@ ghost use Rattle.ulfm_run_reply.specs.inside.Cells.{AreEnough};
 ghost use Rattle.ulfm_run_reply.specs.Played.{AreOfRanks, AreOfRun, IsRunReply};
 ghost use Rattle.ulfm_run_reply.specs.inside.Shown.{IsShown};
 ghost use Rattle.ulfm_command_line.specs.CommandLine.{AreInRange};
-ghost use Rattle.ulfm_laws.specs.Lawful.{LawfulReport};
+ghost use Rattle.ulfm_report_laws.specs.Lawful.{LawfulReport};
 ghost use Rattle.ulfm_run.specs.Flow.{contents};
 ghost use Rattle.ulfm_script.specs.Deciding.{Known};
 

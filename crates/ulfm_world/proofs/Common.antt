@@ -40,10 +40,10 @@ pub use Rattle.std.specs.List.{flat_map, list_any, range_with_len, sum_by}
 pub use Rattle.ulfm_base.specs.RankSet.{has}
 pub use Rattle.ulfm_base.specs.declared.error.CallError.{CallError}
 pub use Rattle.ulfm_base.specs.declared.error.CallError.TheVariants.{OutOfMemory}
-pub use Rattle.ulfm_laws.proofs.AtRest.{agrees-revoked, knows-stopped}
-pub use Rattle.ulfm_laws.specs.Lawful.{AreProduced, KnowAtRest}
-pub use Rattle.ulfm_laws.specs.Reader.{AllHasCome, ComeAsSent, DoneIsGiven, DonesDiffer, FoundIsGiven, GivesOnce, HasOnePairing, IsFaithful, LettersKeepOrder, NoneIsMissed, OverIsTrue, ReceivesKeepOrder}
-pub use Rattle.ulfm_laws.specs.Decisions.{AdoptOne, AdoptsTruly, EntersEachOnce, HasOneGroup, IsTrueOf, ProposesEach}
+pub use Rattle.ulfm_report_laws.proofs.AtRest.{agrees-revoked, knows-stopped}
+pub use Rattle.ulfm_report_laws.specs.Lawful.{AreProduced, KnowAtRest}
+pub use Rattle.ulfm_report_laws.specs.Reader.{AllHasCome, ComeAsSent, DoneIsGiven, DonesDiffer, FoundIsGiven, GivesOnce, HasOnePairing, IsFaithful, LettersKeepOrder, NoneIsMissed, OverIsTrue, ReceivesKeepOrder}
+pub use Rattle.ulfm_report_laws.specs.Decisions.{AdoptOne, AdoptsTruly, EntersEachOnce, HasOneGroup, IsTrueOf, ProposesEach}
 pub use Rattle.ulfm_log.proofs.Belonging.{IsOwn, Keeps, keeps-push, keeps-start, not_foreign}
 pub use Rattle.ulfm_log.proofs.Entering.{AdoptsEntered, Fits, RoundsCounted, own_set, own_stays}
 pub use Rattle.ulfm_log.proofs.Gather.{any-push}
@@ -60,10 +60,10 @@ pub use Rattle.std.proofs.Math.Bool.{or-false}
 pub use Rattle.std.proofs.lemmas.Result.{IfOk-weaker, on_err_weaker, on_ok_weaker}
 pub use Rattle.ulfm_base.proofs.Places.{get_or-blank}
 pub use Rattle.ulfm_base.specs.Decision.{entry_at, in_entry, is_listed}
-pub use Rattle.ulfm_laws.proofs.Flowing.{AreFlowing, gone_stopped, listed_own}
-pub use Rattle.ulfm_laws.proofs.Given.{done_given, dones_differ, found_given, gives_once, over_true}
-pub use Rattle.ulfm_laws.specs.Causes.{GoneHaveStopped, RevokedByARank, is_call_to_revoke}
-pub use Rattle.ulfm_laws.specs.Flow.{Flow, Flows}
+pub use Rattle.ulfm_report_laws.proofs.Flowing.{AreFlowing, gone_stopped, listed_own}
+pub use Rattle.ulfm_report_laws.proofs.Given.{done_given, dones_differ, found_given, gives_once, over_true}
+pub use Rattle.ulfm_report_laws.specs.Causes.{GoneHaveStopped, RevokedByARank, is_call_to_revoke}
+pub use Rattle.ulfm_report_laws.specs.Flow.{Flow, Flows}
 pub use Rattle.ulfm_log.proofs.Firsts.{some_from}
 pub use Rattle.ulfm_log.proofs.Logs.{owed_by_few, owes-logged, stopped-push, took-push}
 pub use Rattle.ulfm_rank.proofs.Quiet.{Own, calm-same, calm-took, out_other, quiet-same}

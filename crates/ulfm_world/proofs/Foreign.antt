@@ -8,7 +8,7 @@ use Rattle.ulfm_rank.specs.Messages.{IsRefusalAfterChecks}
 use Rattle.ulfm_script.specs.Calls.{AnswersStep, comm_of}
 use Rattle.ulfm_answer.specs.declared.answer.StepAnswer.TheVariants.{Unfinished, Skipped}
 use Rattle.ulfm_job.specs.declared.step.Step.TheVariants.{Send, Recv, Wait, Probe, Mrecv, Cancel, Failed, Ack, Revoke, Dup, Note, Stop}
-use Rattle.ulfm_laws.specs.Decisions.{NoneIsForeign}
+use Rattle.ulfm_report_laws.specs.Decisions.{NoneIsForeign}
 use Rattle.ulfm_world.proofs.Common.{Agree, All-nil, All-push, Call, CallError, Context, Decide, Decision, DecidesStep, Event, GivesUpStep, Happens, IsCalled, IsWorld, Leave, OutOfMemory, Player, Push, Reaches, Refused, Room, Shrink, Skip, SkipsStep, State, Step, StepAnswer, StepReport, Take, TakeFrom, World, Took, and_parts, false≢true, logged, get_or_from_slice_get, none-some, player_at, player_in, rank_at, reports_in, same_Some, slice_get_within, start_world, step_report, with_rank}
 use Rattle.ulfm_world.proofs.Agreed.{Settled}
 use Rattle.ulfm_world.proofs.Changed.{each_player}

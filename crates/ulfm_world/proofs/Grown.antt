@@ -3,7 +3,7 @@ use Rattle.std.proofs.Common.{◌≡◌, ℕ, ◌<◌, true, List, [], ◌∷◌
 use Rattle.ulfm_world.proofs.Common.{Topic, Contribution, Decision, known_at, Entry, Player, World, player_in, player_at, rank_at, cases_eq, or_left, All-weaker, group_of, Fits, own_set, own_stays, Keeps, keeps-push, is_stop, is_stopped, EntersEachOnce, any-push, Adopted}
 use Rattle.ulfm_world.proofs.Changed.{player-same, player-other}
 use Rattle.ulfm_log.proofs.Grouped.{group_stays}
-use Rattle.ulfm_laws.proofs.Once.{once-push}
+use Rattle.ulfm_report_laws.proofs.Once.{once-push}
 use Rattle.ulfm_world.proofs.Agreed.{HasNotAdopted, IsAdopted, IsHeld, Settled}
 
 -- a log stays, or gets one entry that the rank may add

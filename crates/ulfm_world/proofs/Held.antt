@@ -6,7 +6,7 @@ use Rattle.ulfm_log.specs.Proposal.{listed_of, is_out, IsProposal, differ}
 use Rattle.ulfm_log.proofs.Grouped.{members_found}
 use Rattle.ulfm_log.proofs.Foreign.{not_differ}
 use Rattle.ulfm_base.proofs.Among.{excluding_keeps, none_of, member_test}
-use Rattle.ulfm_laws.proofs.Excluded.{known_by}
+use Rattle.ulfm_report_laws.proofs.Excluded.{known_by}
 use Rattle.ulfm_world.proofs.Agreed.{IsHeld, Settled, one_group, listed_entry, known_stopped}
 
 module _ (n : ℕ) (w : World) (r : ℕ) (c : Topic) (h : IsWorld w) (settled : Settled n w) (i : r < n) where

@@ -1,14 +1,14 @@
 -- In every schedule the answered steps of each rank are true of its log.
 use Rattle.std.proofs.Common.{ℕ, ◌<◌, ◌≤◌, List, [], length, set, refl, arith, inl, inr, length-set, None}
 use Rattle.ulfm_world.proofs.Common.{WorldRank, Item, Took, State, GoesOut, logged, Step, Event, Call, Push, Take, Decide, Leave, Skip, IsWorld, Takes, World, player_in, player_at, rank_at, start_world, Happens, Reaches, Player, IsCalled, GivesUpStep, SkipsStep, awaits_decision, with_rank, start_player, Skipped, Unfinished, Room, TakeFrom}
-use Rattle.ulfm_laws.proofs.Answering.{true-same, true-answers}
+use Rattle.ulfm_report_laws.proofs.Answering.{true-same, true-answers}
 use Rattle.ulfm_world.proofs.Changed.{each_player}
 use Rattle.ulfm_world.proofs.KeepsCalls.{posted-taken}
-use Rattle.ulfm_laws.proofs.Closing.{IsTrueOf}
-use Rattle.ulfm_laws.proofs.Honest.{honest-logged, honest-start}
-use Rattle.ulfm_laws.proofs.Mail.{IsTakenFrom}
+use Rattle.ulfm_report_laws.proofs.Closing.{IsTrueOf}
+use Rattle.ulfm_report_laws.proofs.Honest.{honest-logged, honest-start}
+use Rattle.ulfm_report_laws.proofs.Mail.{IsTakenFrom}
 use Rattle.ulfm_world.proofs.Runs.{each_run}
-use Rattle.ulfm_laws.proofs.Joint.{true-opens, true-decided}
+use Rattle.ulfm_report_laws.proofs.Joint.{true-opens, true-decided}
 use Rattle.ulfm_world.proofs.Starts.{player-start, length-start, world-start}
 
 -- the answered steps of each player are true of its log

@@ -5,8 +5,8 @@ use Rattle.ulfm_script.specs.Calls.{AnswersStep}
 use Rattle.ulfm_script.proofs.Polls.{answers_plain, opens_adds}
 use Rattle.ulfm_script.proofs.Says.{IsApart}
 use Rattle.ulfm_world.proofs.Common.{Adopted, Decision, Entry, Flow, IsCalled, IsWorld, Item, Own, Player, State, StaysOpen, Step, StepAnswer, StepReport, Takes, Took, Topic, World, WorldRank, answered, awaits_decision, cases_eq, eq-eqb, inbox_at, items_from, known_at, logged, player_at, player_in, polled, rank_at, report_of, step_report, took, with_rank}
-use Rattle.ulfm_laws.specs.Order.{Owe}
-use Rattle.ulfm_laws.proofs.Owing.{owed_arrived}
+use Rattle.ulfm_report_laws.specs.Order.{Owe}
+use Rattle.ulfm_report_laws.proofs.Owing.{owed_arrived}
 use Rattle.ulfm_world.proofs.Changed.{player-same, player-other}
 use Rattle.ulfm_world.proofs.KeepsCalls.{posted-taken}
 use Rattle.ulfm_world.proofs.Ordered.{AreOrdered, GoesOn, IsDue, IsMade, made_come, made_still}

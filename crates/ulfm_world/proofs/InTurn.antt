@@ -6,8 +6,8 @@ use Rattle.ulfm_log.specs.Proposal.{IsProposal}
 use Rattle.ulfm_answer.specs.declared.answer.StepAnswer.TheVariants.{Agreed, Shrunk}
 use Rattle.ulfm_script.specs.Deciding.{topic_of}
 use Rattle.ulfm_world.proofs.Common.{Adopted, Agree, AnswersAdoption, CallError, Context, DecidesStep, Decision, Entry, IsWorld, Player, Refused, Shrink, State, Step, StepAnswer, StepReport, Topic, World, at, logged, player_at, step_report}
-use Rattle.ulfm_laws.specs.Proposed.{ProposesBy}
-use Rattle.ulfm_laws.proofs.Proposed.{proposes_by}
+use Rattle.ulfm_report_laws.specs.Proposed.{ProposesBy}
+use Rattle.ulfm_report_laws.proofs.Proposed.{proposes_by}
 use Rattle.ulfm_world.proofs.Adopting.{held_cases, later_cases}
 use Rattle.ulfm_world.proofs.Agreed.{Settled}
 use Rattle.ulfm_world.proofs.Changed.{player-same}

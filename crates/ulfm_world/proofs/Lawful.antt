@@ -7,12 +7,12 @@ use Rattle.ulfm_rank.specs.History.{history_of}
 use Rattle.ulfm_rank.specs.Paired.{IsPaired}
 use Rattle.ulfm_rank.proofs.Pairings.{paired}
 use Rattle.ulfm_script.specs.Answered.{AnswersFollow}
-use Rattle.ulfm_laws.specs.Lawful.{LawfulReport}
+use Rattle.ulfm_report_laws.specs.Lawful.{LawfulReport}
 use Rattle.ulfm_script.specs.Played.{FollowsScript}
 use Rattle.ulfm_script.proofs.Honestly.{honest-answers}
-use Rattle.ulfm_laws.proofs.Closing.{IsTrueOf as TrueOfLog}
-use Rattle.ulfm_laws.proofs.Lawful.{lawful}
-use Rattle.ulfm_laws.proofs.Taken.{took_none}
+use Rattle.ulfm_report_laws.proofs.Closing.{IsTrueOf as TrueOfLog}
+use Rattle.ulfm_report_laws.proofs.Lawful.{lawful}
+use Rattle.ulfm_report_laws.proofs.Taken.{took_none}
 use Rattle.ulfm_world.proofs.Agreed.{IsHeld, Settled}
 use Rattle.ulfm_world.proofs.Ends.{stuck-answered, stuck-rest}
 use Rattle.ulfm_world.proofs.Foreign.{none_foreign}

@@ -6,7 +6,7 @@ use Rattle.ulfm_world.proofs.Changed.{player-same, player-other}
 use Rattle.ulfm_job.specs.Job.{turns_at}
 use Rattle.ulfm_script.proofs.Advance.{Ready, Advances, advance-called, advance-left, advance-skipped, left-polls}
 use Rattle.ulfm_script.proofs.Reacting.{goes-called, goes-decided, goes-skipped}
-use Rattle.ulfm_laws.proofs.Spent.{goes-spent}
+use Rattle.ulfm_report_laws.proofs.Spent.{goes-spent}
 use Rattle.ulfm_world.proofs.Measures.{measure-player}
 use Rattle.ulfm_world.proofs.Weights.{adds_weight}
 use Rattle.ulfm_world.proofs.Runs.{reaches-one}

@@ -2,8 +2,8 @@
 use Rattle.std.proofs.Common.{◌≡◌, ℕ, ◌≤◌, List, [], ◌∷◌, length, take, ap, sym, subst, ◌∙◌, arith, inl, inr, None, append-nil}
 use Rattle.ulfm_board.specs.Known.{cell_of}
 use Rattle.ulfm_world.proofs.Common.{Adopted, Call, Decide, Entry, Event, Happens, IsWorld, Leave, Player, Push, Reaches, Report, RevokedByARank, Room, Skip, Skipped, State, Take, TakeFrom, Took, Unfinished, World, at, cases_lt, get_or-blank, get_or_past, no_player, none-some, player_at, rank_at, report_of, reports_in, start_world, step_report, with_rank}
-use Rattle.ulfm_laws.specs.Order.{HaveOneOrder, Owe}
-use Rattle.ulfm_laws.proofs.Ordered.{revoked_by_order}
+use Rattle.ulfm_report_laws.specs.Order.{HaveOneOrder, Owe}
+use Rattle.ulfm_report_laws.proofs.Ordered.{revoked_by_order}
 use Rattle.ulfm_world.specs.Each.{InEachWorld}
 use Rattle.ulfm_world.proofs.Agreed.{Settled}
 use Rattle.ulfm_world.proofs.InOrder.{HaveOrder, grown-called, grown-idle, log_in, order-set, order-takes, steps_in}

@@ -3,8 +3,8 @@ use Rattle.std.proofs.Common.{◌≡◌, ◌≢◌, ◌<◌, ◌≤◌, ◌+◌,
 use Rattle.std.specs.Prelude.{⊤}
 use Rattle.std.proofs.lemmas.List.{take-append-le}
 use Rattle.ulfm_match.proofs.Cut.{get_front}
-use Rattle.ulfm_laws.specs.Order.{Owe}
-use Rattle.ulfm_laws.specs.Proposed.{ProposesAt, ProposesBy}
+use Rattle.ulfm_report_laws.specs.Order.{Owe}
+use Rattle.ulfm_report_laws.specs.Proposed.{ProposesAt, ProposesBy}
 use Rattle.ulfm_script.specs.Deciding.{topic_of}
 use Rattle.ulfm_world.proofs.Common.{Adopted, Decision, Entry, Item, StepReport, Took, WorldRank, at, slice_get_within}
 

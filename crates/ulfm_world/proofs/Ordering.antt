@@ -3,8 +3,8 @@ use Rattle.std.proofs.Common.{◌≡◌, ◌≢◌, ◌<◌, ◌≤◌, ◌+◌,
 use Rattle.std.proofs.Math.Seq.{take-append_seam}
 use Rattle.ulfm_match.proofs.Cut.{get_in_front}
 use Rattle.ulfm_base.proofs.Longer.{get_here}
-use Rattle.ulfm_laws.specs.Order.{Owe}
-use Rattle.ulfm_laws.proofs.Times.{time_else, time_here, with_time}
+use Rattle.ulfm_report_laws.specs.Order.{Owe}
+use Rattle.ulfm_report_laws.proofs.Times.{time_else, time_here, with_time}
 use Rattle.ulfm_world.proofs.Common.{Adopted, Decision, Entry, Item, StepReport, Took, WorldRank, at, cases_eq, cases_lt, same_Some, slice_get_within}
 use Rattle.ulfm_world.proofs.Ordered.{AreOrdered, GoesOn, GrowsAt, IsDue, IsMade, IsMadeBefore, IsOwedBefore, front_goes_on, made_come, made_still}
 

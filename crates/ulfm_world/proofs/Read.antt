@@ -1,9 +1,9 @@
 -- The reports of the ranks of a world, and the flow between them.
 use Rattle.std.proofs.Common.{◌≡◌, ℕ, ◌<◌, ◌≤◌, ◌++◌, length, sym, ap, ◌∙◌, subst, arith, Some}
 use Rattle.ulfm_world.proofs.Common.{items_from, at, outbox, Report, World, player_at, rank_at, inbox_at, no_player, report_of, reports_in, start_world, Reaches, IsWorld, IsAtRest, get_or_from_slice_get, slice_get-get_or, slice_get_within, took, get_or-map, length-map, AreFlowing, Flow, Flows, Room}
-use Rattle.ulfm_laws.specs.Reports.{report_at, no_report}
-use Rattle.ulfm_laws.specs.Rest.{IsAtRest as IsRest}
-use Rattle.ulfm_laws.proofs.Outgoing.{flow_of}
+use Rattle.ulfm_report_laws.specs.Reports.{report_at, no_report}
+use Rattle.ulfm_report_laws.specs.Rest.{IsAtRest as IsRest}
+use Rattle.ulfm_report_laws.proofs.Outgoing.{flow_of}
 use Rattle.ulfm_world.proofs.Runs.{keeps-reaches}
 use Rattle.ulfm_world.proofs.Starts.{world-start}
 

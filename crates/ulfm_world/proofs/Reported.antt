@@ -1,10 +1,10 @@
 -- The reports of each world that a schedule leads to are true of its ranks' logs.
 use Rattle.std.proofs.Common.{ℕ, ◌≤◌, List, sym, subst}
 use Rattle.ulfm_world.proofs.Common.{Report, at, World, start_world, Reaches, reports_in, IsAtRest, AllHasCome, gone_stopped, GoneHaveStopped, Room, PerInbox}
-use Rattle.ulfm_laws.proofs.Arrivals.{all_come}
-use Rattle.ulfm_laws.proofs.Finding.{AreHonest}
-use Rattle.ulfm_laws.proofs.Honest.{IsHonest}
-use Rattle.ulfm_laws.proofs.Lawful.{honest_reports}
+use Rattle.ulfm_report_laws.proofs.Arrivals.{all_come}
+use Rattle.ulfm_report_laws.proofs.Finding.{AreHonest}
+use Rattle.ulfm_report_laws.proofs.Honest.{IsHonest}
+use Rattle.ulfm_report_laws.proofs.Lawful.{honest_reports}
 use Rattle.ulfm_world.specs.Each.{InEachWorld, InEachReplay}
 use Rattle.ulfm_world.proofs.Honesty.{true-reached}
 use Rattle.ulfm_world.proofs.Read.{each_report, flowing-world, rest-world, world-reached}

@@ -3,7 +3,7 @@ use Rattle.std.proofs.Common.{◌≡◌, ℕ, ◌<◌, ◌≤◌, List, length, 
 use Rattle.ulfm_world.proofs.Common.{Decision, Contribution, Topic, is_member, Entry, Adopted, Player, World, rank_at, start_world, Reaches, false≢true, or_cases, none-some, same_Some, slice_get_within, get_or_from_slice_get, All-nil, Keeps, keeps-start, has, EntersEachOnce, entry_at, is_listed, in_entry, some_from, get_or-blank, Room}
 use Rattle.ulfm_board.specs.Known.{cell_of, nothing_known}
 use Rattle.ulfm_world.specs.Safe.{entry_at_rank, EntersOnce, IsSafe, DecidesSafely, AdoptsHeld}
-use Rattle.ulfm_laws.proofs.Once.{once-start}
+use Rattle.ulfm_report_laws.proofs.Once.{once-start}
 use Rattle.ulfm_base.proofs.Among.{excluding_from}
 use Rattle.ulfm_world.proofs.Agreed.{IsAdopted, IsHeld, Settled}
 use Rattle.ulfm_world.proofs.Moving.{settled-run}

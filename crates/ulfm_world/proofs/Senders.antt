@@ -9,7 +9,7 @@ use Rattle.ulfm_world.specs.Parts.{IsFirstOf, IsTakenOut}
 use Rattle.ulfm_world.proofs.Common.{WorldRank, Item, items_from, cases_eq, eq-eqb, ne_eqb, All-head, All-nil, same_Some, none-some}
 use Rattle.std.proofs.lemmas.Bool.{eqb-true, ltb-false, ltb-true}
 use Rattle.std.proofs.lemmas.List.Elements.{All-cons, All-tail}
-pub use Rattle.ulfm_laws.proofs.Counted.{counted_from}
+pub use Rattle.ulfm_report_laws.proofs.Counted.{counted_from}
 
 -- what holds of each item of two lists
 pub all-parts : (P : WorldRank × Item → Type 0) (xs ys : List (WorldRank × Item)) → All P (xs ++ ys) → All P xs × All P ys

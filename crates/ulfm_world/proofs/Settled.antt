@@ -1,6 +1,6 @@
 -- What the ranks know at the rest that a replay ends at.
 use Rattle.std.proofs.Common.{◌≡◌, ◌<◌, ℕ, List, length, Some, sym, subst}
-use Rattle.ulfm_laws.specs.Lawful.{LawfulReport}
+use Rattle.ulfm_report_laws.specs.Lawful.{LawfulReport}
 use Rattle.ulfm_world.proofs.Common.{Report, Decision, Topic, Known, known_at, known_for, IsReached, reports_in, JobView, IsJob, IsReplayed, MadeAtRest, KnowAtRest, knows-stopped, agrees-revoked, PerInbox}
 use Rattle.ulfm_world.proofs.Kept.{world_of}
 use Rattle.ulfm_world.proofs.Made.{made-safely}

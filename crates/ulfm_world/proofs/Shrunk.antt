@@ -1,7 +1,7 @@
 -- What every world keeps of decisions.
 use Rattle.std.proofs.Common.{◌≡◌, ℕ, ◌∙◌}
-use Rattle.ulfm_laws.proofs.OneGroup.{one_group}
-use Rattle.ulfm_laws.proofs.Proposing.{proposes_each}
+use Rattle.ulfm_report_laws.proofs.OneGroup.{one_group}
+use Rattle.ulfm_report_laws.proofs.Proposing.{proposes_each}
 use Rattle.ulfm_world.proofs.Common.{World, IsReached, reports_in, IsWorld, IsAtRest, HasOneGroup, ProposesEach}
 use Rattle.ulfm_world.specs.Safe.{KeepsDecisions}
 use Rattle.ulfm_world.proofs.Agreed.{Settled, adopt-one, all_keep}

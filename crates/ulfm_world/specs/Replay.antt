@@ -9,7 +9,7 @@ use Rattle.ulfm_script.specs.Script.{HasFinished}
 use Rattle.ulfm_job.specs.Job.{JobView}
 use Rattle.ulfm_world.specs.declared.room.Room.TheVariants.{PerInbox}
 use Rattle.ulfm_world.specs.World.{World, player_at, Reaches, start_world, reports_in}
-use Rattle.ulfm_laws.specs.Lawful.{KnowAtRest, LawfulReport}
+use Rattle.ulfm_report_laws.specs.Lawful.{KnowAtRest, LawfulReport}
 use Rattle.ulfm_world.specs.Rest.{IsAtRest}
 use Rattle.ulfm_world.specs.Made.{MadeSafely}
 use Rattle.ulfm_world.specs.Safe.{KeepsDecisions, decided_at}

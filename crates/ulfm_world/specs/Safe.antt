@@ -18,8 +18,8 @@ use Rattle.ulfm_log.specs.Proposal.{entry_of}
 use Rattle.ulfm_answer.specs.declared.answer.StepAnswer.TheVariants.{Refused}
 use Rattle.ulfm_job.specs.declared.step.Step.{Step}
 use Rattle.ulfm_script.specs.Player.{step_report}
-use Rattle.ulfm_laws.specs.Reports.{HasAdopted}
-use Rattle.ulfm_laws.specs.Decisions.{AdoptOne, EnterOnce, HasOneGroup}
+use Rattle.ulfm_report_laws.specs.Reports.{HasAdopted}
+use Rattle.ulfm_report_laws.specs.Decisions.{AdoptOne, EnterOnce, HasOneGroup}
 use Rattle.ulfm_world.specs.declared.event.Event.TheVariants.{Decide}
 use Rattle.ulfm_world.specs.World.{World, player_at, rank_at, HasStopped, Happens, report_of, reports_in}
 

@@ -1,11 +1,11 @@
 //! Laws over every schedule, without threads: what holds of each world that a list of events leads to, whatever room inboxes have.
 ghost use Rattle.std.specs.Prelude.{ℕ, ◌≤◌, List};
-ghost use Rattle.ulfm_laws.specs.Causes.{GoneHaveStopped, RevokedByARank};
-ghost use Rattle.ulfm_laws.specs.Flow.{Flows};
-ghost use Rattle.ulfm_laws.specs.Order.{HaveOneOrder};
-ghost use Rattle.ulfm_laws.specs.Reader.{AllHasCome, ComeAsSent, DoneIsGiven, DonesDiffer, FoundIsGiven, GivesOnce, HasOnePairing, IsFaithful, LettersKeepOrder, NoneIsMissed, OverIsTrue, ReceivesKeepOrder};
-ghost use Rattle.ulfm_laws.specs.Rest.{KnowsStopped, AgreesOnRevoked};
-ghost use Rattle.ulfm_laws.specs.Decisions.{AdoptOne, HasOneGroup, NoneIsForeign, ProposesEach};
+ghost use Rattle.ulfm_report_laws.specs.Causes.{GoneHaveStopped, RevokedByARank};
+ghost use Rattle.ulfm_report_laws.specs.Flow.{Flows};
+ghost use Rattle.ulfm_report_laws.specs.Order.{HaveOneOrder};
+ghost use Rattle.ulfm_report_laws.specs.Reader.{AllHasCome, ComeAsSent, DoneIsGiven, DonesDiffer, FoundIsGiven, GivesOnce, HasOnePairing, IsFaithful, LettersKeepOrder, NoneIsMissed, OverIsTrue, ReceivesKeepOrder};
+ghost use Rattle.ulfm_report_laws.specs.Rest.{KnowsStopped, AgreesOnRevoked};
+ghost use Rattle.ulfm_report_laws.specs.Decisions.{AdoptOne, HasOneGroup, NoneIsForeign, ProposesEach};
 ghost use Rattle.ulfm_world.specs.declared.event.Event.{Event};
 ghost use Rattle.ulfm_world.specs.declared.room.Room.{Room};
 ghost use Rattle.ulfm_world.specs.declared.room.Room.TheVariants.{PerInbox};

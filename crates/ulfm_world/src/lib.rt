@@ -12,21 +12,21 @@
 //! - [`refused_never_happens`]: a refused event doesn't happen, but where memory runs out (`RefusedNeverHappens`, Never.antt).
 //! - [`rings_give_all`]: places for each sender, as rings have them, give all that places for all senders give (`IsRunOnRings`, Rings.antt).
 //! - [`flows`]: the log of a running rank has for another what that one took, then its inbox, then the outbox towards it. If a rank stopped, a
-//!   beginning goes out, and its notice comes next (`Flows`, Flow.antt of `ulfm_laws`).
+//!   beginning goes out, and its notice comes next (`Flows`, Flow.antt of `ulfm_report_laws`).
 //! - [`each_done_was_sent`], [`each_found_was_sent`], [`letters_come_as_sent`], [`letters_are_given_once`], [`letters_keep_order`],
 //!   [`receives_keep_order`], [`one_pairing_each`], [`no_match_is_missed`], [`each_over_is_true`]: what answers tell of messages is true of what was
-//!   sent. [`reports_are_faithful`] has it as one record (`IsFaithful`, Reader.antt of `ulfm_laws`).
+//!   sent. [`reports_are_faithful`] has it as one record (`IsFaithful`, Reader.antt of `ulfm_report_laws`).
 //! - [`one_order`]: all logs have one order, in which nothing is taken before it is owed, and no decision adopted before some rank proposed it
-//!   (`HaveOneOrder`, Order.antt of `ulfm_laws`).
+//!   (`HaveOneOrder`, Order.antt of `ulfm_report_laws`).
 //! - [`gone_has_stopped`], [`revoked_by_a_rank`]: a rank that is known to have failed has stopped, and some rank revoked what is revoked
-//!   (`GoneHaveStopped`, `RevokedByARank`, Causes.antt of `ulfm_laws`).
+//!   (`GoneHaveStopped`, `RevokedByARank`, Causes.antt of `ulfm_report_laws`).
 //! - [`entered_once`], [`decided_safely`], [`settled_safely`], [`made_safely`]: a decision that is held lists ranks with their own entries, and
 //!   excludes ranks alone that had stopped before it was made. It excludes each member whose failure a member of the new group knew as it entered
 //!   (`IsSafe`, `DecidesSafely`, `SettlesSafely`, Safe.antt; `MadeSafely`, Made.antt).
 //! - [`adopted_as_held`], [`one_decision`], [`one_group`]: a rank that adopts is in the new group, and adopts what is held. All that adopt on one
-//!   shrink or agreement adopt one decision, and have one group (`AdoptsHeld`, Safe.antt; `AdoptOne`, `HasOneGroup`, Decisions.antt of `ulfm_laws`).
+//!   shrink or agreement adopt one decision, and have one group (`AdoptsHeld`, Safe.antt; `AdoptOne`, `HasOneGroup`, Decisions.antt of `ulfm_report_laws`).
 //! - [`adoption_starves_alone`], [`none_is_foreign`]: once a step is decided, out of memory alone refuses it. So no step is answered 11
-//!   (`StarvesAlone`, Safe.antt; `NoneIsForeign`, Decisions.antt of `ulfm_laws`).
+//!   (`StarvesAlone`, Safe.antt; `NoneIsForeign`, Decisions.antt of `ulfm_report_laws`).
 //! - [`known_at_rest`], [`agreed_at_rest`], [`proposed_at_rest`], [`all_come_at_rest`]: at rest running ranks know who stopped, agree on
 //!   revocations, have their proposals, and have what they sent to one another (`IsAtRest`, Rest.antt).
 //!

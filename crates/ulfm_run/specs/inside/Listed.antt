@@ -16,7 +16,7 @@ use Rattle.ulfm_answer.specs.declared.answer.StepAnswer.TheVariants.{Refused}
 use Rattle.ulfm_answer.specs.declared.answer.StepReport.{StepReport}
 use Rattle.ulfm_script.specs.Deciding.{topic_of}
 use Rattle.ulfm_answer.specs.Report.{Report}
-use Rattle.ulfm_laws.specs.Proposed.{ProposesBy}
+use Rattle.ulfm_report_laws.specs.Proposed.{ProposesBy}
 
 -- the rank `me` with this log lists r as a decision does, if r is a member
 abbrev pub IsListedAs : ℕ → List Entry → Decision → ℕ → Type 0

@@ -7,9 +7,9 @@ use Rattle.ulfm_base.specs.Lists.{at}
 use Rattle.ulfm_log.specs.declared.entry.Entry.{Entry}
 use Rattle.ulfm_log.specs.declared.entry.Entry.TheVariants.{Adopted, Stopped, Took}
 use Rattle.ulfm_answer.specs.Report.{Report}
-use Rattle.ulfm_laws.specs.Order.{Owe, IsOwedEarlier, HaveOneOrder}
-use Rattle.ulfm_laws.specs.Proposed.{IsProposedEarlier}
-use Rattle.ulfm_laws.specs.Room.{taken_behind, HasRoomFor, StopsHaveRoom}
+use Rattle.ulfm_report_laws.specs.Order.{Owe, IsOwedEarlier, HaveOneOrder}
+use Rattle.ulfm_report_laws.specs.Proposed.{IsProposedEarlier}
+use Rattle.ulfm_report_laws.specs.Room.{taken_behind, HasRoomFor, StopsHaveRoom}
 use Rattle.ulfm_run.specs.inside.Listed.{IsProposedByRank}
 
 -- the entries that were walked of the rank s owe this item to the rank d, whose log was `before`

@@ -2,8 +2,8 @@ use Rattle.std.proofs.Common.{◌≡◌, ap, sym, ◌∙◌, subst, map, List, l
 use Rattle.ulfm_script.specs.declared.fault.RunFault.{RunFault}
 use Rattle.ulfm_script.specs.declared.fault.RunFault.TheVariants.{Untrue}
 use Rattle.ulfm_run.proofs.Common.{Global, IsGathered, Keeps, NameOneBoard, Report, Vec, false≢true, AreTrue, length-map, report_in}
-use Rattle.ulfm_laws.specs.Decisions.{NoneIsForeign}
-use Rattle.ulfm_laws.specs.Order.{HaveOneOrder}
+use Rattle.ulfm_report_laws.specs.Decisions.{NoneIsForeign}
+use Rattle.ulfm_report_laws.specs.Order.{HaveOneOrder}
 use Rattle.ulfm_run.proofs.job.report_of.Goals as goal
 
 pub gather-residue-requires-clause-family : goal.gather-residue-requires-clause-family

@@ -1,6 +1,6 @@
 use Rattle.std.proofs.Common.{sym, subst, map}
 use Rattle.std.proofs.lemmas.Result.{err_from_is_err_and}
-use Rattle.ulfm_laws.proofs.Lawful.{lawful}
+use Rattle.ulfm_report_laws.proofs.Lawful.{lawful}
 use Rattle.ulfm_run.proofs.Common.{contents, IsFresh}
 use Rattle.ulfm_run.proofs.Reporting.{same_names, all_ready, flow_all, sizes_all, few_all, names_all, settled_all, boards_all, untrue_all, produced_all, board_all}
 use Rattle.ulfm_run.proofs.job.run_job.Goals as goal

@@ -1,6 +1,6 @@
 use Rattle.std.proofs.Common.{◌↔◌, List, IsTrue, subst}
-use Rattle.ulfm_laws.specs.Flow.{AreWithin}
-use Rattle.ulfm_laws.specs.Room.{HaveRoom}
+use Rattle.ulfm_report_laws.specs.Flow.{AreWithin}
+use Rattle.ulfm_report_laws.specs.Room.{HaveRoom}
 use Rattle.ulfm_run.proofs.Common.{contents, Global, Item, Report, Vec, WorldRank}
 use Rattle.ulfm_run.proofs.room.fits.Goals as goal
 

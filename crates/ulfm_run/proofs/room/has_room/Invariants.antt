@@ -1,6 +1,6 @@
 use Rattle.std.proofs.Common.{◌<◌, ◌≤◌, ℕ, slice_index}
 use Rattle.ulfm_run.proofs.Common.{at, Report}
-use Rattle.ulfm_laws.specs.Room.{taken_behind}
+use Rattle.ulfm_report_laws.specs.Room.{taken_behind}
 use Rattle.ulfm_run.proofs.room.has_room.Given as goal
 
 abbrev pub invariant-loop-rank : goal.invariant-loop-rank

@@ -1,7 +1,7 @@
 use Rattle.std.proofs.Common.{ℕ, sym, subst, ◌∙◌, inr, arith}
 use Rattle.std.proofs.lemmas.Bool.{false≢true}
-use Rattle.ulfm_laws.specs.Flow.{AreWithin}
-use Rattle.ulfm_laws.specs.Room.{HaveRoom}
+use Rattle.ulfm_report_laws.specs.Flow.{AreWithin}
+use Rattle.ulfm_report_laws.specs.Room.{HaveRoom}
 use Rattle.ulfm_run.specs.Flow.{contents}
 use Rattle.ulfm_run_reply.proofs.run.fitting.Goals as goal
 

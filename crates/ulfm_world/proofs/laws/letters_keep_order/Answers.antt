@@ -1,5 +1,5 @@
 use Rattle.ulfm_world.proofs.Common.{LettersKeepOrder}
-use Rattle.ulfm_laws.proofs.Order.{letters_keep_order}
+use Rattle.ulfm_report_laws.proofs.Order.{letters_keep_order}
 use Rattle.ulfm_world.proofs.Reported.{in_world, in_replay}
 use Rattle.ulfm_world.proofs.laws.letters_keep_order.Goals as goal
 

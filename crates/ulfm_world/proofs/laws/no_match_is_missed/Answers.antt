@@ -1,5 +1,5 @@
 use Rattle.ulfm_world.proofs.Common.{NoneIsMissed}
-use Rattle.ulfm_laws.proofs.Missed.{none_missed}
+use Rattle.ulfm_report_laws.proofs.Missed.{none_missed}
 use Rattle.ulfm_world.proofs.Reported.{in_world, in_replay}
 use Rattle.ulfm_world.proofs.laws.no_match_is_missed.Goals as goal
 

@@ -1,5 +1,5 @@
 use Rattle.ulfm_world.proofs.Common.{HasOnePairing}
-use Rattle.ulfm_laws.proofs.Missed.{one_each}
+use Rattle.ulfm_report_laws.proofs.Missed.{one_each}
 use Rattle.ulfm_world.proofs.Reported.{in_world, in_replay}
 use Rattle.ulfm_world.proofs.laws.one_pairing_each.Goals as goal
 

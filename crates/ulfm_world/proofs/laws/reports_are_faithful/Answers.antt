@@ -1,5 +1,5 @@
 use Rattle.ulfm_world.proofs.Common.{IsFaithful}
-use Rattle.ulfm_laws.proofs.Faithful.{faithful}
+use Rattle.ulfm_report_laws.proofs.Faithful.{faithful}
 use Rattle.ulfm_world.proofs.Reported.{in_world, in_replay}
 use Rattle.ulfm_world.proofs.laws.reports_are_faithful.Goals as goal
 

@@ -1,0 +1,25 @@
+//! The laws of reports, whichever engine produced them.
+ghost use Rattle.std.specs.Prelude.{List};
+ghost use Rattle.ulfm_script.specs.Deciding.{Known};
+ghost use Rattle.ulfm_job.specs.Job.{JobView};
+ghost use Rattle.ulfm_answer.specs.Report.{Report};
+ghost use Rattle.ulfm_report_laws.specs.Flow.{Inboxes};
+ghost use Rattle.ulfm_report_laws.specs.Lawful.{AreProduced, LawfulReport};
+ghost use Rattle.ulfm_report_laws.specs.Order.{DecisionsAreProposals, ExclusionsComeLater, FailuresComeLater, LettersComeLater, RevocationsComeLater};
+
+/// Reports that an engine produces are lawful: what is true of each rank, and the flow between ranks, give the rest of the
+/// headline (MPI 4.0, 3.5; ULFM).
+pub fn produced_is_lawful()
+    ensures { (job : JobView) (inboxes : Inboxes) (knows : List Known) (reports : List Report) → AreProduced job inboxes knows reports → LawfulReport job inboxes knows reports }
+{}
+
+/// In the one order of lawful reports each letter is taken after the entry that sent it (MPI 4.0, 3.5), each revocation comes after
+/// some rank's own call, and each notice of a failure after the stop (ULFM). A decision is adopted after each rank that it excludes
+/// stopped, and is the proposal that some rank made before (ULFM, shrink and agree).
+pub fn causes_come_first()
+    ensures letters { (job : JobView) (inboxes : Inboxes) (knows : List Known) (reports : List Report) (h : LawfulReport job inboxes knows reports) → LettersComeLater reports h.one_order.time }
+    ensures revocations { (job : JobView) (inboxes : Inboxes) (knows : List Known) (reports : List Report) (h : LawfulReport job inboxes knows reports) → RevocationsComeLater reports h.one_order.time }
+    ensures failures { (job : JobView) (inboxes : Inboxes) (knows : List Known) (reports : List Report) (h : LawfulReport job inboxes knows reports) → FailuresComeLater reports h.one_order.time }
+    ensures exclusions { (job : JobView) (inboxes : Inboxes) (knows : List Known) (reports : List Report) (h : LawfulReport job inboxes knows reports) → ExclusionsComeLater reports h.one_order.time }
+    ensures proposals { (job : JobView) (inboxes : Inboxes) (knows : List Known) (reports : List Report) (h : LawfulReport job inboxes knows reports) → DecisionsAreProposals reports h.one_order.time }
+{}
