@@ -6,8 +6,8 @@ use Rattle.std.proofs.lemmas.List.Folds.{list_any_at}
 use Rattle.std.specs.List.{list_all, list_any}
 use Rattle.ulfm_job.specs.Job.{JobView}
 use Rattle.ulfm_job.specs.declared.clause.Clause.{Clause}
-use Rattle.ulfm_reduction.specs.Obeying.{ComesTo}
-use Rattle.ulfm_reduction.specs.Late.{IsEnd}
+use Rattle.ulfm_reduction_laws.specs.Obeying.{ComesTo}
+use Rattle.ulfm_reduction_laws.specs.Late.{IsEnd}
 use Rattle.ulfm_script.specs.Player.{Player}
 use Rattle.ulfm_answer.specs.Reacting.{begins_in, holds_of}
 use Rattle.ulfm_answer.proofs.ReadBack.{codes_are_read}

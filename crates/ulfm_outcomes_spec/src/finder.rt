@@ -1,7 +1,7 @@
 //! Who finds outcomes.
 //!
 //! A schedule comes from it as a value, so that no function above lets go of a world, which is dear to prove. The definitions of
-//! events and of keys stand in `ulfm_reduction`, so that what is replied doesn't need `ulfm_outcomes`.
+//! events and of keys stand in `ulfm_reduction_laws`, so that what is replied doesn't need `ulfm_outcomes`.
 ghost use Rattle.std.specs.Prelude.{IfOk};
 ghost use Rattle.ulfm_outcomes_spec.specs.Outcomes.{IsList};
 ghost use Rattle.ulfm_outcomes_spec.specs.Told.{IsLook};

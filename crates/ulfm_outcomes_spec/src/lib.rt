@@ -4,7 +4,7 @@
 //!     let unmet = first_unmet(&job, &reached.found);
 //!
 //! The promises of each job are about all schedules in which ranks follow their scripts, give nothing up but what the job lets them (`may_leave`),
-//! and never lack memory, with a ring for each ordered pair of ranks (`ComesTo`, Obeying.antt of `ulfm_reduction`).
+//! and never lack memory, with a ring for each ordered pair of ranks (`ComesTo`, Obeying.antt of `ulfm_reduction_laws`).
 //!
 //! [`Finder`], `outcomes`, ensures `IsList` (Outcomes.antt): `IsWholeList`, or `IsTooMany`. The fields of `IsWholeList`:
 //!
@@ -18,7 +18,7 @@
 //! - `reached`, `covered`, `few`: the keys that are counted are different, and each is that of a world to which a late schedule leads. In a job in
 //!   which no event goes first each such world has one of them, or goes on as one that has. Otherwise events of seven kinds go first (`first_event.rt`
 //!   of `ulfm_outcomes` has them): worlds at which one does aren't counted, and those in which others went on meanwhile aren't looked at. The keys
-//!   are no more than the limit (`AreKeysOfJob`, `HasKeyIn`, Outcomes.antt; `NoneGoesFirst`, First.antt of `ulfm_reduction`).
+//!   are no more than the limit (`AreKeysOfJob`, `HasKeyIn`, Outcomes.antt; `NoneGoesFirst`, First.antt of `ulfm_reduction_laws`).
 //!
 //! If there are more different keys than the limit, `IsTooMany` (Outcomes.antt) says so (`many`), and nothing is said of answers.
 //!
