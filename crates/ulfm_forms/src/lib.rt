@@ -18,7 +18,7 @@
 //! - `worded.rt`, `worded_trace.rt`: calls, answers and traces in plain words or MPI's, of `mpi_call.rt` and `mpi_answer.rt`
 //! - `form.rt`: words or JSON; `wording.rt`: whose words; `style.rt`: the forms of a picture
 //!
-//! Not here: the objects of lists (`ulfm_list`) and of sweeps (`ulfm_run_reply`). It isn't proved that the output is JSON by its schema:
+//! Not here: the objects of lists (`ulfm_outcomes_list`) and of sweeps (`ulfm_run_reply`). It isn't proved that the output is JSON by its schema:
 //! tools/gate/check-json looks at that.
 #![tactic(auto)]
 

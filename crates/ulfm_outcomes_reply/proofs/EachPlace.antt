@@ -11,26 +11,26 @@ use Rattle.ulfm_job.specs.Place.{IsPlaceOf, job_at}
 use Rattle.ulfm_job.specs.declared.place.Place.{Place}
 use Rattle.ulfm_job.specs.declared.place.Place.TheVariants.{Nowhere}
 use Rattle.ulfm_outcomes_reply.specs.Lists.{AreLists, IsListedAt, job_asked_at}
-use Rattle.ulfm_list.specs.declared.place_list.Listed.{Listed}
+use Rattle.ulfm_outcomes_list.specs.declared.place_list.Listed.{Listed}
 use Rattle.ulfm_job.specs.declared.clause.Clause.{Clause}
 use Rattle.ulfm_job.specs.Places.{places_of}
 use Rattle.ulfm_forms.specs.declared.form.Form.{Form}
 use Rattle.ulfm_command_line.specs.Stopped.{Asked, IsAskedAt, asked_at}
 use Rattle.ulfm_command_line.specs.Wish.{ChoiceView}
 use Rattle.ulfm_command_line.specs.declared.command.ListOptions.{ListOptions}
-use Rattle.ulfm_list.specs.declared.judgement.Judgement.{Judgement}
-use Rattle.ulfm_list.specs.declared.judgement.Judgement.TheVariants.{NotKnown}
+use Rattle.ulfm_outcomes_list.specs.declared.judgement.Judgement.{Judgement}
+use Rattle.ulfm_outcomes_list.specs.declared.judgement.Judgement.TheVariants.{NotKnown}
 use Rattle.ulfm_outcomes_reply.specs.declared.finding.Finding.{Finding}
 use Rattle.ulfm_outcomes_reply.specs.EachPlace.{IsEachPlaceReply, IsJudgedEach, IsUndrawn, listed_all, past_limit_at, places_in}
-use Rattle.ulfm_list.specs.Told.{row_in}
+use Rattle.ulfm_outcomes_list.specs.Told.{row_in}
 use Rattle.ulfm_outcomes_reply.specs.Chosen.{unknown_part}
 use Rattle.ulfm_outcomes_reply.specs.Outcomes.{goals_asked}
 use Rattle.ulfm_outcomes_reply.specs.ShowEach.{IsFirstPlace, IsShowEachReply, nowhere_at_all, shown_at, told_at_place, too_many_at}
 use Rattle.ulfm_outcomes_reply.specs.Wanted.{HasList, IsToldOf, together, unsearched}
 use Rattle.ulfm_outcomes_reply.specs.declared.never_rows.FirstRow.{FirstRow}
 use Rattle.ulfm_outcomes_reply.specs.declared.show_each_place.LookAt.{LookAt}
-use Rattle.ulfm_list.specs.declared.search_result.Told.{Told}
-use Rattle.ulfm_list.specs.declared.search_result.Told.TheVariants as told
+use Rattle.ulfm_outcomes_list.specs.declared.search_result.Told.{Told}
+use Rattle.ulfm_outcomes_list.specs.declared.search_result.Told.TheVariants as told
 use Rattle.ulfm_outcomes_reply.specs.inside.Judging.{AreListedOf, IsFirstLook, IsInside, IsListedOf, IsLookAtText, IsUnwanted, IsUnwantedAt, judgement_past, look_at_status, status_past, text_past}
 use Rattle.ulfm_outcomes_spec.specs.Told.{IsLook}
 use Rattle.ulfm_outcomes_reply.specs.inside.Looking.{IsFirstRow, IsLookText, look_status, row_judgement, row_status}

@@ -9,7 +9,7 @@ use Rattle.ulfm_job.specs.declared.place.Place.{Place}
 use Rattle.ulfm_outcomes_reply.specs.Lists.{AreLists, job_asked_at}
 use Rattle.ulfm_outcomes_reply.specs.inside.Parts.{AreJoined, AreJoinedSoFar, AreParts, GoesOn, IsPart}
 use Rattle.ulfm_command_line.specs.Stopped.{Asked}
-use Rattle.ulfm_list.specs.declared.place_list.Listed.{Listed}
+use Rattle.ulfm_outcomes_list.specs.declared.place_list.Listed.{Listed}
 use Rattle.ulfm_outcomes_reply.specs.declared.lists.Lists.{Lists}
 
 module _ (asked : Asked) (limit : ℕ) where

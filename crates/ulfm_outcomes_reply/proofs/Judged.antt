@@ -11,14 +11,14 @@ use Rattle.ulfm_job.specs.declared.clause.Clause.{Clause}
 use Rattle.ulfm_forms.specs.declared.form.Form.{Form}
 use Rattle.ulfm_command_line.specs.Stopped.{Asked, IsAskedAt}
 use Rattle.ulfm_command_line.specs.declared.command.ListOptions.{ListOptions}
-use Rattle.ulfm_list.specs.Goals.{AreOfClauses}
+use Rattle.ulfm_outcomes_list.specs.Goals.{AreOfClauses}
 use Rattle.ulfm_outcomes_spec.specs.Told.{IsLook}
-use Rattle.ulfm_list.specs.declared.goals.Goals.{Goals}
+use Rattle.ulfm_outcomes_list.specs.declared.goals.Goals.{Goals}
 use Rattle.ulfm_outcomes_reply.specs.Outcomes.{IsShowReply, goals_asked, nowhere, shown, too_many}
 use Rattle.ulfm_outcomes_reply.specs.Wanted.{NeverComes, NoneComes}
-use Rattle.ulfm_list.specs.Told.{told_in}
-use Rattle.ulfm_list.specs.declared.search_result.Told.{Told}
-use Rattle.ulfm_list.specs.declared.search_result.Told.TheVariants as told
+use Rattle.ulfm_outcomes_list.specs.Told.{told_in}
+use Rattle.ulfm_outcomes_list.specs.declared.search_result.Told.{Told}
+use Rattle.ulfm_outcomes_list.specs.declared.search_result.Told.TheVariants as told
 use Rattle.ulfm_outcomes_reply.specs.inside.Looking.{IsLookText, look_status}
 
 -- those of which that holds, with one more

@@ -2,10 +2,10 @@
 use Rattle.std.proofs.Common.{◌≡◌, ℕ, Bool, true, List, Option, Some, None}
 use Rattle.ulfm_job.specs.Job.{JobView}
 use Rattle.ulfm_job.specs.declared.clause.Clause.{Clause}
-use Rattle.ulfm_list.specs.Goals.{AreOfClauses}
-use Rattle.ulfm_list.specs.declared.goals.Goals.{Goals}
+use Rattle.ulfm_outcomes_list.specs.Goals.{AreOfClauses}
+use Rattle.ulfm_outcomes_list.specs.declared.goals.Goals.{Goals}
 use Rattle.ulfm_command_line.specs.Asking.{is_looked_at}
-use Rattle.ulfm_list.specs.declared.search_result.Told.{Told}
+use Rattle.ulfm_outcomes_list.specs.declared.search_result.Told.{Told}
 use Rattle.ulfm_outcomes_spec.specs.Told.{IsLook}
 use Rattle.ulfm_outcomes_reply.specs.inside.Looking.{IsLookForRow}
 

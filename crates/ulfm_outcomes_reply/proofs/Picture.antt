@@ -8,20 +8,20 @@ use Rattle.std.specs.Option.{option_or}
 use Rattle.ulfm_outcomes_spec.proofs.Judging.{left_judged}
 use Rattle.ulfm_outcomes_spec.specs.Told.{IsTold}
 use Rattle.ulfm_outcomes_spec.specs.Unmet.{Judges}
-use Rattle.ulfm_list.specs.Listed.{StepView, all_steps, step_view}
-use Rattle.ulfm_list.specs.declared.job_step.JobStep.{JobStep}
-use Rattle.ulfm_list.specs.Text.{never_ends}
-use Rattle.ulfm_list.specs.Unmet.{IsUnmet}
-use Rattle.ulfm_list.specs.declared.goals.Goals.{Goals}
-use Rattle.ulfm_list.specs.declared.unmet.Unmet.{Unmet}
+use Rattle.ulfm_outcomes_list.specs.Listed.{StepView, all_steps, step_view}
+use Rattle.ulfm_outcomes_list.specs.declared.job_step.JobStep.{JobStep}
+use Rattle.ulfm_outcomes_list.specs.Text.{never_ends}
+use Rattle.ulfm_outcomes_list.specs.Unmet.{IsUnmet}
+use Rattle.ulfm_outcomes_list.specs.declared.goals.Goals.{Goals}
+use Rattle.ulfm_outcomes_list.specs.declared.unmet.Unmet.{Unmet}
 use Rattle.ulfm_job.specs.Job.{JobView}
 use Rattle.ulfm_forms.specs.declared.form.Form.{Form}
 use Rattle.ulfm_forms.specs.declared.style.Style.{Style}
-use Rattle.ulfm_list.proofs.Telling.{drop-item}
-use Rattle.ulfm_list.specs.Told.{told_in}
-use Rattle.ulfm_list.specs.declared.place_list.Listed.{Listed}
-use Rattle.ulfm_list.specs.declared.search_result.Told.{Told}
-use Rattle.ulfm_list.specs.declared.search_result.Told.TheVariants as told
+use Rattle.ulfm_outcomes_list.proofs.Telling.{drop-item}
+use Rattle.ulfm_outcomes_list.specs.Told.{told_in}
+use Rattle.ulfm_outcomes_list.specs.declared.place_list.Listed.{Listed}
+use Rattle.ulfm_outcomes_list.specs.declared.search_result.Told.{Told}
+use Rattle.ulfm_outcomes_list.specs.declared.search_result.Told.TheVariants as told
 use Rattle.ulfm_command_line.specs.Stopped.{Asked, asked_at}
 use Rattle.ulfm_command_line.specs.declared.reply.Reply.{Reply}
 use Rattle.ulfm_outcomes_reply.specs.EachPlace.{IsUndrawn}

@@ -2,11 +2,11 @@
 use Rattle.std.proofs.Common.{ℕ, Bool, true, false, List, Option, Some, None}
 use Rattle.ulfm_job.specs.declared.place.Place.{Place}
 use Rattle.ulfm_job.specs.declared.place.Place.TheVariants.{Nowhere}
-use Rattle.ulfm_list.specs.Text.{some_never_ends}
-use Rattle.ulfm_list.specs.declared.judgement.Judgement.{Judgement}
-use Rattle.ulfm_list.specs.declared.unmet.Unmet.{Unmet}
+use Rattle.ulfm_outcomes_list.specs.Text.{some_never_ends}
+use Rattle.ulfm_outcomes_list.specs.declared.judgement.Judgement.{Judgement}
+use Rattle.ulfm_outcomes_list.specs.declared.unmet.Unmet.{Unmet}
 use Rattle.ulfm_reach.specs.declared.reached.Reached.{Reached}
-use Rattle.ulfm_list.specs.Union.{some_never_ends as each_never_ends}
+use Rattle.ulfm_outcomes_list.specs.Union.{some_never_ends as each_never_ends}
 use Rattle.ulfm_forms.specs.declared.form.Form.{Form}
 use Rattle.ulfm_command_line.proofs.Statuses as statuses
 use Rattle.ulfm_command_line.proofs.Statuses.{IsKnown, no_play}

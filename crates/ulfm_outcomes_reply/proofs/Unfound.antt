@@ -7,12 +7,12 @@ use Rattle.std.proofs.lemmas.Option.{slice_get-get_or, slice_get-map}
 use Rattle.std.specs.Option.{option_or}
 use Rattle.std.specs.Prelude.{All}
 use Rattle.ulfm_job.specs.declared.place.Place.{Place}
-use Rattle.ulfm_list.specs.declared.place_list.Listed.{Listed}
+use Rattle.ulfm_outcomes_list.specs.declared.place_list.Listed.{Listed}
 use Rattle.ulfm_forms.specs.declared.form.Form.{Form}
 use Rattle.ulfm_command_line.specs.Stopped.{Asked, asked_at}
 use Rattle.ulfm_command_line.specs.declared.command.ListOptions.{ListOptions}
-use Rattle.ulfm_list.specs.declared.judgement.Judgement.{Judgement}
-use Rattle.ulfm_list.specs.declared.judgement.Judgement.TheVariants.{NotKnown}
+use Rattle.ulfm_outcomes_list.specs.declared.judgement.Judgement.{Judgement}
+use Rattle.ulfm_outcomes_list.specs.declared.judgement.Judgement.TheVariants.{NotKnown}
 use Rattle.ulfm_outcomes_reply.specs.declared.finding.Finding.{Finding}
 use Rattle.ulfm_outcomes_reply.specs.EachPlace.{IsJudgedEach, IsToldAt, IsUnfound, found, places_in, unfound}
 use Rattle.ulfm_outcomes_reply.specs.Wanted.{IsToldOf, IsWanted, together, unmet, unsearched}

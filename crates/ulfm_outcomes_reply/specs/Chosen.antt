@@ -3,14 +3,14 @@ use Rattle.std.specs.Prelude.{ℕ, ◌==◌, ◌&&◌, ◌||◌, not, Bool, true
 use Rattle.std.specs.Fmt.{decimal}
 use Rattle.std.specs.List.{find, flat_map, list_any, slice_split}
 use Rattle.std.specs.Str.{bytes_eq, trim}
-use Rattle.ulfm_list.specs.Listed.{StepView, all_steps, list_found}
-use Rattle.ulfm_list.specs.Objects.{printed}
-use Rattle.ulfm_list.specs.declared.judgement.Judgement.{Judgement}
+use Rattle.ulfm_outcomes_list.specs.Listed.{StepView, all_steps, list_found}
+use Rattle.ulfm_outcomes_list.specs.Objects.{printed}
+use Rattle.ulfm_outcomes_list.specs.declared.judgement.Judgement.{Judgement}
 use Rattle.ulfm_job.specs.declared.step.Step.{Step}
 use Rattle.ulfm_job.specs.declared.step.Step.TheVariants.{Note}
 use Rattle.ulfm_forms.specs.declared.form.Form.{Form}
-use Rattle.ulfm_list.specs.List.{list_at}
-use Rattle.ulfm_list.specs.declared.place_list.Listed.{Listed}
+use Rattle.ulfm_outcomes_list.specs.List.{list_at}
+use Rattle.ulfm_outcomes_list.specs.declared.place_list.Listed.{Listed}
 use Rattle.ulfm_reach.specs.declared.reached.Reached.{Reached}
 use Rattle.ulfm_reader.specs.Reacting.{name_at}
 use Rattle.ulfm_reader.specs.declared.name.Name.{Name}

@@ -2,16 +2,16 @@
 use Rattle.std.specs.Prelude.{◌≡◌, ℕ, nat_lt, ◌&&◌, true, List, [], ◌∷◌, Option, Some, None, if◌then◌else◌}
 use Rattle.std.specs.Option.{option_or}
 use Rattle.ulfm_outcomes_spec.specs.Told.{IsTold}
-use Rattle.ulfm_list.specs.Listed.{StepView, all_steps}
-use Rattle.ulfm_list.specs.Text.{never_ends}
-use Rattle.ulfm_list.specs.Unmet.{IsUnmet}
-use Rattle.ulfm_list.specs.declared.goals.Goals.{Goals}
-use Rattle.ulfm_list.specs.declared.unmet.Unmet.{Unmet}
+use Rattle.ulfm_outcomes_list.specs.Listed.{StepView, all_steps}
+use Rattle.ulfm_outcomes_list.specs.Text.{never_ends}
+use Rattle.ulfm_outcomes_list.specs.Unmet.{IsUnmet}
+use Rattle.ulfm_outcomes_list.specs.declared.goals.Goals.{Goals}
+use Rattle.ulfm_outcomes_list.specs.declared.unmet.Unmet.{Unmet}
 use Rattle.ulfm_job.specs.Job.{JobView}
 use Rattle.ulfm_forms.specs.declared.form.Form.{Form}
 use Rattle.ulfm_forms.specs.declared.style.Style.{Style}
-use Rattle.ulfm_list.specs.Told.{told_in}
-use Rattle.ulfm_list.specs.declared.search_result.Told.TheVariants as told
+use Rattle.ulfm_outcomes_list.specs.Told.{told_in}
+use Rattle.ulfm_outcomes_list.specs.declared.search_result.Told.TheVariants as told
 use Rattle.ulfm_schedule.specs.declared.schedule.Schedule.{Schedule}
 use Rattle.ulfm_command_line.specs.Stopped.{Asked}
 use Rattle.ulfm_command_line.specs.declared.command.ListOptions.{ListOptions}

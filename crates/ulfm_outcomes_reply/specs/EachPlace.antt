@@ -6,18 +6,18 @@ use Rattle.ulfm_job.specs.Places.{places_of}
 use Rattle.ulfm_job.specs.declared.place.Place.{Place}
 use Rattle.ulfm_job.specs.declared.place.Place.TheVariants.{Nowhere}
 use Rattle.ulfm_outcomes_reply.specs.Lists.{AreLists}
-use Rattle.ulfm_list.specs.Told.{more_at}
-use Rattle.ulfm_list.specs.Union.{some_never_ends}
-use Rattle.ulfm_list.specs.declared.place_list.Listed.{Listed}
-use Rattle.ulfm_list.specs.declared.judgement.Judgement.{Judgement}
-use Rattle.ulfm_list.specs.declared.judgement.Judgement.TheVariants.{NotKnown}
+use Rattle.ulfm_outcomes_list.specs.Told.{more_at}
+use Rattle.ulfm_outcomes_list.specs.Union.{some_never_ends}
+use Rattle.ulfm_outcomes_list.specs.declared.place_list.Listed.{Listed}
+use Rattle.ulfm_outcomes_list.specs.declared.judgement.Judgement.{Judgement}
+use Rattle.ulfm_outcomes_list.specs.declared.judgement.Judgement.TheVariants.{NotKnown}
 use Rattle.ulfm_forms.specs.declared.form.Form.{Form}
 use Rattle.ulfm_command_line.specs.Failure.{out_of_memory_in}
 use Rattle.ulfm_command_line.specs.Replies.{refused_in}
 use Rattle.ulfm_command_line.specs.Stopped.{Asked, IsAskedAt, IsRefusal, asked_at}
 use Rattle.ulfm_command_line.specs.declared.command.ListOptions.{ListOptions}
 use Rattle.ulfm_command_line.specs.Wish.{ChoiceView}
-use Rattle.ulfm_list.specs.declared.unmet.Unmet.{Unmet}
+use Rattle.ulfm_outcomes_list.specs.declared.unmet.Unmet.{Unmet}
 use Rattle.ulfm_outcomes_reply.specs.Chosen.{lists_in, no_name, unknown_part}
 use Rattle.ulfm_outcomes_reply.specs.Drawn.{IsDrawn, left_drawn}
 use Rattle.ulfm_outcomes_reply.specs.Hangs.{judgement_of_all}

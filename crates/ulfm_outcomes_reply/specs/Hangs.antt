@@ -1,12 +1,12 @@
 -- What lists come to where nothing is told below them.
 use Rattle.std.specs.Prelude.{ℕ, ◌&&◌, ◌||◌, not, Bool, List}
 use Rattle.std.specs.List.{list_any}
-use Rattle.ulfm_list.specs.Judgement.{good_judgement}
-use Rattle.ulfm_list.specs.Listed.{StepView, all_steps}
-use Rattle.ulfm_list.specs.Text.{never_ends}
-use Rattle.ulfm_list.specs.declared.judgement.Judgement.{Judgement}
-use Rattle.ulfm_list.specs.Numbers.{number_at}
-use Rattle.ulfm_list.specs.declared.place_list.Listed.{Listed}
+use Rattle.ulfm_outcomes_list.specs.Judgement.{good_judgement}
+use Rattle.ulfm_outcomes_list.specs.Listed.{StepView, all_steps}
+use Rattle.ulfm_outcomes_list.specs.Text.{never_ends}
+use Rattle.ulfm_outcomes_list.specs.declared.judgement.Judgement.{Judgement}
+use Rattle.ulfm_outcomes_list.specs.Numbers.{number_at}
+use Rattle.ulfm_outcomes_list.specs.declared.place_list.Listed.{Listed}
 use Rattle.ulfm_command_line.specs.Holding.{expects, stops_at}
 use Rattle.ulfm_command_line.specs.Stopped.{Asked}
 use Rattle.ulfm_job.specs.declared.place.Place.{Place}

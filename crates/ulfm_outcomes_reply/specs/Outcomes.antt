@@ -5,23 +5,23 @@ use Rattle.ulfm_reader.specs.Goals.{goals_of}
 use Rattle.ulfm_reach.specs.declared.reach.Reach.TheVariants.{All, More}
 use Rattle.ulfm_reach.specs.declared.reached.Reached.{Reached}
 use Rattle.ulfm_outcomes_spec.specs.Goals.{IsPossible}
-use Rattle.ulfm_list.specs.Goals.{AreOfClauses}
+use Rattle.ulfm_outcomes_list.specs.Goals.{AreOfClauses}
 use Rattle.ulfm_outcomes_spec.specs.Outcomes.{IsList}
 use Rattle.ulfm_outcomes_spec.specs.Told.{IsTold}
-use Rattle.ulfm_list.specs.Text.{some_never_ends}
-use Rattle.ulfm_list.specs.declared.goals.Goals.{Goals}
+use Rattle.ulfm_outcomes_list.specs.Text.{some_never_ends}
+use Rattle.ulfm_outcomes_list.specs.declared.goals.Goals.{Goals}
 use Rattle.ulfm_forms.specs.declared.form.Form.{Form}
 use Rattle.ulfm_forms.specs.declared.form.Form.TheVariants.{Words, Json}
-use Rattle.ulfm_list.specs.Objects.{more_in}
-use Rattle.ulfm_list.specs.declared.judgement.Judgement.{Judgement}
-use Rattle.ulfm_list.specs.Told.{told_in}
-use Rattle.ulfm_list.specs.declared.search_result.Told.TheVariants as told
+use Rattle.ulfm_outcomes_list.specs.Objects.{more_in}
+use Rattle.ulfm_outcomes_list.specs.declared.judgement.Judgement.{Judgement}
+use Rattle.ulfm_outcomes_list.specs.Told.{told_in}
+use Rattle.ulfm_outcomes_list.specs.declared.search_result.Told.TheVariants as told
 use Rattle.ulfm_schedule.specs.declared.schedule.Schedule.{Schedule}
 use Rattle.ulfm_command_line.specs.Failure.{out_of_memory_in}
 use Rattle.ulfm_command_line.specs.Stopped.{Asked, IsAskedAt, IsRefusal, reading_as}
 use Rattle.ulfm_command_line.specs.declared.command.ListOptions.{ListOptions}
 use Rattle.ulfm_command_line.specs.Wish.{ChoiceView}
-use Rattle.ulfm_list.specs.declared.unmet.Unmet.{Unmet}
+use Rattle.ulfm_outcomes_list.specs.declared.unmet.Unmet.{Unmet}
 use Rattle.ulfm_outcomes_reply.specs.Drawn.{IsDrawn, left_drawn}
 use Rattle.ulfm_outcomes_reply.specs.Hangs.{judgement_alone}
 use Rattle.ulfm_outcomes_reply.specs.Chosen.{list_in, no_name, unknown_part}

@@ -10,17 +10,17 @@ use Rattle.ulfm_job.specs.declared.place.Place.TheVariants.{Nowhere, One, Two}
 use Rattle.ulfm_job.specs.declared.stop.Stop.{Stop}
 use Rattle.ulfm_outcomes_spec.specs.Goals.{IsPossible}
 use Rattle.ulfm_outcomes_spec.specs.Told.{IsTold}
-use Rattle.ulfm_list.specs.Goals.{AreOfClauses}
-use Rattle.ulfm_list.specs.declared.goals.Goals.{Goals}
+use Rattle.ulfm_outcomes_list.specs.Goals.{AreOfClauses}
+use Rattle.ulfm_outcomes_list.specs.declared.goals.Goals.{Goals}
 use Rattle.ulfm_forms.specs.declared.form.Form.{Form}
 use Rattle.ulfm_command_line.specs.Failure.{out_of_memory_in}
 use Rattle.ulfm_command_line.specs.Replies.{refused_in}
 use Rattle.ulfm_command_line.specs.Stopped.{Asked, IsAskedAt, IsRefusal, asked_at, clauses_beside}
 use Rattle.ulfm_command_line.specs.declared.command.ListOptions.{ListOptions}
 use Rattle.ulfm_outcomes_reply.specs.Outcomes.{goals_asked, no_goal, nowhere_in}
-use Rattle.ulfm_list.specs.Told.{told_in}
-use Rattle.ulfm_list.specs.declared.search_result.Told.{Told}
-use Rattle.ulfm_list.specs.declared.search_result.Told.TheVariants as told
+use Rattle.ulfm_outcomes_list.specs.Told.{told_in}
+use Rattle.ulfm_outcomes_list.specs.declared.search_result.Told.{Told}
+use Rattle.ulfm_outcomes_list.specs.declared.search_result.Told.TheVariants as told
 use Rattle.ulfm_schedule.specs.declared.schedule.Schedule.{Schedule}
 
 -- clauses of the file's steps, by the numbers that these have beside a stop

@@ -8,18 +8,18 @@ use Rattle.ulfm_outcomes_spec.specs.Goals.{IsPossible}
 use Rattle.ulfm_outcomes_spec.specs.Outcomes.{IsList}
 use Rattle.ulfm_outcomes_spec.specs.Told.{IsTold}
 use Rattle.ulfm_outcomes_spec.specs.Unmet.{MeetsExpected}
-use Rattle.ulfm_list.specs.Goals.{AreOfClauses}
-use Rattle.ulfm_list.specs.Judgement.{unmet_judgement}
-use Rattle.ulfm_list.specs.Unmet.{IsUnmet, first_unmet}
-use Rattle.ulfm_list.specs.declared.goals.Goals.{Goals}
-use Rattle.ulfm_list.specs.declared.judgement.Judgement.{Judgement}
-use Rattle.ulfm_list.specs.declared.judgement.Judgement.TheVariants.{ComeTogether, NotKnown}
-use Rattle.ulfm_list.specs.declared.unmet.Unmet.{Unmet}
+use Rattle.ulfm_outcomes_list.specs.Goals.{AreOfClauses}
+use Rattle.ulfm_outcomes_list.specs.Judgement.{unmet_judgement}
+use Rattle.ulfm_outcomes_list.specs.Unmet.{IsUnmet, first_unmet}
+use Rattle.ulfm_outcomes_list.specs.declared.goals.Goals.{Goals}
+use Rattle.ulfm_outcomes_list.specs.declared.judgement.Judgement.{Judgement}
+use Rattle.ulfm_outcomes_list.specs.declared.judgement.Judgement.TheVariants.{ComeTogether, NotKnown}
+use Rattle.ulfm_outcomes_list.specs.declared.unmet.Unmet.{Unmet}
 use Rattle.ulfm_forms.specs.declared.form.Form.{Form}
-use Rattle.ulfm_list.specs.Numbers.{filed_number}
-use Rattle.ulfm_list.specs.Told.{row_in, unmet_in}
-use Rattle.ulfm_list.specs.declared.search_result.Told.{Told}
-use Rattle.ulfm_list.specs.declared.search_result.Told.TheVariants as told
+use Rattle.ulfm_outcomes_list.specs.Numbers.{filed_number}
+use Rattle.ulfm_outcomes_list.specs.Told.{row_in, unmet_in}
+use Rattle.ulfm_outcomes_list.specs.declared.search_result.Told.{Told}
+use Rattle.ulfm_outcomes_list.specs.declared.search_result.Told.TheVariants as told
 use Rattle.ulfm_schedule.specs.declared.schedule.Schedule.{Schedule}
 use Rattle.ulfm_command_line.specs.Asking.{is_looked_at}
 use Rattle.ulfm_command_line.specs.Stopped.{Asked}

@@ -1,7 +1,7 @@
 //! The step that `--draw` draws where no answers are to be shown: the first one that never ends.
 ghost use Rattle.std.specs.Prelude.{◌≡◌, Some, IfOk, map, string_bytes};
 ghost use Rattle.ulfm_outcomes_spec.specs.Unmet.{Judges};
-ghost use Rattle.ulfm_list.specs.Listed.{step_view};
+ghost use Rattle.ulfm_outcomes_list.specs.Listed.{step_view};
 ghost use Rattle.ulfm_command_line.specs.Stopped.{asked_at, asked_view};
 ghost use Rattle.ulfm_outcomes_reply.specs.Drawn.{IsDrawn, first_left, left_drawn, left_of};
 ghost use Rattle.ulfm_outcomes_reply.specs.Wanted.{HasList};
@@ -14,7 +14,7 @@ use crate::show_reply::told_reply;
 use crate::unwanted::told_of;
 use std::alloc::AllocError;
 use ulfm_command_line::{Place, Reply, stopped_at};
-use ulfm_list::{JobStep, Listed, Unmet, is_stuck, steps_of};
+use ulfm_outcomes_list::{JobStep, Listed, Unmet, is_stuck, steps_of};
 use ulfm_outcomes_spec::Finder;
 use ulfm_reach::{Rows, Watch};
 use ulfm_reader::Reading;

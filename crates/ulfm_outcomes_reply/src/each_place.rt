@@ -1,7 +1,7 @@
 //! The reply of `outcomes --stops`: what each step may be answered wherever ranks stop, and below it what the job doesn't want at the first
 //! place where it comes.
 ghost use Rattle.std.specs.Prelude.{◌≡◌, ◌<◌, ◌≤◌, ℕ, List, None, IfOk, string_bytes};
-ghost use Rattle.ulfm_list.specs.Told.{more_at};
+ghost use Rattle.ulfm_outcomes_list.specs.Told.{more_at};
 ghost use Rattle.ulfm_job.specs.declared.place.Place.TheVariants.{Nowhere};
 ghost use Rattle.ulfm_command_line.specs.Stopped.{IsAskedAt, asked_view};
 ghost use Rattle.ulfm_command_line.specs.Wish.{choice_view};
@@ -25,7 +25,7 @@ use std::thread;
 use std::thread::Threads;
 use ulfm_command_line::{ListOptions, MOST_THREADS, PAST_LIMIT, Place, Reply, asked_at, refusal};
 use ulfm_job::{JobFault, MOST_STEPS, places};
-use ulfm_list::{Judgement, lists_of, push_more_at, some_never_ends};
+use ulfm_outcomes_list::{Judgement, lists_of, push_more_at, some_never_ends};
 use ulfm_outcomes_spec::Finder;
 use ulfm_reader::Reading;
 

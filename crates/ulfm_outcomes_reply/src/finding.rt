@@ -4,7 +4,7 @@ ghost use Rattle.ulfm_command_line.specs.Stopped.{asked_view};
 ghost use Rattle.ulfm_outcomes_reply.specs.Wanted.{asks};
 
 use ulfm_command_line::Reply;
-use ulfm_list::Judgement;
+use ulfm_outcomes_list::Judgement;
 use ulfm_reader::Reading;
 
 /// What was found that a job doesn't want: what a list comes to with it, and what is told below.

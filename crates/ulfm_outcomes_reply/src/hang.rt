@@ -2,7 +2,7 @@
 //! is promised.
 ghost use Rattle.std.specs.Prelude.{◌≡◌, IfOk, map};
 ghost use Rattle.std.specs.List.{list_any};
-ghost use Rattle.ulfm_list.specs.Listed.{step_view};
+ghost use Rattle.ulfm_outcomes_list.specs.Listed.{step_view};
 ghost use Rattle.ulfm_command_line.specs.Stopped.{asked_view};
 ghost use Rattle.ulfm_outcomes_reply.specs.Hangs.{hangs_at, hangs_somewhere, is_hang, judgement_alone, judgement_of_all};
 
@@ -11,7 +11,7 @@ use crate::search::Search;
 use std::alloc::AllocError;
 use ulfm_command_line::{expects, stops_at};
 use ulfm_job::{Place, Stop};
-use ulfm_list::{JobStep, Judgement, Listed, OpenStep, is_stuck, number_at, steps_of};
+use ulfm_outcomes_list::{JobStep, Judgement, Listed, OpenStep, is_stuck, number_at, steps_of};
 use ulfm_reach::Rows;
 use ulfm_reader::Reading;
 

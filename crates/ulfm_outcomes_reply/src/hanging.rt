@@ -4,7 +4,7 @@ use crate::search::Search;
 use std::alloc::{AllocError, Global};
 use ulfm_command_line::Remark;
 use ulfm_job::Job;
-use ulfm_list::{Goals, OpenStep, Told, push_schedule_in};
+use ulfm_outcomes_list::{Goals, OpenStep, Told, push_schedule_in};
 use ulfm_outcomes_spec::Finder;
 use ulfm_reach::Watch;
 

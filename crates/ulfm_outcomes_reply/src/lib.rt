@@ -37,7 +37,7 @@
 //! - `onlooker.rt`: who is told how far the lists are
 //! - for standard error alone: `verdicts.rt`, `mistakes.rt`, `remarks.rt`, `unheld.rt`
 //!
-//! Not here: the search (`ulfm_outcomes`), and how a list is printed (`ulfm_list`). No contract speaks of a verdict's line on standard error, of
+//! Not here: the search (`ulfm_outcomes`), and how a list is printed (`ulfm_outcomes_list`). No contract speaks of a verdict's line on standard error, of
 //! mistakes and of what a picture shows.
 #![tactic(auto)]
 

@@ -1,7 +1,7 @@
 //! The lists of places.
 
 use ulfm_job::Place;
-use ulfm_list::Listed;
+use ulfm_outcomes_list::Listed;
 
 /// The lists of places in their order, as far as they go.
 #[derive(Drop)]

@@ -4,7 +4,7 @@ use std::alloc::{AllocError, Global};
 use ulfm_answer::{ToldAnswer, begins_told};
 use ulfm_command_line::{Place, Remark, StepTold};
 use ulfm_job::{Job, Step};
-use ulfm_list::{Listed, code_at, number_at};
+use ulfm_outcomes_list::{Listed, code_at, number_at};
 use ulfm_reach::Rows;
 use ulfm_reader::Reading;
 

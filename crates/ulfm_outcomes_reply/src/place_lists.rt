@@ -11,7 +11,7 @@ use crate::search::Search;
 use ulfm_base::OutOfMemory;
 use ulfm_command_line::stopped_at;
 use ulfm_job::Place;
-use ulfm_list::Listed;
+use ulfm_outcomes_list::Listed;
 use ulfm_outcomes_spec::Finder;
 use ulfm_reach::Reach;
 use ulfm_reader::Reading;

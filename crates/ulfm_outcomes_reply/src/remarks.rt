@@ -4,7 +4,7 @@ use std::alloc::{AllocError, Global};
 use ulfm_answer::{StepAnswer, StepReport, ToldAnswer, holds_of};
 use ulfm_command_line::{Remark, StepTold, is_looked_at, push_unmet_answers};
 use ulfm_job::{Clause, Job};
-use ulfm_list::{Told, code_at};
+use ulfm_outcomes_list::{Told, code_at};
 use ulfm_reach::Rows;
 use ulfm_reader::Reading;
 use ulfm_schedule::{Course, Schedule};

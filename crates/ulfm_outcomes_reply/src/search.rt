@@ -8,7 +8,7 @@ use ulfm_base::OutOfMemory;
 use ulfm_command_line::{Choice, ListOptions};
 use ulfm_job::Job;
 use ulfm_forms::Form;
-use ulfm_list::{Goals, Told};
+use ulfm_outcomes_list::{Goals, Told};
 use ulfm_outcomes_spec::Finder;
 use ulfm_reach::{Reach, Watch};
 

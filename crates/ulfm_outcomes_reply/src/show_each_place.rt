@@ -13,7 +13,7 @@ use crate::show_reply::{no_goal, nowhere_reply, told_reply};
 use std::alloc::{AllocError, Global};
 use ulfm_command_line::{Place, Reply, asked_at, refusal, stopped_at};
 use ulfm_job::{Clause, Job, JobFault, MOST_STEPS, Stop, places};
-use ulfm_list::{Goals, Told};
+use ulfm_outcomes_list::{Goals, Told};
 use ulfm_outcomes_spec::Finder;
 use ulfm_reader::Reading;
 

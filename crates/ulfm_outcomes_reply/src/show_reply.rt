@@ -11,7 +11,7 @@ use ulfm_command_line::{
 };
 use ulfm_draw::drawn;
 use ulfm_forms::Form;
-use ulfm_list::{Goals, Told, push_told};
+use ulfm_outcomes_list::{Goals, Told, push_told};
 use ulfm_outcomes_spec::Finder;
 use ulfm_reach::Watch;
 use ulfm_reader::Reading;

@@ -3,7 +3,7 @@ ghost use Rattle.std.specs.Prelude.{◌≡◌, string_bytes};
 
 use std::alloc::{AllocError, Global};
 use ulfm_command_line::{Remark, Reply, holds_at};
-use ulfm_list::Listed;
+use ulfm_outcomes_list::Listed;
 use ulfm_reader::{Proviso, Reading};
 
 /// A reply, and beside what standard error tells with it, what holds at none of these places. Nothing is told where a growth was refused.

@@ -13,7 +13,7 @@ use crate::unheld::push_unheld;
 use crate::unwanted::filed;
 use std::alloc::{AllocError, Global};
 use ulfm_command_line::{Extent, Place, Remark, StepTold, Verdict, Where, stopped_at};
-use ulfm_list::{Judgement, Listed, Told, Unmet};
+use ulfm_outcomes_list::{Judgement, Listed, Told, Unmet};
 use ulfm_outcomes_spec::Finder;
 use ulfm_reach::{Rows, Watch};
 use ulfm_reader::Reading;

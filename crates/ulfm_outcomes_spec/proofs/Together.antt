@@ -17,10 +17,10 @@ use Rattle.ulfm_answer.specs.declared.told_answer.ToldAnswer.{ToldAnswer}
 use Rattle.ulfm_world.specs.World.{World, IsInside, no_player, player_at}
 use Rattle.ulfm_outcomes_spec.specs.Goals.{IsPossible, StandsOpen, is_answered}
 use Rattle.ulfm_outcomes_spec.specs.Outcomes.{IsWholeList}
-use Rattle.ulfm_list.specs.declared.goals.Goals.{Goals}
-use Rattle.ulfm_list.specs.declared.open_step.OpenStep.{OpenStep}
+use Rattle.ulfm_outcomes_list.specs.declared.goals.Goals.{Goals}
+use Rattle.ulfm_outcomes_list.specs.declared.open_step.OpenStep.{OpenStep}
 use Rattle.ulfm_outcomes_spec.proofs.Open.{some_there}
-use Rattle.ulfm_list.specs.Goals.{begins_told, has_each, tells, tells_open}
+use Rattle.ulfm_outcomes_list.specs.Goals.{begins_told, has_each, tells, tells_open}
 
 -- an answered step is that of a rank of the world
 inside : (w : World) (c : Clause) → is_answered w c ≡ true → IsInside w c.rank

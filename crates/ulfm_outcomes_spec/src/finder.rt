@@ -9,7 +9,7 @@ ghost use Rattle.ulfm_outcomes_spec.specs.Told.{IsLook};
 use std::alloc::Global;
 use ulfm_base::OutOfMemory;
 use ulfm_job::Job;
-use ulfm_list::{Goals, Told};
+use ulfm_outcomes_list::{Goals, Told};
 use ulfm_reach::{Reach, Watch};
 
 /// Finds what the steps of a job may be answered, and schedules that show answers. `ulfm_outcomes` has the one of the program. What is

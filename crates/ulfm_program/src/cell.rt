@@ -3,7 +3,7 @@
 use std::alloc::{AllocError, Global};
 use ulfm_answer::{ToldAnswer, push_told};
 use ulfm_job::Job;
-use ulfm_list::{code_at, is_expected};
+use ulfm_outcomes_list::{code_at, is_expected};
 use ulfm_reach::Rows;
 
 /// What a step comes to at a place.

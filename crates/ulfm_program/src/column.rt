@@ -6,7 +6,7 @@ use crate::unwanted::{Unwanted, unwanted_at};
 use std::alloc::{AllocError, Global};
 use ulfm_command_line::{Place, stopped_at};
 use ulfm_job::Job;
-use ulfm_list::number_at;
+use ulfm_outcomes_list::number_at;
 use ulfm_outcomes_reply::Search;
 use ulfm_outcomes_spec::Finder;
 use ulfm_reach::{Reach, Reached};

@@ -8,7 +8,7 @@ use ulfm_command_line::is_looked_at;
 use ulfm_draw::drawn;
 use ulfm_job::Clause;
 use ulfm_forms::Style;
-use ulfm_list::{Goals, OpenStep, Told, filed_number, has_each, number_at};
+use ulfm_outcomes_list::{Goals, OpenStep, Told, filed_number, has_each, number_at};
 use ulfm_outcomes_reply::{Search, open_goals};
 use ulfm_outcomes_spec::{Finder, first_unmet};
 use ulfm_reach::Rows;

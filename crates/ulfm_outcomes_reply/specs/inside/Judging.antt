@@ -4,18 +4,18 @@ use Rattle.ulfm_job.specs.declared.clause.Clause.{Clause}
 use Rattle.ulfm_job.specs.Job.{JobView}
 use Rattle.ulfm_job.specs.Place.{IsPlaceOf, job_at}
 use Rattle.ulfm_job.specs.declared.place.Place.{Place}
-use Rattle.ulfm_list.specs.Union.{some_never_ends}
-use Rattle.ulfm_list.specs.declared.place_list.Listed.{Listed}
+use Rattle.ulfm_outcomes_list.specs.Union.{some_never_ends}
+use Rattle.ulfm_outcomes_list.specs.declared.place_list.Listed.{Listed}
 use Rattle.ulfm_outcomes_reply.specs.declared.lists.Lists.{Lists}
 use Rattle.ulfm_forms.specs.declared.form.Form.{Form}
 use Rattle.ulfm_command_line.specs.Stopped.{Asked, asked_at}
 use Rattle.ulfm_command_line.specs.declared.command.ListOptions.{ListOptions}
 use Rattle.ulfm_command_line.specs.declared.reply.Reply.{Reply}
 use Rattle.ulfm_outcomes_reply.specs.declared.finding.Finding.{Finding}
-use Rattle.ulfm_list.specs.declared.judgement.Judgement.{Judgement}
-use Rattle.ulfm_list.specs.declared.judgement.Judgement.TheVariants.{NotKnown}
+use Rattle.ulfm_outcomes_list.specs.declared.judgement.Judgement.{Judgement}
+use Rattle.ulfm_outcomes_list.specs.declared.judgement.Judgement.TheVariants.{NotKnown}
 use Rattle.ulfm_outcomes_reply.specs.EachPlace.{IsFirstPicture, IsJudgedEach, IsToldAt, IsUndrawn, IsUnfound, places_in}
-use Rattle.ulfm_list.specs.Told.{more_at}
+use Rattle.ulfm_outcomes_list.specs.Told.{more_at}
 use Rattle.ulfm_command_line.specs.Wish.{ChoiceView}
 use Rattle.ulfm_outcomes_reply.specs.Chosen.{lists_in}
 use Rattle.ulfm_outcomes_reply.specs.Hangs.{judgement_of_all}
@@ -24,10 +24,10 @@ use Rattle.ulfm_outcomes_reply.specs.Outcomes.{list_status, nowhere_in}
 use Rattle.ulfm_outcomes_reply.specs.ShowEach.{AreGoalsAt, IsNowhereAt}
 use Rattle.ulfm_outcomes_reply.specs.Wanted.{HasList, IsToldOf, IsWanted}
 use Rattle.ulfm_outcomes_reply.specs.declared.show_each_place.LookAt.{LookAt}
-use Rattle.ulfm_list.specs.declared.search_result.Told.{Told}
+use Rattle.ulfm_outcomes_list.specs.declared.search_result.Told.{Told}
 use Rattle.ulfm_outcomes_spec.specs.Told.{IsLook}
 use Rattle.ulfm_outcomes_reply.specs.inside.Looking.{IsDrawnOf, IsLookText, look_status}
-use Rattle.ulfm_list.specs.declared.goals.Goals.{Goals}
+use Rattle.ulfm_outcomes_list.specs.declared.goals.Goals.{Goals}
 use Rattle.ulfm_forms.specs.declared.style.Style.{Style}
 
 -- so many threads share the places: as many as are asked for, and one at least, else 64 at most

@@ -6,7 +6,7 @@ use Rattle.ulfm_reach.specs.declared.reach.Reach.TheVariants.{More}
 use Rattle.ulfm_job.specs.declared.place.Place.{Place}
 use Rattle.ulfm_outcomes_reply.specs.Lists.{AreLists, IsListedAt, job_asked_at}
 use Rattle.ulfm_command_line.specs.Stopped.{Asked}
-use Rattle.ulfm_list.specs.declared.place_list.Listed.{Listed}
+use Rattle.ulfm_outcomes_list.specs.declared.place_list.Listed.{Listed}
 use Rattle.ulfm_outcomes_reply.specs.declared.lists.Lists.{Lists}
 
 -- the list of a place, or that the job has more states there than the limit

@@ -1,6 +1,6 @@
 use Rattle.std.proofs.Common.{ap, is_some, map, sym, ◌∙◌}
 use Rattle.std.proofs.lemmas.List.{drop_all}
-use Rattle.ulfm_list.specs.Listed.{step_view}
+use Rattle.ulfm_outcomes_list.specs.Listed.{step_view}
 use Rattle.ulfm_outcomes_reply.specs.Drawn.{first_left}
 use Rattle.ulfm_outcomes_reply.proofs.Picture.{left_here, left_on}
 use Rattle.ulfm_outcomes_reply.proofs.drawing.first_left.Goals as goal

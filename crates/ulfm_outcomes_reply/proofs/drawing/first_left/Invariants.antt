@@ -1,5 +1,5 @@
 use Rattle.std.proofs.Common.{◌≡◌, drop, map}
-use Rattle.ulfm_list.specs.Listed.{step_view}
+use Rattle.ulfm_outcomes_list.specs.Listed.{step_view}
 use Rattle.ulfm_outcomes_reply.specs.Drawn.{first_left}
 use Rattle.ulfm_outcomes_reply.proofs.drawing.first_left.Given as goal
 

@@ -1,7 +1,7 @@
 use Rattle.std.proofs.Common.{ℕ, List, [], ◌++◌, None, Some, ap, string_bytes, subst, sym, ◌∙◌}
 use Rattle.std.proofs.lemmas.List.{append-nil}
 use Rattle.std.proofs.lemmas.Result.{IfOk-weaker}
-use Rattle.ulfm_list.specs.declared.place_list.Listed.{Listed}
+use Rattle.ulfm_outcomes_list.specs.declared.place_list.Listed.{Listed}
 use Rattle.ulfm_command_line.specs.Stopped.{asked_view}
 use Rattle.ulfm_outcomes_reply.specs.EachPlace.{IsJudgedEach, places_in, wanted}
 use Rattle.ulfm_outcomes_reply.specs.inside.Judging.{AreListedOf, IsFirstUnwanted, lists_judgement, lists_status}

@@ -4,7 +4,7 @@ use Rattle.ulfm_job.specs.Place.{IsPlaceOf}
 use Rattle.ulfm_command_line.specs.Stopped.{asked_view}
 use Rattle.ulfm_command_line.specs.Wish.{choice_view}
 use Rattle.ulfm_job.specs.declared.place.Place.{Place}
-use Rattle.ulfm_list.specs.declared.place_list.Listed.{Listed}
+use Rattle.ulfm_outcomes_list.specs.declared.place_list.Listed.{Listed}
 use Rattle.ulfm_outcomes_reply.specs.EachPlace.{drawn_at_place, no_room_for_stops}
 use Rattle.ulfm_outcomes_reply.specs.Lists.{AreLists}
 use Rattle.ulfm_outcomes_reply.specs.inside.Judging.{AreListedOf, IsFirstDrawn}

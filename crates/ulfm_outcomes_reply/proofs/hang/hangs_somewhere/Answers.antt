@@ -2,9 +2,9 @@ use Rattle.std.proofs.Common.{Bool, Some, ap, map, sym, ◌∙◌}
 use Rattle.std.proofs.lemmas.List.{drop_all}
 use Rattle.std.proofs.lemmas.Option.{slice_get-get_or}
 use Rattle.std.specs.List.{list_any}
-use Rattle.ulfm_list.proofs.Any.{any_here, any_on}
-use Rattle.ulfm_list.specs.Listed.{step_view}
-use Rattle.ulfm_list.specs.declared.place_list.Listed.{Listed}
+use Rattle.ulfm_outcomes_list.proofs.Any.{any_here, any_on}
+use Rattle.ulfm_outcomes_list.specs.Listed.{step_view}
+use Rattle.ulfm_outcomes_list.specs.declared.place_list.Listed.{Listed}
 use Rattle.ulfm_command_line.specs.Stopped.{asked_view}
 use Rattle.ulfm_outcomes_reply.specs.Hangs.{hangs_at}
 use Rattle.ulfm_outcomes_reply.proofs.hang.hangs_somewhere.Goals as goal

@@ -1,8 +1,8 @@
 use Rattle.std.proofs.Common.{ℕ, List, ◌∙◌, ap, filter, map}
 use Rattle.std.proofs.lemmas.Result.{IfOk-weaker}
 use Rattle.std.specs.Borrow.{Bor}
-use Rattle.ulfm_list.specs.Listed.{StepView, step_view}
-use Rattle.ulfm_list.specs.declared.job_step.JobStep.{JobStep}
+use Rattle.ulfm_outcomes_list.specs.Listed.{StepView, step_view}
+use Rattle.ulfm_outcomes_list.specs.declared.job_step.JobStep.{JobStep}
 use Rattle.ulfm_reader.specs.declared.name.Name.{Name}
 use Rattle.ulfm_command_line.specs.Wish.{choice_view}
 use Rattle.ulfm_outcomes_reply.specs.Chosen.{is_chosen, parts_of}

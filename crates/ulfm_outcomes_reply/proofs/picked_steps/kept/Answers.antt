@@ -1,5 +1,5 @@
 use Rattle.std.proofs.Common.{Bool, List, [], ◌∷◌, ◌++◌, ◌∙◌, ap, cond, filter, map}
-use Rattle.ulfm_list.specs.Listed.{StepView, step_view}
+use Rattle.ulfm_outcomes_list.specs.Listed.{StepView, step_view}
 use Rattle.ulfm_command_line.specs.Wish.{choice_view}
 use Rattle.ulfm_outcomes_reply.specs.Chosen.{is_chosen}
 use Rattle.ulfm_outcomes_reply.proofs.Judged.{filter-more}

@@ -1,5 +1,5 @@
 use Rattle.std.proofs.Common.{◌≡◌, filter, map, take}
-use Rattle.ulfm_list.specs.Listed.{step_view}
+use Rattle.ulfm_outcomes_list.specs.Listed.{step_view}
 use Rattle.ulfm_command_line.specs.Wish.{choice_view}
 use Rattle.ulfm_outcomes_reply.specs.Chosen.{is_chosen}
 use Rattle.ulfm_outcomes_reply.proofs.picked_steps.kept.Given as goal

@@ -1,6 +1,6 @@
 use Rattle.std.proofs.Common.{[], map, string_bytes}
-use Rattle.ulfm_list.proofs.Lines.{one-more}
-use Rattle.ulfm_list.specs.Listed.{step_view}
+use Rattle.ulfm_outcomes_list.proofs.Lines.{one-more}
+use Rattle.ulfm_outcomes_list.specs.Listed.{step_view}
 use Rattle.ulfm_outcomes_reply.specs.Chosen.{labels}
 use Rattle.ulfm_outcomes_reply.proofs.picked_steps.labels_of.Goals as goal
 

@@ -1,6 +1,6 @@
 use Rattle.std.proofs.Common.{◌≡◌, map, string_bytes, take}
 use Rattle.std.specs.List.{flat_map}
-use Rattle.ulfm_list.specs.Listed.{step_view}
+use Rattle.ulfm_outcomes_list.specs.Listed.{step_view}
 use Rattle.ulfm_outcomes_reply.specs.Chosen.{labels}
 use Rattle.ulfm_outcomes_reply.proofs.picked_steps.labels_of.Given as goal
 

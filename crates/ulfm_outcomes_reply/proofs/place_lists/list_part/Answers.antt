@@ -4,7 +4,7 @@ use Rattle.ulfm_job.specs.declared.place.Place.TheVariants.{Nowhere}
 use Rattle.ulfm_command_line.specs.Stopped.{asked_view}
 use Rattle.ulfm_outcomes_reply.specs.inside.Parts.{IsListOf}
 use Rattle.ulfm_outcomes_reply.proofs.Joining.{goes_on-end, goes_on-past}
-use Rattle.ulfm_list.proofs.Telling.{drop-get_or}
+use Rattle.ulfm_outcomes_list.proofs.Telling.{drop-get_or}
 use Rattle.ulfm_outcomes_reply.proofs.place_lists.list_part.Goals as goal
 
 pub returns-in-None : goal.returns-in-None

@@ -1,7 +1,7 @@
 use Rattle.std.proofs.Common.{List, ap, string_bytes, subst, sym, ◌∙◌}
 use Rattle.std.proofs.lemmas.Result.{IfOk-weaker}
 use Rattle.ulfm_job.specs.declared.clause.Clause.{Clause}
-use Rattle.ulfm_list.specs.Goals.{AreOfClauses}
+use Rattle.ulfm_outcomes_list.specs.Goals.{AreOfClauses}
 use Rattle.ulfm_reader.specs.Goals.{goals_view}
 use Rattle.ulfm_command_line.specs.Stopped.{asked_view}
 use Rattle.ulfm_outcomes_reply.specs.Outcomes.{unnamed}

@@ -1,0 +1,7 @@
+use Rattle.std.proofs.Common.{◌≡◌, map, take}
+use Rattle.ulfm_outcomes_list.specs.Listed.{listed_view, step_view}
+use Rattle.ulfm_outcomes_list.specs.List.{listed_at}
+use Rattle.ulfm_outcomes_list.proofs.list_of_places.listed_steps.Given as goal
+
+abbrev pub invariant-loop-at : goal.invariant-loop-at
+invariant-loop-at l = map listed_view l.list.items ≡ map (listed_at l.job l.listed) (map step_view (take l.at-index l.steps))
