@@ -16,9 +16,9 @@ use clap::error::ErrorKind;
 use clap::{ArgMatches, Command, Error};
 use std::alloc::{AllocError, Global};
 use std::convert::AsStr;
+use ulfm_forms::{Form, Style, Wording};
 use ulfm_job::Place;
 use ulfm_job::limits::MOST_TURNS;
-use ulfm_forms::{Form, Style, Wording};
 
 /// What takes the items of a run from rank to rank.
 #[derive(Clone, Copy, Debug, PartialEq, Eq)]

@@ -10,8 +10,8 @@ ghost use Rattle.ulfm_command_line.specs.Expanded.{IsExpandReply, IsTextOf, docu
 use crate::reply::{DONE, Reply, refusal};
 use std::alloc::{AllocError, Global};
 use toml::{Table, Value};
-use ulfm_job::Job;
 use ulfm_forms::Form;
+use ulfm_job::Job;
 use ulfm_reader::{ReadJob, written_job};
 
 /// The reply of `expand`: the text of the job with its steps written out.

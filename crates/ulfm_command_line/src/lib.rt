@@ -78,8 +78,8 @@ pub use reply::{
     RUN_FAILED, Reply, UNFINISHED, USAGE, check_reply, refusal,
 };
 pub use settled_place::settled_place;
-pub use ulfm_job::Place;
 pub use ulfm_forms::{Form, Wording};
+pub use ulfm_job::Place;
 pub use unfollowed::{Unfollowed, asked_for};
 pub use unmet::push_unmet_answers;
 pub use verdict::{Extent, Verdict, Where};

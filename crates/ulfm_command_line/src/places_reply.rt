@@ -4,8 +4,8 @@ ghost use Rattle.ulfm_command_line.specs.Places.{IsPlacesReply, place_line_in, p
 
 use crate::reply::{DONE, Reply, refusal};
 use std::alloc::{AllocError, Global};
-use ulfm_job::{Job, JobFault, MOST_STEPS, Place, places};
 use ulfm_forms::Form;
+use ulfm_job::{Job, JobFault, MOST_STEPS, Place, places};
 use ulfm_reader::ReadJob;
 
 /// The reply of `places`, with at most so many stops, 1 or 2.

@@ -8,8 +8,8 @@ use crate::copied::copied_texts;
 use crate::holding::held_at;
 use crate::reply::{JOB_REFUSED, Reply, refusal};
 use std::alloc::{AllocError, Global};
-use ulfm_job::{Clause, JobFault, MOST_STEPS, Place, Stop};
 use ulfm_forms::Form;
+use ulfm_job::{Clause, JobFault, MOST_STEPS, Place, Stop};
 use ulfm_reader::{Filed, Name, ReadJob, Reading};
 
 /// What a text asks for, with the stops of a place, or the reply that its job is refused, or hasn't this place.

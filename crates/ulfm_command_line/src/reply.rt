@@ -5,8 +5,8 @@ ghost use Rattle.ulfm_command_line.specs.Replies.{fault_text, job_fault_json, jo
 use crate::remark::Remark;
 use std::alloc::{AllocError, Global};
 use std::fmt;
-use ulfm_job::{Fault, Job, JobFault};
 use ulfm_forms::Form;
+use ulfm_job::{Fault, Job, JobFault};
 use ulfm_reader::ReadJob;
 
 /// The statuses (docs/JSON.md).

@@ -10,8 +10,8 @@ use crate::place_names::place_named;
 use crate::remark::Remark;
 use crate::reply::{JOB_REFUSED, Reply, refusal};
 use std::alloc::{AllocError, Global};
-use ulfm_job::Place;
 use ulfm_forms::Form;
+use ulfm_job::Place;
 use ulfm_reader::{Name, ReadJob, Reading};
 
 /// The place that a text comes to in the job of these bytes, by the numbers and the names of steps, or the reply that it comes to none.

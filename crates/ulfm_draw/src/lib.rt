@@ -41,8 +41,8 @@ mod wrapping;
 
 pub use escaped::push_escaped;
 use std::alloc::{AllocError, Global};
-use ulfm_job::Job;
 use ulfm_forms::{Style, Wording};
+use ulfm_job::Job;
 use ulfm_schedule::Schedule;
 
 /// The picture of a schedule of a job, its calls and answers in these words, with a note on it, or none where that is empty.

@@ -8,8 +8,8 @@ use crate::row::Row;
 use crate::wait::Wait;
 use std::alloc::{AllocError, Global};
 use ulfm_answer::StepReport;
-use ulfm_job::Job;
 use ulfm_forms::{Wording, push_answer_in};
+use ulfm_job::Job;
 use ulfm_schedule::{Cargo, Deed, Move, Schedule, push_cargo};
 
 /// The picture of a schedule of a job, in these words, with a note on it.

@@ -5,8 +5,8 @@ use crate::kind::{Kind, kind_of};
 use crate::row::Row;
 use crate::wait::Wait;
 use std::alloc::{AllocError, Global};
-use ulfm_job::{Job, Step};
 use ulfm_forms::{Wording, push_call_in};
+use ulfm_job::{Job, Step};
 use ulfm_schedule::End;
 
 /// Moves in their order, items on their way, how ranks ended, and what they wait for.

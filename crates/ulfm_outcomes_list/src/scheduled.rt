@@ -10,8 +10,8 @@ use crate::events::{move_object, push_step_answered};
 use crate::waits::wait_object;
 use std::alloc::{AllocError, Global};
 use ulfm_answer::{StepAnswer, StepReport};
-use ulfm_job::NotedStep;
 use ulfm_forms::{push_ended, push_objects};
+use ulfm_job::NotedStep;
 use ulfm_reader::Reading;
 use ulfm_schedule::{Course, End, Move, Schedule, Wait};
 

@@ -7,8 +7,8 @@ use crate::Unmet;
 use crate::scheduled::push_schedule_json;
 use crate::worded_places::push_schedule_in;
 use std::alloc::AllocError;
-use ulfm_job::Place;
 use ulfm_forms::{Form, Wording};
+use ulfm_job::Place;
 use ulfm_reader::Reading;
 use ulfm_schedule::Schedule;
 

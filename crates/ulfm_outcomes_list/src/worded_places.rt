@@ -7,8 +7,8 @@ ghost use Rattle.ulfm_schedule.specs.Values.{wait_text};
 
 use std::alloc::AllocError;
 use ulfm_answer::{StepAnswer, push_closing};
-use ulfm_job::{Job, NotedStep};
 use ulfm_forms::{Wording, push_answer_in, push_call_at, push_line_in, push_lines_in};
+use ulfm_job::{Job, NotedStep};
 use ulfm_schedule::{
     Cargo, Course, Deed, End, Move, Schedule, Wait, push_cargo, push_schedule, push_wait,
 };

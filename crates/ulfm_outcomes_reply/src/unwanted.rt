@@ -20,7 +20,9 @@ use crate::verdicts::{row_remarks, unmet_remarks, where_of};
 use std::alloc::AllocError;
 use ulfm_command_line::{NOT_EXPECTED, Place, Reply, stopped_at};
 use ulfm_job::Job;
-use ulfm_outcomes_list::{Goals, Judgement, Listed, Told, Unmet, filed_number, push_row, push_unmet};
+use ulfm_outcomes_list::{
+    Goals, Judgement, Listed, Told, Unmet, filed_number, push_row, push_unmet,
+};
 use ulfm_outcomes_spec::{Finder, first_unmet};
 use ulfm_reach::{Rows, Watch};
 use ulfm_reader::Reading;

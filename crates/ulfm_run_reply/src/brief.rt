@@ -7,8 +7,8 @@ ghost use Rattle.ulfm_run_reply.specs.Brief.{begins, common_line, counted_line, 
 
 use crate::tally::{Counted, count_text, push_row};
 use std::alloc::{AllocError, Global};
-use ulfm_job::Job;
 use ulfm_forms::Form;
+use ulfm_job::Job;
 
 /// What so many runs of a job have in common, and what each of their other lines is counted.
 pub fn brief_text(

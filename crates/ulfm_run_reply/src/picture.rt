@@ -7,8 +7,8 @@ use crate::turns::given_turns;
 use std::alloc::{AllocError, Global};
 use ulfm_command_line::{DONE, Place, Reply, asked_at};
 use ulfm_draw::drawn;
-use ulfm_job::Job;
 use ulfm_forms::{Form, Style, Wording};
+use ulfm_job::Job;
 use ulfm_replay::{Played, replay_in_order};
 use ulfm_schedule::replayed;
 

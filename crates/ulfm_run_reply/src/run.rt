@@ -26,8 +26,8 @@ use ulfm_base::CallError;
 use ulfm_board::{Decider, Seat, seats};
 use ulfm_carrier::{Ends, LaneEnds, SharedEnds, lanes, shared};
 use ulfm_command_line::{Carrier, Failure, Reply, RunOptions, asked_at, failed};
-use ulfm_job::Job;
 use ulfm_forms::Form;
+use ulfm_job::Job;
 use ulfm_run::{Report, fits, run_job};
 use ulfm_script::RankReport;
 

@@ -4,8 +4,8 @@ ghost use Rattle.ulfm_run_reply.specs.Sweep.{IsSweepReply, sweep_in, sweep_json,
 
 use std::alloc::{AllocError, Global};
 use ulfm_command_line::{DONE, Reply, refusal};
-use ulfm_job::Job;
 use ulfm_forms::Form;
+use ulfm_job::Job;
 use ulfm_reader::ReadJob;
 use ulfm_replay::{SweepFault, SweepLine, sweep};
 

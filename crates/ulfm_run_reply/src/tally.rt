@@ -23,8 +23,8 @@ use std::alloc::{AllocError, Global};
 use std::sync::Wait;
 use std::thread::Threads;
 use ulfm_command_line::{Carrier, Failure, Remark, Reply};
-use ulfm_job::Job;
 use ulfm_forms::Form;
+use ulfm_job::Job;
 use ulfm_reader::Reading;
 use ulfm_script::RankReport;
 

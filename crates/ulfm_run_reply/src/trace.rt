@@ -12,8 +12,8 @@ use crate::traced::trace_in;
 use std::alloc::{AllocError, Global};
 use ulfm_answer::{StepAnswer, StepReport};
 use ulfm_command_line::{DONE, NOT_EXPECTED, Reply, UNFINISHED};
-use ulfm_job::Job;
 use ulfm_forms::Form;
+use ulfm_job::Job;
 use ulfm_reader::Reading;
 use ulfm_script::RankReport;
 

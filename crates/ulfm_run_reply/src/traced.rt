@@ -9,8 +9,8 @@ ghost use Rattle.std.specs.List.{flat_map};
 use std::alloc::{AllocError, Global};
 use ulfm_answer::push_closing;
 use ulfm_base::OutOfMemory;
-use ulfm_job::Job;
 use ulfm_forms::{Form, Wording, push_end, push_lines_in, push_steps};
+use ulfm_job::Job;
 use ulfm_reader::Name;
 use ulfm_script::{RankReport, trace_text};
 
