@@ -8,6 +8,7 @@ use crate::refusal_cause::Doom;
 use crate::rules::{Key, Rules};
 use std::fmt;
 use toml::de::Error;
+use ulfm_job::Op;
 use ulfm_job::limits::{
     FEWEST_OF_ROW, MOST_BYTES, MOST_ITEMS, MOST_LABEL, MOST_NAME, MOST_OF_ROW, MOST_STEPS,
     MOST_WORDS,
@@ -48,7 +49,7 @@ pub enum Cause {
     /// A number out of its range.
     OutOfRange(Key, i64, Kind),
     /// An op that there isn't, and the nearest one.
-    UnknownOp(Shown, Option<&'static str>),
+    UnknownOp(Shown, Option<Op>),
     /// A call of MPI that no op does, and what a job has in its place.
     NoOp(Shown, &'static str),
     /// A text that can't be a name.
@@ -68,7 +69,7 @@ pub enum Cause {
     /// So many conditions that have to hold together by `on_error`, where 16 are the most.
     Together(usize),
     /// Words with which no answer of this op begins.
-    NoAnswer(Key, Shown, &'static str),
+    NoAnswer(Key, Shown, Op),
     /// Words with which no answer of a receive begins, but one of its wait.
     OfWait(Key, Shown),
     /// So many rows of `never`, where 1 to 1024 may be.
@@ -160,7 +161,7 @@ impl Cause {
             Cause::UnknownOp(word, nearest) => Line::Three(
                 "op '{}' is unknown{} the ops are {}",
                 Part::Text(word.as_str()),
-                Part::Meant(*nearest),
+                Part::Meant(nearest.map(|op| op.name())),
                 Part::Ops,
             ),
             Cause::NoOp(word, instead) => Line::Three(
@@ -213,14 +214,14 @@ impl Cause {
                 "key '{}' has '{}', and no answer of '{}' begins so; its answers begin with {}",
                 Part::Key(*key),
                 Part::Text(words.as_str()),
-                Part::Text(*op),
+                Part::Op(*op),
                 Part::Beginnings(*op, *key),
             ),
             Cause::OfWait(key, words) => Line::Three(
                 "key '{}' has '{}', and no answer of 'recv' begins so, but one of its 'wait': ask that step; the answers of 'recv' begin with {}",
                 Part::Key(*key),
                 Part::Text(words.as_str()),
-                Part::Beginnings("recv", *key),
+                Part::Beginnings(Op::Recv, *key),
             ),
             Cause::Rows(count) => Line::Two(
                 "key 'never' has {} rows, and has to have 1 to {}",

@@ -4,10 +4,10 @@ use crate::answers::{beginnings, comes};
 use crate::excerpt::Shown;
 use crate::kind::Kind;
 use crate::numbered_step::Numbered;
-use crate::ops::OPS;
 use crate::rules::{Key, Rules};
 use std::fmt;
 use toml::de::Error;
+use ulfm_job::{OPS, Op};
 
 /// What stands in a line.
 #[derive(Clone, Copy)]
@@ -20,14 +20,16 @@ pub enum Part<'a> {
     Text(&'a str),
     /// What to write in place of a word, where there is a word like it.
     Meant(Option<&'a str>),
+    /// The name of an op.
+    Op(Op),
     /// The ops.
     Ops,
     /// How an answer of a step with this op may begin, for which words at this key ask.
-    Beginnings(&'static str, Key),
+    Beginnings(Op, Key),
     /// A step by its number, and its name, where it has one.
     Step(usize, Option<&'a str>),
     /// An op behind its article.
-    An(&'static str),
+    An(Op),
     /// The op that makes this communicator, and from which.
     Maker(i64),
     /// Why a text is no TOML, and what stands there, if there is anything.
@@ -83,6 +85,7 @@ impl fmt::Display for Part<'_> {
             Part::Count(count) => write!(f, "{count}"),
             Part::Text(text) => f.write_str(text),
             Part::Meant(word) => write_meant(f, word),
+            Part::Op(op) => f.write_str(op.name()),
             Part::Ops => write_ops(f),
             Part::Beginnings(op, key) => write_beginnings(f, op, key),
             Part::Step(number, name) => write!(f, "{}", Numbered { number, name }),
@@ -105,7 +108,7 @@ fn write_meant<W: fmt::Write>(f: &mut fmt::Formatter<W>, word: Option<&str>) -> 
 fn write_ops<W: fmt::Write>(f: &mut fmt::Formatter<W>) -> fmt::Result {
     let mut mark = "";
     for op in OPS {
-        write!(f, "{mark}{}", op.rules.owner)?;
+        write!(f, "{mark}{}", op.name())?;
         mark = ", ";
     }
     Ok(())
@@ -114,7 +117,7 @@ fn write_ops<W: fmt::Write>(f: &mut fmt::Formatter<W>) -> fmt::Result {
 /// Writes those of these words with which answers of an op come, parted by commas, the first behind this.
 fn write_listed<W: fmt::Write>(
     f: &mut fmt::Formatter<W>,
-    op: &str,
+    op: Op,
     first: &str,
     words: &[&'static str],
 ) -> fmt::Result {
@@ -129,11 +132,7 @@ fn write_listed<W: fmt::Write>(
 }
 
 /// Writes how an answer of a step with this op may begin, for which words at this key ask.
-fn write_beginnings<W: fmt::Write>(
-    f: &mut fmt::Formatter<W>,
-    op: &'static str,
-    key: Key,
-) -> fmt::Result {
+fn write_beginnings<W: fmt::Write>(f: &mut fmt::Formatter<W>, op: Op, key: Key) -> fmt::Result {
     let mut mark = "";
     for words in beginnings(op, key) {
         write_listed(f, op, mark, words)?;
@@ -145,17 +144,17 @@ fn write_beginnings<W: fmt::Write>(
 }
 
 /// Writes an op behind its article.
-fn write_an<W: fmt::Write>(f: &mut fmt::Formatter<W>, op: &str) -> fmt::Result {
-    let has_vowel = op.starts_with('a') || op == "mrecv";
+fn write_an<W: fmt::Write>(f: &mut fmt::Formatter<W>, op: Op) -> fmt::Result {
+    let has_vowel = matches!(op, Op::Ack | Op::Agree | Op::Mrecv);
     let article = if has_vowel { "an" } else { "a" };
-    write!(f, "{article} {op}")
+    write!(f, "{article} {}", op.name())
 }
 
 /// Writes the op that makes a communicator, and from which.
 fn write_maker<W: fmt::Write>(f: &mut fmt::Formatter<W>, comm: i64) -> fmt::Result {
     let parent = comm.saturating_sub(1) / 2;
-    let op = if comm % 2 == 1 { "dup" } else { "shrink" };
-    write!(f, "a {op} of {parent}")
+    let op = if comm % 2 == 1 { Op::Dup } else { Op::Shrink };
+    write!(f, "a {} of {parent}", op.name())
 }
 
 /// Writes why a text is no TOML, and what stands there, if there is anything.

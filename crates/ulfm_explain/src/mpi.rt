@@ -1,43 +1,48 @@
 //! MPI's own words, for those who know them better than a job's.
 
+use crate::rules::Key;
 use crate::walk::after;
+use ulfm_job::Op;
 
 /// What MPI puts in front of the names of its calls.
 const PREFIXES: &[&str] = &["MPI_", "MPIX_", "Comm_", "comm_"];
 
-/// A word of MPI, of ULFM or of programs that use them, and the op or the key that a job has for it. Those that two edits lead to needn't
-/// stand here.
-const WORDS: &[(&str, &str)] = &[
-    ("receive", "recv"),
-    ("waitall", "wait"),
-    ("waitany", "wait"),
-    ("waitsome", "wait"),
-    ("test", "wait"),
-    ("barrier", "agree"),
-    ("duplicate", "dup"),
-    ("get_failed", "failed"),
-    ("failure_get_acked", "failed"),
-    ("ack_failed", "ack"),
-    ("failure_ack", "ack"),
-    ("abort", "stop"),
-    ("kill", "stop"),
-    ("exit", "stop"),
-    ("_exit", "stop"),
-    ("raise", "stop"),
-    ("pcontrol", "note"),
-    ("print", "note"),
-    ("dest", "to"),
-    ("destination", "to"),
-    ("source", "from"),
-    ("peer", "to"),
-    ("peer", "from"),
-    ("buf", "body"),
-    ("buffer", "body"),
-    ("data", "body"),
-    ("count", "room"),
-    ("request", "req"),
-    ("communicator", "comm"),
-    ("size", "ranks"),
+/// A word of MPI, of ULFM or of programs that use them, and the op that a job has for it. Those that two edits lead to needn't stand here.
+const OF_OPS: &[(&str, Op)] = &[
+    ("receive", Op::Recv),
+    ("waitall", Op::Wait),
+    ("waitany", Op::Wait),
+    ("waitsome", Op::Wait),
+    ("test", Op::Wait),
+    ("barrier", Op::Agree),
+    ("duplicate", Op::Dup),
+    ("get_failed", Op::Failed),
+    ("failure_get_acked", Op::Failed),
+    ("ack_failed", Op::Ack),
+    ("failure_ack", Op::Ack),
+    ("abort", Op::Stop),
+    ("kill", Op::Stop),
+    ("exit", Op::Stop),
+    ("_exit", Op::Stop),
+    ("raise", Op::Stop),
+    ("pcontrol", Op::Note),
+    ("print", Op::Note),
+];
+
+/// The same of keys.
+const OF_KEYS: &[(&str, Key)] = &[
+    ("dest", Key::To),
+    ("destination", Key::To),
+    ("source", Key::From),
+    ("peer", Key::To),
+    ("peer", Key::From),
+    ("buf", Key::Body),
+    ("buffer", Key::Body),
+    ("data", Key::Body),
+    ("count", Key::Room),
+    ("request", Key::Req),
+    ("communicator", Key::Comm),
+    ("size", Key::Ranks),
 ];
 
 /// The collectives that a job has no op for.
@@ -96,12 +101,22 @@ pub fn bare(name: &str) -> &str {
     rest
 }
 
-/// Whether an op or a key says what a word of MPI does, in letters of either case.
-pub fn says(own: &str, word: &str) -> bool {
-    for (theirs, ours) in WORDS {
-        if *ours == own && theirs.eq_ignore_ascii_case(word) {
+/// Whether a word of MPI is that of an op, in letters of either case.
+pub fn says_op(op: Op, word: &str) -> bool {
+    for (theirs, ours) in OF_OPS {
+        if *ours == op && theirs.eq_ignore_ascii_case(word) {
             return true;
         }
     }
-    own.eq_ignore_ascii_case(word)
+    op.name().eq_ignore_ascii_case(word)
+}
+
+/// Whether a word of MPI is that of a key.
+pub fn says_key(key: Key, word: &str) -> bool {
+    for (theirs, ours) in OF_KEYS {
+        if *ours == key && theirs.eq_ignore_ascii_case(word) {
+            return true;
+        }
+    }
+    key.name().eq_ignore_ascii_case(word)
 }

@@ -1,32 +1,45 @@
 //! The nearest word to a misspelt one, or to one of MPI's own.
 
-use crate::mpi::{bare, says};
-use crate::ops::OPS;
+use crate::mpi::{bare, says_key, says_op};
 use crate::rules::{Key, Rules};
 use std::alloc::{AllocError, Global};
 use strsim::osa_distance;
+use ulfm_job::{OPS, Op};
 
 /// The most letters of a word that is compared, and the most edits to the nearest word.
 const MOST_LETTERS: usize = 20;
 
 const MOST_EDITS: usize = 2;
 
-/// How many edits lead from a word to one of a job, where it is few: fewer than the letters of either word. None are from a word of MPI
-/// to that which says it.
+/// How many edits lead from a word to one of a job, where it is few: fewer than the letters of either word.
 fn edits(alloc: Global, word: &str, to: &str) -> Result<Option<usize>, AllocError> {
-    let from = bare(word);
-    if says(to, from) {
-        return Ok(Some(0));
-    }
-    if from.len() > MOST_LETTERS {
+    if word.len() > MOST_LETTERS {
         return Ok(None);
     }
-    let count = osa_distance(alloc, from, to)?;
-    if count <= MOST_EDITS && count < from.len() && count < to.len() {
+    let count = osa_distance(alloc, word, to)?;
+    if count <= MOST_EDITS && count < word.len() && count < to.len() {
         Ok(Some(count))
     } else {
         Ok(None)
     }
+}
+
+/// How many lead to a key. None do from a word of MPI that says it.
+fn edits_to_key(alloc: Global, word: &str, key: Key) -> Result<Option<usize>, AllocError> {
+    let from = bare(word);
+    if says_key(key, from) {
+        return Ok(Some(0));
+    }
+    edits(alloc, from, key.name())
+}
+
+/// How many lead to an op. None do from a word of MPI that says it.
+fn edits_to_op(alloc: Global, word: &str, op: Op) -> Result<Option<usize>, AllocError> {
+    let from = bare(word);
+    if says_op(op, from) {
+        return Ok(Some(0));
+    }
+    edits(alloc, from, op.name())
 }
 
 /// The key of a table that is nearest to a word.
@@ -35,7 +48,7 @@ pub fn nearest_key(alloc: Global, word: &str, rules: &Rules) -> Result<Option<Ke
     let mut least = usize::MAX;
     let own = rules.required.iter().chain(rules.optional.iter());
     for key in own.chain(rules.asking.iter()) {
-        if let Some(count) = edits(alloc, word, key.name())? {
+        if let Some(count) = edits_to_key(alloc, word, *key)? {
             if count < least {
                 least = count;
                 nearest = Some(*key);
@@ -46,15 +59,14 @@ pub fn nearest_key(alloc: Global, word: &str, rules: &Rules) -> Result<Option<Ke
 }
 
 /// The op that is nearest to a word.
-pub fn nearest_op(alloc: Global, word: &str) -> Result<Option<&'static str>, AllocError> {
+pub fn nearest_op(alloc: Global, word: &str) -> Result<Option<Op>, AllocError> {
     let mut nearest = None;
     let mut least = usize::MAX;
     for op in OPS {
-        let name = op.rules.owner;
-        if let Some(count) = edits(alloc, word, name)? {
+        if let Some(count) = edits_to_op(alloc, word, op)? {
             if count < least {
                 least = count;
-                nearest = Some(name);
+                nearest = Some(op);
             }
         }
     }

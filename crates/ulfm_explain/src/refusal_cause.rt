@@ -2,6 +2,7 @@
 
 use crate::line::{Line, Part};
 use crate::rules::Key;
+use ulfm_job::Op;
 use ulfm_job::limits::{LAST_COMM, MOST_BODY};
 
 /// The last communicator that can be duplicated or shrunk.
@@ -19,9 +20,9 @@ pub enum Doom {
     /// A communicator that the earlier step of this number revokes.
     Revoked(i64, usize),
     /// A communicator of which none can be made any more, by this op.
-    NoContext(i64, &'static str),
+    NoContext(i64, Op),
     /// The same op on the same communicator as the earlier step of this number.
-    Again(i64, &'static str, usize),
+    Again(i64, Op, usize),
     /// A `req` that names a step that its rank doesn't have.
     NoSuchStep(i64),
     /// A `req` that names its own step.
@@ -29,11 +30,11 @@ pub enum Doom {
     /// A `req` that names a later step.
     Later(usize),
     /// A `req` that has to name a step with the first op, and names one with the second.
-    AnotherOp(usize, &'static str, &'static str),
+    AnotherOp(usize, Op, Op),
     /// A `req` that names a step with this op, which will be refused itself.
-    RefusedStep(usize, &'static str),
+    RefusedStep(usize, Op),
     /// A `req` of which the earlier step with this op and number leaves nothing.
-    UsedUp(i64, &'static str, usize),
+    UsedUp(i64, Op, usize),
 }
 
 impl Doom {
@@ -98,12 +99,12 @@ impl Doom {
                 "key 'comm' is {}, and {} is the last of which there is a {}",
                 Part::Number(comm),
                 Part::Number(LAST_PARENT),
-                Part::Text(op),
+                Part::Op(op),
             ),
             Doom::Again(comm, op, number) => Line::Three(
                 "{} of its rank is a {} of communicator {} too, and one is the most",
                 Part::Step(number, name),
-                Part::Text(op),
+                Part::Op(op),
                 Part::Number(comm),
             ),
             Doom::NoSuchStep(req) => Line::Two(
@@ -124,13 +125,13 @@ impl Doom {
                 "key 'req' is {}, and {} of its rank is no {} but {}",
                 Part::Count(number),
                 Part::Step(number, name),
-                Part::Text(wanted),
+                Part::Op(wanted),
                 Part::An(op),
             ),
             Doom::RefusedStep(number, op) => Line::Three(
                 "key 'req' is {}, and the {} that is {} of its rank will be refused",
                 Part::Count(number),
-                Part::Text(op),
+                Part::Op(op),
                 Part::Step(number, name),
             ),
             Doom::UsedUp(req, op, number) => Line::Three(

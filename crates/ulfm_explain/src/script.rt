@@ -1,12 +1,11 @@
 //! The steps of one rank.
 
 use crate::keys::text_at;
-use crate::ops::op_named;
 use crate::rules::Key;
 use crate::steps::rank_of;
 use std::alloc::{AllocError, Global};
 use toml::Value;
-use ulfm_job::Label;
+use ulfm_job::{Label, Op};
 use ulfm_reader::is_name;
 
 /// The steps of one rank, among those of the file.
@@ -24,6 +23,11 @@ impl<'a> Script<'a> {
             .iter()
             .filter(|step| rank_of(*step) == Some(self.rank));
         of_rank.nth(number)
+    }
+
+    /// The op of the step of this number, if it is known.
+    pub fn op(&self, number: usize) -> Option<Op> {
+        op_of(self.step(number)?)
     }
 
     /// The number of the first step with this name among so many.
@@ -66,9 +70,8 @@ pub fn is_label(text: &str) -> bool {
 }
 
 /// The op of a step, if it is known.
-pub fn op_of(step: &Value) -> Option<&'static str> {
-    let op = op_named(text_at(step.as_table()?, Key::Op)?)?;
-    Some(op.rules.owner)
+pub fn op_of(step: &Value) -> Option<Op> {
+    Op::named(text_at(step.as_table()?, Key::Op)?)
 }
 
 /// Whether a step has a condition.

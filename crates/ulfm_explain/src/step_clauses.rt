@@ -7,15 +7,17 @@ use crate::explanation::StepPlace;
 use crate::findings::Findings;
 use crate::keys::{Sheet, text_at};
 use crate::rules::{Key, Rules, all_rules, condition_rules, expect_rules};
-use crate::script::{Script, is_label, op_of};
+use crate::script::{Script, is_label};
 use std::alloc::AllocError;
 use toml::{Table, Value};
+use ulfm_job::Op;
 use ulfm_job::limits::{MOST_ITEMS, MOST_WORDS};
 use ulfm_reader::is_name;
 
 /// A step whose rank can be read, and where it stands.
 #[derive(Clone, Copy)]
 struct Asker<'a> {
+    op: Op,
     sheet: &'a Sheet<'a>,
     place: StepPlace,
     script: Script<'a>,
@@ -28,12 +30,14 @@ pub fn explain_asking<'a>(
     findings: &mut Findings<'_>,
     steps: &'a [Value],
     place: StepPlace,
+    op: Op,
     sheet: &'a Sheet<'a>,
 ) -> Result<(), AllocError> {
     let Some((rank, number)) = place.of_rank else {
         return Ok(());
     };
     let asker = Asker {
+        op,
         sheet,
         place,
         script: Script { steps, rank },
@@ -200,11 +204,7 @@ impl Asker<'_> {
         let Some(earlier) = earlier else {
             return self.tell(findings, Key::If, Cause::NotEarlier(number));
         };
-        let op = match self.script.step(earlier) {
-            Some(step) => op_of(step),
-            None => None,
-        };
-        match (op, is, not) {
+        match (self.script.op(earlier), is, not) {
             (Some(op), Some(words), _) => self.explain_words(findings, Key::If, Key::Is, op, words),
             (Some(op), None, Some(words)) => {
                 self.explain_words(findings, Key::If, Key::Not, op, words)
@@ -219,14 +219,13 @@ impl Asker<'_> {
             return Ok(());
         };
         let sheet = self.sheet;
-        let op = sheet.rules.owner;
         if let Some(table) = value.as_table() {
-            return self.explain_expected(findings, op, table);
+            return self.explain_expected(findings, table);
         }
         if !value.is_array() {
             return sheet.explain_kind(findings, Key::Expect, value);
         }
-        self.explain_words(findings, Key::Expect, Key::Expect, op, value)
+        self.explain_words(findings, Key::Expect, Key::Expect, self.op, value)
     }
 
     /// Tells of the keys of what it expects only before the steps of a name.
@@ -240,11 +239,10 @@ impl Asker<'_> {
         sheet.explain_unknown(findings)
     }
 
-    /// Tells what is wrong with what it expects only before the steps of a name, of a step of this op.
+    /// Tells what is wrong with what it expects only before the steps of a name.
     fn explain_expected(
         &self,
         findings: &mut Findings<'_>,
-        op: &'static str,
         table: &Table,
     ) -> Result<(), AllocError> {
         self.explain_expected_keys(findings, table)?;
@@ -255,7 +253,7 @@ impl Asker<'_> {
             }
         }
         match table.get("is") {
-            Some(words) => self.explain_words(findings, Key::Expect, Key::Expect, op, words),
+            Some(words) => self.explain_words(findings, Key::Expect, Key::Expect, self.op, words),
             None => Ok(()),
         }
     }
@@ -266,7 +264,7 @@ impl Asker<'_> {
         findings: &mut Findings<'_>,
         at: Key,
         key: Key,
-        op: &'static str,
+        op: Op,
         value: &Value,
     ) -> Result<(), AllocError> {
         let Some(items) = value.as_array() else {

@@ -10,12 +10,12 @@ use crate::keys::{Sheet, integer_at, list_at, text_at};
 use crate::mpi::instead_of;
 use crate::nearest::nearest_op;
 use crate::never::explain_never;
-use crate::ops::op_named;
+use crate::ops::rules_of;
 use crate::rules::{Key, any_step_rules, job_rules};
 use crate::step_clauses::explain_asking;
 use std::alloc::AllocError;
 use toml::{Table, Value};
-use ulfm_job::MOST_STEPS;
+use ulfm_job::{MOST_STEPS, Op};
 use ulfm_reader::ranks_in;
 
 /// Tells what is wrong with a job: first with its own keys, then with each step, in the order of the file, then with its
@@ -110,11 +110,11 @@ fn explain_step(
     let Some(name) = text_at(table, Key::Op) else {
         return sheet.explain(findings);
     };
-    match op_named(name) {
+    match Op::named(name) {
         Some(op) => {
-            sheet.rules = op.rules;
+            sheet.rules = rules_of(op);
             sheet.explain(findings)?;
-            explain_asking(findings, steps, place, &sheet)
+            explain_asking(findings, steps, place, op, &sheet)
         }
         None => {
             explain_op(findings, place, name)?;

@@ -6,6 +6,7 @@ use crate::rules::Key;
 use crate::script::{Script, has_condition, op_of};
 use crate::steps::rank_of;
 use toml::Value;
+use ulfm_job::Op;
 use ulfm_job::limits::MOST_BODY;
 
 /// A step among those of its rank, in a job of so many ranks.
@@ -32,8 +33,8 @@ fn comm_of(step: &Value) -> i64 {
 fn makes(step: &Value, comm: i64) -> bool {
     let twice = comm_of(step).saturating_mul(2);
     match op_of(step) {
-        Some("dup") => twice.saturating_add(1) == comm,
-        Some("shrink") => twice.saturating_add(2) == comm,
+        Some(Op::Dup) => twice.saturating_add(1) == comm,
+        Some(Op::Shrink) => twice.saturating_add(2) == comm,
         _ => false,
     }
 }
@@ -78,18 +79,16 @@ impl<'a> Placed<'a> {
 
     /// Why it will be refused, if it surely will.
     pub fn doom(&self) -> Option<Doom> {
-        match op_of(self.step) {
-            Some("wait") => self.doom_of_req("recv", "cancel"),
-            Some("cancel") => self.doom_of_req("recv", "cancel"),
-            Some("mrecv") => self.doom_of_req("probe", "mrecv"),
-            Some(op) => self.doom_of_call(op),
-            None => None,
+        match op_of(self.step)? {
+            Op::Wait | Op::Cancel => self.doom_of_req(Op::Recv, Op::Cancel),
+            Op::Mrecv => self.doom_of_req(Op::Probe, Op::Mrecv),
+            op => self.doom_of_call(op),
         }
     }
 
     /// Why a call that names no earlier step will be refused.
-    fn doom_of_call(&self, op: &'static str) -> Option<Doom> {
-        if op == "note" || op == "stop" {
+    fn doom_of_call(&self, op: Op) -> Option<Doom> {
+        if matches!(op, Op::Note | Op::Stop) {
             return None;
         }
         self.doom_of_rank()
@@ -122,9 +121,9 @@ impl<'a> Placed<'a> {
 
     /// A communicator that isn't made, is revoked, or has its one duplicate or shrink. Where a step that makes it stands between,
     /// earlier calls on it say nothing, and neither does one that may be skipped.
-    fn doom_of_comm(&self, op: &'static str) -> Option<Doom> {
+    fn doom_of_comm(&self, op: Op) -> Option<Doom> {
         let comm = comm_of(self.step);
-        let is_making = op == "dup" || op == "shrink";
+        let is_making = matches!(op, Op::Dup | Op::Shrink);
         let mut is_made = comm == 0;
         let mut revoked = None;
         let mut again = None;
@@ -137,7 +136,7 @@ impl<'a> Placed<'a> {
             }
             if comm_of(earlier) == comm && !has_condition(earlier) {
                 let other = op_of(earlier);
-                if other == Some("revoke") {
+                if other == Some(Op::Revoke) {
                     revoked = Some(Doom::Revoked(comm, number));
                 }
                 if is_making && other == Some(op) {
@@ -151,7 +150,7 @@ impl<'a> Placed<'a> {
         if is_making && comm > LAST_PARENT {
             return Some(Doom::NoContext(comm, op));
         }
-        if op == "send" || op == "recv" || op == "probe" || op == "dup" {
+        if matches!(op, Op::Send | Op::Recv | Op::Probe | Op::Dup) {
             return revoked.or(again);
         }
         again
@@ -159,7 +158,7 @@ impl<'a> Placed<'a> {
 
     /// A `req` that names no step with the wanted op, none that comes earlier, one that will be refused, or one of which
     /// an earlier step with the last op leaves nothing.
-    fn doom_of_req(&self, wanted: &'static str, last: &'static str) -> Option<Doom> {
+    fn doom_of_req(&self, wanted: Op, last: Op) -> Option<Doom> {
         let req = self.req_of(self.step)?;
         let Ok(number) = usize::try_from(req) else {
             return None;
@@ -190,7 +189,7 @@ impl<'a> Placed<'a> {
     }
 
     /// The number of the earlier step of its rank that has this op and this `req`, and comes after the step that is named.
-    fn used_up_by(&self, req: i64, named: usize, op: &'static str) -> Option<usize> {
+    fn used_up_by(&self, req: i64, named: usize, op: Op) -> Option<usize> {
         for number in named..self.number {
             let earlier = self.sibling(number)?;
             if op_of(earlier) == Some(op)
@@ -206,5 +205,5 @@ impl<'a> Placed<'a> {
 
 /// Whether a step is a stop that is never skipped.
 fn is_sure_stop(step: &Value) -> bool {
-    op_of(step) == Some("stop") && !has_condition(step)
+    op_of(step) == Some(Op::Stop) && !has_condition(step)
 }

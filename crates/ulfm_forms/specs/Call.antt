@@ -3,6 +3,7 @@ use Rattle.std.specs.Prelude.{ℕ, List, [], ◌++◌, Option, Some, None, codes
 use Rattle.std.specs.Fmt.{decimal}
 use Rattle.ulfm_base.specs.declared.context.Context.{Context}
 use Rattle.ulfm_base.specs.declared.tag.Tag.{Tag}
+use Rattle.ulfm_job.specs.Ops.{op_name, op_of}
 use Rattle.ulfm_job.specs.declared.step.Step.{Step}
 use Rattle.ulfm_job.specs.declared.step.Step.TheVariants.{Send, Recv, Wait, Probe, Mrecv, Cancel, Failed, Ack, Revoke, Dup, Shrink, Agree, Note, Stop}
 
@@ -23,23 +24,6 @@ comm_json comm = codes ",\"comm\":" ++ decimal comm.number
 -- the keys of what is sought: a source, a tag, and a communicator
 abbrev pub sought_json : Option ℕ → Option Tag → Context → List ℕ
 sought_json source tag comm = from_json source ++ tag_json tag ++ comm_json comm
-
--- the op of a step
-abbrev pub op_text : Step → List ℕ
-op_text (Send to tag body comm) = codes "send"
-op_text (Recv source tag room comm) = codes "recv"
-op_text (Wait req) = codes "wait"
-op_text (Probe source tag comm) = codes "probe"
-op_text (Mrecv req room) = codes "mrecv"
-op_text (Cancel req) = codes "cancel"
-op_text (Failed comm) = codes "failed"
-op_text (Ack count comm) = codes "ack"
-op_text (Revoke comm) = codes "revoke"
-op_text (Dup comm) = codes "dup"
-op_text (Shrink comm) = codes "shrink"
-op_text (Agree flag comm) = codes "agree"
-op_text (Note text) = codes "note"
-op_text Stop = codes "stop"
 
 -- the key of an earlier step
 abbrev pub req_json : ℕ → List ℕ
@@ -64,4 +48,4 @@ keys_json Stop = []
 
 -- the keys of a step: its op, and what the words of the step have
 abbrev pub call_json : Step → List ℕ
-call_json step = codes "\"op\":\"" ++ op_text step ++ codes "\"" ++ keys_json step
+call_json step = codes "\"op\":\"" ++ op_name (op_of step) ++ codes "\"" ++ keys_json step

@@ -1,32 +1,10 @@
 //! What a step asks for.
 ghost use Rattle.std.specs.Prelude.{◌≡◌, ◌++◌, OnOk, string_bytes};
-ghost use Rattle.ulfm_forms.specs.Call.{call_json, comm_json, from_json, keys_json, op_text, sought_json, tag_json};
+ghost use Rattle.ulfm_forms.specs.Call.{call_json, comm_json, from_json, keys_json, sought_json, tag_json};
 
 use std::alloc::AllocError;
 use ulfm_base::{Context, Tag};
 use ulfm_job::Step;
-
-/// The op of a step.
-fn op_name(step: &Step) -> &'static str
-    ensures { result.now ≡ op_text step.now }
-{
-    match step {
-        Step::Send { .. } => "send",
-        Step::Recv { .. } => "recv",
-        Step::Wait { .. } => "wait",
-        Step::Probe { .. } => "probe",
-        Step::Mrecv { .. } => "mrecv",
-        Step::Cancel { .. } => "cancel",
-        Step::Failed { .. } => "failed",
-        Step::Ack { .. } => "ack",
-        Step::Revoke { .. } => "revoke",
-        Step::Dup { .. } => "dup",
-        Step::Shrink { .. } => "shrink",
-        Step::Agree { .. } => "agree",
-        Step::Note { .. } => "note",
-        Step::Stop => "stop",
-    }
-}
 
 /// The key of a source, where any is `null`.
 fn push_from(text: &mut String, from: Option<u8>) -> Result<(), AllocError>
@@ -112,7 +90,7 @@ fn push_keys(text: &mut String, step: &Step) -> Result<(), AllocError>
 pub(crate) fn push_call(text: &mut String, step: &Step) -> Result<(), AllocError>
     ensures { OnOk result (string_bytes text.new ≡ string_bytes text.old ++ call_json step.now) }
 {
-    let op = op_name(step);
+    let op = step.op().name();
     write!(text, "\"op\":\"{op}\"")?;
     push_keys(text, step)
 }

@@ -1,6 +1,7 @@
 pub mod Job
 pub mod Begins
 pub mod Label
+pub mod Ops
 pub mod Words
 pub mod Place
 pub mod Places

@@ -29,6 +29,7 @@
 //! Files:
 //!
 //! - `job.rt`, `limits.rt`, `fault.rt`: a job, its limits, and why one is refused; `copied.rt`: a job once more
+//! - `op.rt`: the ops, by their names, and how their answers begin, in one table (Ops.antt)
 //! - `step.rt`: a step; `words.rt`: its words; `copying.rt`: it once more; `noted_step.rt`: as a report keeps it; `label.rt`, `text.rt`, `texts.rt`:
 //!   its texts
 //! - `condition.rt`, `clause.rt`: what is asked of answers; `left_step.rt`, `joint.rt`: steps that may be given up, and those that ranks decide
@@ -50,6 +51,7 @@ mod label;
 mod left_step;
 pub mod limits;
 mod noted_step;
+mod op;
 mod own_stops;
 mod place;
 mod place_text;
@@ -71,6 +73,7 @@ pub use label::Label;
 pub use left_step::LeftStep;
 pub use limits::MOST_STEPS;
 pub use noted_step::NotedStep;
+pub use op::{OPS, Op};
 pub use own_stops::own_stops;
 pub use place::Place;
 pub use places::places;

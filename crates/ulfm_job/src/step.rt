@@ -4,6 +4,7 @@
 ghost use Rattle.std.specs.Prelude.{◌≡◌, ◌↔◌, IsTrue, Some};
 
 use crate::label::Label;
+use crate::op::Op;
 use crate::text::Text;
 use ulfm_base::{Context, Tag};
 
@@ -82,6 +83,29 @@ const _: () = prove!(size_of::<Step>() <= 48);
 
 impl Step {
     ghost use Rattle.ulfm_job.specs.Job.{decides_on, is_agreement_step};
+    ghost use Rattle.ulfm_job.specs.Ops.{op_of};
+
+    /// Its op.
+    pub fn op(&self) -> Op
+        ensures { result ≡ op_of self.now }
+    {
+        match self {
+            Step::Send { .. } => Op::Send,
+            Step::Recv { .. } => Op::Recv,
+            Step::Wait { .. } => Op::Wait,
+            Step::Probe { .. } => Op::Probe,
+            Step::Mrecv { .. } => Op::Mrecv,
+            Step::Cancel { .. } => Op::Cancel,
+            Step::Failed { .. } => Op::Failed,
+            Step::Ack { .. } => Op::Ack,
+            Step::Revoke { .. } => Op::Revoke,
+            Step::Dup { .. } => Op::Dup,
+            Step::Shrink { .. } => Op::Shrink,
+            Step::Agree { .. } => Op::Agree,
+            Step::Note { .. } => Op::Note,
+            Step::Stop => Op::Stop,
+        }
+    }
 
     /// The communicator about which ranks decide together by this step: they shrink it, or agree on it.
     pub fn decides_on(&self) -> Option<Context>

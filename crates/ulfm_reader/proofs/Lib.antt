@@ -19,4 +19,5 @@ pub mod Claims
 pub mod Naming
 pub mod Drafting
 pub mod Labels
+pub mod Orders
 pub mod Streams

@@ -1,11 +1,13 @@
 -- What words the answer of a step may begin with.
-use Rattle.std.specs.Prelude.{ℕ, nat_le, Bool, true, false, ◌&&◌, ◌||◌, List, [], ◌∷◌, ◌++◌, length, map, if◌then◌else◌, codes}
+use Rattle.std.specs.Prelude.{ℕ, nat_le, Bool, not, ◌&&◌, ◌||◌, List, [], ◌∷◌, ◌++◌, length, map, codes}
 use Rattle.std.specs.List.{list_any}
 use Rattle.ulfm_base.specs.Error.{error_text}
 use Rattle.ulfm_base.specs.declared.error.CallError.{CallError}
 use Rattle.ulfm_base.specs.declared.error.CallError.TheVariants.{NoComm, BadRank, BadTag, TooLong, ProcFailed, Revoked, NoRequest, AlreadyMade, NoContext, Stopped, NotMember, OutOfMemory, BadSize, NotEntered, Truncated}
 use Rattle.ulfm_job.specs.Begins.{begins}
-use Rattle.ulfm_reader.specs.Plan.{Order, send, recv, wait, probe, mrecv, cancel, failed, ack, revoke, dup, shrink, agree, note, stop}
+use Rattle.ulfm_job.specs.Ops.{op_answers, may_stay_open, is_never_refused}
+use Rattle.ulfm_job.specs.declared.op.Op.{Op}
+use Rattle.ulfm_reader.specs.Plan.{Order, op_in}
 
 -- the beginnings behind which an answer goes on
 abbrev pub fronts : List (List ℕ)
@@ -18,23 +20,6 @@ is_front text = list_any (begins text) fronts
 -- an answer that begins with this text may begin with the words: the text does, or the words do with the text, where an answer goes on
 abbrev pub begin_alike : List ℕ → List ℕ → Bool
 begin_alike text words = begins text words || (is_front text && begins words text)
-
--- how the answer of an order begins, where it isn't refused and no receive is told over
-abbrev pub own_answers : Order → List (List ℕ)
-own_answers (send to tag body comm) = codes "sent" ∷ []
-own_answers (recv from tag room comm) = codes "posted" ∷ []
-own_answers (wait req) = codes "done from" ∷ codes "pending" ∷ codes "unfinished" ∷ []
-own_answers (probe from tag comm) = codes "found from" ∷ codes "unfinished" ∷ []
-own_answers (mrecv req room) = codes "done from" ∷ []
-own_answers (cancel req) = codes "done from" ∷ codes "cancelled" ∷ []
-own_answers (failed comm) = codes "ranks" ∷ []
-own_answers (ack count comm) = codes "acked" ∷ []
-own_answers (revoke comm) = codes "revoked" ∷ []
-own_answers (dup comm) = codes "comm" ∷ []
-own_answers (shrink comm) = codes "comm" ∷ codes "unfinished" ∷ []
-own_answers (agree flag comm) = codes "agreed" ∷ codes "unfinished" ∷ []
-own_answers (note text) = codes "noted" ∷ []
-own_answers stop = codes "stopped" ∷ []
 
 -- all refusals, by their numbers
 abbrev pub all_errors : List CallError
@@ -51,20 +36,21 @@ refusals =
 abbrev pub not_answered : List (List ℕ)
 not_answered = codes "skipped" ∷ codes "unfinished" ∷ []
 
--- the order is a note or a stop
-abbrev pub is_never_refused : Order → Bool
-is_never_refused (note text) = true
-is_never_refused stop = true
-is_never_refused _ = false
-
 -- the words and one of these texts begin alike
 abbrev pub is_alike : List (List ℕ) → List ℕ → Bool
 is_alike texts words = list_any (λ text. begin_alike text words) texts
 
--- words of at most 1,024 bytes, with which an answer of the order may begin; a note and a stop are never refused
+-- words with which an answer of the op may begin that isn't refused, where no receive is told over
+abbrev pub is_own : Op → List ℕ → Bool
+is_own op words = is_alike (op_answers op) words || (may_stay_open op && is_alike (codes "unfinished" ∷ []) words)
+
+-- words of at most 1,024 bytes, with which an answer of the op may begin
+abbrev pub may_tell : Op → List ℕ → Bool
+may_tell op words = nat_le (length words) 1024 && (is_own op words || (not (is_never_refused op) && is_alike refusals words))
+
+-- words with which an answer of the order may begin
 abbrev pub may_expect : Order → List ℕ → Bool
-may_expect order words =
-    nat_le (length words) 1024 && (is_alike (own_answers order) words || (if is_never_refused order then false else is_alike refusals words))
+may_expect order words = may_tell (op_in order) words
 
 -- the same for a condition, which may also ask whether the step was skipped or is unfinished
 abbrev pub may_ask : Order → List ℕ → Bool

@@ -1,10 +1,11 @@
 -- Conditions by which an error in a block leads to the step that it names.
-use Rattle.std.specs.Prelude.{ℕ, zero, suc, ◌+◌, ℤ, pos, Bool, false, not, List, [], ◌∷◌, ◌++◌, map, filter, Option, Some, None, is_some, if◌then◌else◌, codes}
+use Rattle.std.specs.Prelude.{ℕ, zero, suc, ◌+◌, ℤ, pos, Bool, false, not, List, [], ◌∷◌, ◌++◌, map, filter, Option, Some, None, is_some, unwrap_or, if◌then◌else◌, codes}
 use Rattle.std.specs.List.{slice_get}
 use Rattle.std.specs.Option.{option_and_then}
-use Rattle.std.specs.Str.{bytes_eq}
 use Rattle.toml.specs.Data.{Data, string, integer, array, table, Members, no_members, get, get_member, as_table}
 use Rattle.toml.specs.View.{items_of}
+use Rattle.ulfm_job.specs.Ops.{good_answers, op_named}
+use Rattle.ulfm_job.specs.declared.op.Op.TheVariants.{Stop}
 use Rattle.ulfm_reader.specs.Blocks.{goal_in, name_in}
 use Rattle.ulfm_reader.specs.Iterations.{is_rank, is_text}
 use Rattle.ulfm_reader.specs.Line.{Line, line}
@@ -12,24 +13,6 @@ use Rattle.ulfm_reader.specs.Members.{in_table, put, text_at, text_in}
 use Rattle.ulfm_reader.specs.Ranks.{rank_of}
 use Rattle.ulfm_reader.specs.Together.{asks_with}
 use Rattle.ulfm_reader.specs.declared.guard.Guard.{Guard}
-
--- how the answers begin with which a step of this op goes well
-abbrev pub good_answers : List ℕ → List (List ℕ)
-good_answers op =
-    if bytes_eq op (codes "send") then codes "sent" ∷ []
-    else if bytes_eq op (codes "recv") then codes "posted" ∷ []
-    else if bytes_eq op (codes "wait") then codes "done" ∷ []
-    else if bytes_eq op (codes "probe") then codes "found" ∷ []
-    else if bytes_eq op (codes "mrecv") then codes "done" ∷ []
-    else if bytes_eq op (codes "cancel") then codes "cancelled" ∷ codes "done" ∷ []
-    else if bytes_eq op (codes "failed") then codes "ranks" ∷ []
-    else if bytes_eq op (codes "ack") then codes "acked" ∷ []
-    else if bytes_eq op (codes "revoke") then codes "revoked" ∷ []
-    else if bytes_eq op (codes "dup") then codes "comm" ∷ []
-    else if bytes_eq op (codes "shrink") then codes "comm" ∷ []
-    else if bytes_eq op (codes "agree") then codes "agreed" ∷ []
-    else if bytes_eq op (codes "note") then codes "noted" ∷ []
-    else codes "stopped" ∷ []
 
 -- the rank of a step
 abbrev pub rank_in : Data → Option ℤ
@@ -39,10 +22,10 @@ rank_in d = option_and_then rank_of (as_table d)
 abbrev pub op_in : Data → Option (List ℕ)
 op_in d = text_in (codes "op") d
 
--- the good answers of a step, if it has an op
+-- the good answers of a step, if it has an op; a text that is no op is taken for a stop
 abbrev pub answers_of : Option (List ℕ) → List (List ℕ)
 answers_of None = []
-answers_of (Some op) = good_answers op
+answers_of (Some name) = good_answers (unwrap_or (op_named name) Stop)
 
 -- the name to which an error in a line leads, by the item that it comes from
 abbrev pub goal_of : List Data → Line → Option (List ℕ)

@@ -3,6 +3,8 @@ use Rattle.std.specs.Prelude.{ℕ, List, Option, map, option_map}
 use Rattle.ulfm_job.specs.declared.clause.Clause.{Clause}
 use Rattle.ulfm_job.specs.declared.condition.Condition.{Condition}
 use Rattle.ulfm_job.specs.declared.left_step.LeftStep.{LeftStep}
+use Rattle.ulfm_job.specs.declared.op.Op.{Op}
+use Rattle.ulfm_job.specs.declared.op.Op.TheVariants as op
 use Rattle.ulfm_job.specs.declared.step.Step.{Step}
 use Rattle.ulfm_job.specs.declared.step.Step.TheVariants.{Send, Recv, Wait, Probe, Mrecv, Cancel, Failed, Ack, Revoke, Dup, Shrink, Agree, Note, Stop}
 use Rattle.ulfm_job.specs.Job.{JobView}
@@ -23,6 +25,23 @@ pub data Order : Type 0 where
   agree : ℕ → ℕ → Order
   note : List ℕ → Order
   stop : Order
+
+-- the op of an order
+abbrev pub op_in : Order → Op
+op_in (send to tag body comm) = op.Send
+op_in (recv from tag room comm) = op.Recv
+op_in (wait req) = op.Wait
+op_in (probe from tag comm) = op.Probe
+op_in (mrecv req room) = op.Mrecv
+op_in (cancel req) = op.Cancel
+op_in (failed comm) = op.Failed
+op_in (ack count comm) = op.Ack
+op_in (revoke comm) = op.Revoke
+op_in (dup comm) = op.Dup
+op_in (shrink comm) = op.Shrink
+op_in (agree flag comm) = op.Agree
+op_in (note text) = op.Note
+op_in stop = op.Stop
 
 -- one step of the file
 pub record PlannedStep : Type 0 where

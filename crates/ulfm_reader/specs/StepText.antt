@@ -1,6 +1,8 @@
 -- The step of a table, for each op, by cases in the order of the checks: keys and their kinds, unknown keys, ranges.
-use Rattle.std.specs.Prelude.{ℕ, pos, ◌-◌, List, [], ◌∷◌, Result, Ok, Err, unwrap_or, if◌then◌else◌, codes}
-use Rattle.std.specs.Str.{bytes_eq}
+use Rattle.std.specs.Prelude.{ℕ, pos, ◌-◌, List, [], ◌∷◌, Option, Some, None, Result, Ok, Err, unwrap_or, codes}
+use Rattle.ulfm_job.specs.Ops.{op_named}
+use Rattle.ulfm_job.specs.declared.op.Op.{Op}
+use Rattle.ulfm_job.specs.declared.op.Op.TheVariants as op
 use Rattle.toml.specs.Data.{Members}
 use Rattle.ulfm_job.specs.declared.fault.Fault.{Fault}
 use Rattle.ulfm_job.specs.declared.fault.Fault.TheVariants.{UnknownOp}
@@ -128,25 +130,28 @@ stop_step ranks ms = do
   rank ← in_range 0 (ranks - 1) rank_key
   Ok (record { rank = rank; order = stop })
 
--- the step of an op by its name
-unfoldable pub step_of_op : ℕ → List Name → List ℕ → Members → Result PlannedStep Fault
-step_of_op ranks names op ms =
-    if bytes_eq op (codes "send") then send_step ranks ms
-    else if bytes_eq op (codes "recv") then recv_step ranks ms
-    else if bytes_eq op (codes "wait") then step_on_req wait ranks names ms
-    else if bytes_eq op (codes "probe") then probe_step ranks ms
-    else if bytes_eq op (codes "mrecv") then mrecv_step ranks names ms
-    else if bytes_eq op (codes "cancel") then step_on_req cancel ranks names ms
-    else if bytes_eq op (codes "failed") then step_on_comm failed ranks ms
-    else if bytes_eq op (codes "ack") then ack_step ranks ms
-    else if bytes_eq op (codes "revoke") then step_on_comm revoke ranks ms
-    else if bytes_eq op (codes "dup") then step_on_comm dup ranks ms
-    else if bytes_eq op (codes "shrink") then step_on_comm shrink ranks ms
-    else if bytes_eq op (codes "agree") then agree_step ranks ms
-    else if bytes_eq op (codes "note") then note_step ranks ms
-    else if bytes_eq op (codes "stop") then stop_step ranks ms
-    else Err UnknownOp
+-- the op, if it is one
+abbrev pub known : Option Op → Result Op Fault
+known None = Err UnknownOp
+known (Some op) = Ok op
+
+-- the step of an op
+unfoldable pub step_of_op : ℕ → List Name → Op → Members → Result PlannedStep Fault
+step_of_op ranks names op.Send ms = send_step ranks ms
+step_of_op ranks names op.Recv ms = recv_step ranks ms
+step_of_op ranks names op.Wait ms = step_on_req wait ranks names ms
+step_of_op ranks names op.Probe ms = probe_step ranks ms
+step_of_op ranks names op.Mrecv ms = mrecv_step ranks names ms
+step_of_op ranks names op.Cancel ms = step_on_req cancel ranks names ms
+step_of_op ranks names op.Failed ms = step_on_comm failed ranks ms
+step_of_op ranks names op.Ack ms = ack_step ranks ms
+step_of_op ranks names op.Revoke ms = step_on_comm revoke ranks ms
+step_of_op ranks names op.Dup ms = step_on_comm dup ranks ms
+step_of_op ranks names op.Shrink ms = step_on_comm shrink ranks ms
+step_of_op ranks names op.Agree ms = agree_step ranks ms
+step_of_op ranks names op.Note ms = note_step ranks ms
+step_of_op ranks names op.Stop ms = stop_step ranks ms
 
 -- the step of a table; its op comes before its other keys
 unfoldable pub step_of : ℕ → List Name → Members → Result PlannedStep Fault
-step_of ranks names ms = required_text (codes "op") ms >>= (λ op. step_of_op ranks names op ms)
+step_of ranks names ms = required_text (codes "op") ms >>= (λ name. known (op_named name) >>= (λ op. step_of_op ranks names op ms))

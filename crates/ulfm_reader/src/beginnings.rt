@@ -2,11 +2,11 @@
 ghost use Rattle.std.specs.Prelude.{◌≡◌, map};
 ghost use Rattle.std.specs.List.{list_any};
 ghost use Rattle.ulfm_job.specs.Begins.{begins, ends_word};
-ghost use Rattle.ulfm_reader.specs.Beginnings.{begin_alike, is_alike, is_front, may_answer, may_ask, may_expect, own_answers, refusals};
+ghost use Rattle.ulfm_reader.specs.Beginnings.{begin_alike, is_alike, is_front, is_own, may_answer, may_ask, may_expect, may_tell, refusals};
 ghost use Rattle.ulfm_reader.specs.Plan.{order_of};
 
-use ulfm_job::Step;
 use ulfm_job::limits::MOST_WORDS;
+use ulfm_job::{Op, Step};
 
 /// The beginnings behind which an answer goes on.
 const FRONTS: &[&str] = &[
@@ -107,26 +107,11 @@ pub fn is_alike(texts: &[&str], words: &str) -> bool
     is_alike_to_one(texts, words)
 }
 
-/// Whether the words begin as an answer of the step does that isn't refused, where no receive is told over.
-fn is_own(step: &Step, words: &str) -> bool
-    ensures { result ≡ is_alike (own_answers (order_of step.now)) words.now }
+/// Whether the words begin as an answer of the op does that isn't refused, where no receive is told over.
+fn is_own(op: Op, words: &str) -> bool
+    ensures { result ≡ is_own op words.now }
 {
-    match step {
-        Step::Send { .. } => is_alike(&["sent"], words),
-        Step::Recv { .. } => is_alike(&["posted"], words),
-        Step::Wait { .. } => is_alike(&["done from", "pending", "unfinished"], words),
-        Step::Probe { .. } => is_alike(&["found from", "unfinished"], words),
-        Step::Mrecv { .. } => is_alike(&["done from"], words),
-        Step::Cancel { .. } => is_alike(&["done from", "cancelled"], words),
-        Step::Failed { .. } => is_alike(&["ranks"], words),
-        Step::Ack { .. } => is_alike(&["acked"], words),
-        Step::Revoke { .. } => is_alike(&["revoked"], words),
-        Step::Dup { .. } => is_alike(&["comm"], words),
-        Step::Shrink { .. } => is_alike(&["comm", "unfinished"], words),
-        Step::Agree { .. } => is_alike(&["agreed", "unfinished"], words),
-        Step::Note { .. } => is_alike(&["noted"], words),
-        Step::Stop => is_alike(&["stopped"], words),
-    }
+    is_alike(op.answers(), words) || (op.may_stay_open() && is_alike(&["unfinished"], words))
 }
 
 /// Whether the words begin as a refusal.
@@ -136,20 +121,19 @@ fn is_refusal(words: &str) -> bool
     is_alike(REFUSALS, words)
 }
 
+/// Whether an answer of the op may begin with these words, of at most 1,024 bytes.
+fn may_tell(op: Op, words: &str) -> bool
+    ensures { result ≡ may_tell op words.now }
+{
+    words.len() <= MOST_WORDS
+        && (is_own(op, words) || (!op.is_never_refused() && is_refusal(words)))
+}
+
 /// Whether an answer of the step may begin with these words, of at most 1,024 bytes. A note and a stop are never refused.
 pub fn may_expect(step: &Step, words: &str) -> bool
     ensures { result ≡ may_expect (order_of step.now) words.now }
 {
-    if words.len() > MOST_WORDS {
-        return false;
-    }
-    if is_own(step, words) {
-        return true;
-    }
-    match step {
-        Step::Note { .. } | Step::Stop => false,
-        _ => is_refusal(words),
-    }
+    may_tell(step.op(), words)
 }
 
 /// The same for a condition, which may also ask whether the step was skipped or is unfinished.

@@ -5,7 +5,7 @@ ghost use Rattle.ulfm_base.specs.declared.context.Context.{Context as SeenContex
 ghost use Rattle.ulfm_job.specs.declared.step.Step.{Step as SeenStep};
 ghost use Rattle.ulfm_reader.specs.inside.Reading.{map_ok, planned};
 ghost use Rattle.ulfm_reader.specs.Plan.{Order, order_of};
-ghost use Rattle.ulfm_reader.specs.StepText.{step_on_comm, ack_step, agree_step, note_step, stop_step, step_of_op, step_of};
+ghost use Rattle.ulfm_reader.specs.StepText.{step_on_comm, ack_step, agree_step, note_step, stop_step, known, step_of_op, step_of};
 
 use crate::fields::{in_range, only_keys, optional_number, required_number, required_text};
 use crate::letters::{mrecv_of, on_req, probe_of, recv_of, send_of};
@@ -15,7 +15,7 @@ use crate::ranges::{comm_in, flag_in, label_in, rank_in};
 use toml::Table;
 use ulfm_base::Context;
 use ulfm_job::limits::MOST_RANKS;
-use ulfm_job::{Fault, Step};
+use ulfm_job::{Fault, Op, Step};
 
 /// The step of an op that names a communicator and nothing else.
 #[tactic(auto, unfolding(crate::specs::StepText::step_on_comm))]
@@ -116,33 +116,54 @@ fn stop_of(ranks: u8, table: &Table) -> Result<Placed<'_>, Fault>
     })
 }
 
+/// An op, if it is one.
+fn known(op: Option<Op>) -> Result<Op, Fault>
+    ensures { result ≡ known op }
+{
+    match op {
+        Some(op) => Ok(op),
+        None => Err(Fault::UnknownOp),
+    }
+}
+
+/// The step of a table with this op.
+#[tactic(auto, unfolding(crate::specs::StepText::step_of_op))]
+fn step_of_op<'a>(ranks: u8, names: &[Name], op: Op, table: &'a Table) -> Result<Placed<'a>, Fault>
+    requires { 0 < ranks }
+    ensures exact { map_ok planned result ≡ step_of_op ranks names.now op (table_view table.now) }
+    ensures below { IfOk result (λ placed. placed.rank < ranks) }
+{
+    match op {
+        Op::Send => send_of(ranks, table),
+        Op::Recv => recv_of(ranks, table),
+        Op::Wait => on_req(ranks, names, table, |req| Step::Wait { req }),
+        Op::Probe => probe_of(ranks, table),
+        Op::Mrecv => mrecv_of(ranks, names, table),
+        Op::Cancel => on_req(ranks, names, table, |req| Step::Cancel { req }),
+        Op::Failed => on_comm(ranks, table, |comm| Step::Failed { comm }),
+        Op::Ack => ack_of(ranks, table),
+        Op::Revoke => on_comm(ranks, table, |comm| Step::Revoke { comm }),
+        Op::Dup => on_comm(ranks, table, |comm| Step::Dup { comm }),
+        Op::Shrink => on_comm(ranks, table, |comm| Step::Shrink { comm }),
+        Op::Agree => agree_of(ranks, table),
+        Op::Note => note_of(ranks, table),
+        Op::Stop => stop_of(ranks, table),
+    }
+}
+
 /// The step of a table.
 ///
 /// # Errors
 ///
 /// `BadKey` where `op` is missing or no text, then `UnknownOp`, then the faults of the op's own keys: `BadKey` where one
 /// is missing or of another kind, `UnknownKey`, and `OutOfRange`, in this order.
-#[tactic(auto, unfolding(crate::specs::StepText::step_of, crate::specs::StepText::step_of_op))]
+#[tactic(auto, unfolding(crate::specs::StepText::step_of))]
 pub fn step_of<'a>(ranks: u8, names: &[Name], table: &'a Table) -> Result<Placed<'a>, Fault>
     requires { 0 < ranks }
     ensures exact { map_ok planned result ≡ step_of ranks names.now (table_view table.now) }
     ensures below { IfOk result (λ placed. placed.rank < ranks) }
 {
-    match required_text(table, "op")? {
-        "send" => send_of(ranks, table),
-        "recv" => recv_of(ranks, table),
-        "wait" => on_req(ranks, names, table, |req| Step::Wait { req }),
-        "probe" => probe_of(ranks, table),
-        "mrecv" => mrecv_of(ranks, names, table),
-        "cancel" => on_req(ranks, names, table, |req| Step::Cancel { req }),
-        "failed" => on_comm(ranks, table, |comm| Step::Failed { comm }),
-        "ack" => ack_of(ranks, table),
-        "revoke" => on_comm(ranks, table, |comm| Step::Revoke { comm }),
-        "dup" => on_comm(ranks, table, |comm| Step::Dup { comm }),
-        "shrink" => on_comm(ranks, table, |comm| Step::Shrink { comm }),
-        "agree" => agree_of(ranks, table),
-        "note" => note_of(ranks, table),
-        "stop" => stop_of(ranks, table),
-        _ => Err(Fault::UnknownOp),
-    }
+    let name = required_text(table, "op")?;
+    let op = known(Op::named(name))?;
+    step_of_op(ranks, names, op, table)
 }
