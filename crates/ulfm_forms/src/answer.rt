@@ -4,7 +4,8 @@ ghost use Rattle.hex.specs.Hex.{encode_lower};
 ghost use Rattle.ulfm_forms.specs.Answer.{answer_json, status_json, told_json, word_text};
 
 use crate::call::push_comm;
-use crate::parts::{push_error, push_group, push_numbers};
+use crate::error::push_error;
+use crate::parts::{push_group, push_numbers};
 use std::alloc::AllocError;
 use ulfm_answer::StepAnswer;
 use ulfm_log::Status;

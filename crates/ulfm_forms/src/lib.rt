@@ -13,8 +13,8 @@
 //!
 //! Files:
 //!
-//! - `trace.rt`: steps and the ends of ranks as objects; `call.rt`: what a step asks for; `answer.rt`: what it was answered; `parts.rt`: texts and
-//!   lists of objects
+//! - `trace.rt`: steps and the ends of ranks as objects; `call.rt`: what a step asks for; `answer.rt`: what it was answered; `error.rt`: refusals;
+//!   `parts.rt`: texts and lists of objects
 //! - `worded.rt`, `worded_trace.rt`: calls, answers and traces in plain words or MPI's, of `mpi_call.rt` and `mpi_answer.rt`
 //! - `form.rt`: words or JSON; `wording.rt`: whose words; `style.rt`: the forms of a picture
 //!
@@ -24,6 +24,7 @@
 
 mod answer;
 mod call;
+mod error;
 mod form;
 mod mpi_answer;
 mod mpi_call;

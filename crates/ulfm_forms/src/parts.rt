@@ -1,22 +1,11 @@
 //! Parts of the objects.
 ghost use Rattle.std.specs.Prelude.{◌≡◌, ◌++◌, map, OnOk, string_bytes};
-ghost use Rattle.ulfm_forms.specs.Parts.{behind_commas, error_json, numbers_json, number_json, object_json, objects_json, text_json, texts_json};
+ghost use Rattle.ulfm_forms.specs.Parts.{behind_commas, numbers_json, number_json, object_json, objects_json, text_json, texts_json};
 
 use std::alloc::AllocError;
 use std::fmt;
 use ulfm_answer::numbers_of;
-use ulfm_base::{CallError, Group};
-
-/// The keys of a refusal: its number and its name.
-pub(crate) fn push_error(text: &mut String, error: CallError) -> Result<(), AllocError>
-    ensures { OnOk result (string_bytes text.new ≡ string_bytes text.old ++ error_json error) }
-{
-    let words = format!(in *text.allocator(); "{error}")?;
-    match words.as_str().split_once(' ') {
-        Some((number, name)) => write!(text, ",\"error\":{number},\"name\":\"{name}\""),
-        None => unreachable!(),
-    }
-}
+use ulfm_base::Group;
 
 /// Numbers, each behind a comma.
 fn push_more_numbers(text: &mut String, numbers: &[u8]) -> Result<(), AllocError>
