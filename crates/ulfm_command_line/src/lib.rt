@@ -27,8 +27,8 @@
 //!   and `number.rt` (parts of that), `unfollowed.rt` (the call, or what is said in its place)
 //! - what else is said of words: `unmeant.rt`, `tips.rt`, `help.rt`, `version.rt`
 //! - a text at a place: `reading_at_place.rt`, `holding.rt` (what is asked before the steps of a name), `looked_at.rt` (which rows count), `copied.rt` (parts
-//!   of a reading once more), `laws.rt`; places by names: `place_names.rt`, `settled_place.rt`
-//! - replies: `reply.rt` (`check`, refusals, and the statuses of the program), `expand_reply.rt`, `places_reply.rt` (`places`), `failure.rt` (no trace)
+//!   of a reading once more), `laws.rt`; places by names: `place_names.rt`, `place_by_names.rt`
+//! - replies: `reply.rt` (`check`, refusals, and the statuses of the program), `expansion.rt`, `place_lines.rt` (`places`), `failure.rt` (no trace)
 //! - for standard error alone: `remark.rt`, `unmet.rt`, `verdict.rt`
 //!
 //! Not here: replies that an engine makes (`ulfm_run_reply`, `ulfm_outcomes_reply`), and the way to the streams (`ulfm_program`). No contract speaks
@@ -37,7 +37,7 @@
 
 mod command;
 mod copied;
-mod expand_reply;
+mod expansion;
 mod failure;
 mod flagged;
 mod help;
@@ -47,13 +47,13 @@ mod list_options;
 mod looked_at;
 mod number;
 mod options;
+mod place_by_names;
+mod place_lines;
 mod place_names;
 mod place_option;
-mod places_reply;
 mod reading_at_place;
 mod remark;
 mod reply;
-mod settled_place;
 mod subcommands;
 mod tips;
 mod unfollowed;
@@ -64,20 +64,20 @@ mod version;
 mod wish;
 
 pub use command::{Asked, Carrier, ListOptions, RunOptions, Wanted};
-pub use expand_reply::expand_reply;
+pub use expansion::expand_reply;
 pub use failure::{Failure, failed, failed_line};
 pub use holding::{expects, holds_at, stops_at};
 pub use laws::nowhere_is_as_read;
 pub use looked_at::is_looked_at;
 pub use options::MOST_THREADS;
-pub use places_reply::places_reply;
+pub use place_by_names::settled_place;
+pub use place_lines::places_reply;
 pub use reading_at_place::{asked_at, stopped_at};
 pub use remark::{Remark, StepTold};
 pub use reply::{
     DONE, INPUT_FAILED, JOB_REFUSED, NO_SCHEDULE, NOT_EXPECTED, OUTPUT_FAILED, PAST_LIMIT,
     RUN_FAILED, Reply, UNFINISHED, USAGE, check_reply, refusal,
 };
-pub use settled_place::settled_place;
 pub use ulfm_forms::{Form, Wording};
 pub use ulfm_job::Place;
 pub use unfollowed::{Unfollowed, asked_for};

@@ -34,7 +34,7 @@
 //!   its texts
 //! - `condition.rt`, `clause.rt`: what is asked of answers; `left_step.rt`, `joint.rt`: steps that may be given up, and those that ranks decide
 //!   together
-//! - `place.rt`, `stop.rt`: where ranks stop; `place_text.rt`: a place as it is read; `places.rt`: [`places`], all of a job; `own_stops.rt`: its own stops
+//! - `place.rt`, `stop.rt`: where ranks stop; `place_text.rt`: a place as it is read; `job_places.rt`: [`places`], all of a job; `job_stops.rt`: its own stops
 //! - `script_with_stop.rt`, `shifted_numbers.rt`: a script with one more stop, and the numbers of its steps then
 //!
 //! Not here: whether a job gets stuck, or what its steps are answered.
@@ -46,16 +46,16 @@ mod copied;
 mod copying;
 mod fault;
 mod job;
+mod job_places;
+mod job_stops;
 mod joint;
 mod label;
 mod left_step;
 pub mod limits;
 mod noted_step;
 mod op;
-mod own_stops;
 mod place;
 mod place_text;
-mod places;
 mod script_with_stop;
 mod shifted_numbers;
 mod step;
@@ -69,14 +69,14 @@ pub use condition::Condition;
 pub use copied::expecting;
 pub use fault::{Fault, JobFault};
 pub use job::Job;
+pub use job_places::places;
+pub use job_stops::own_stops;
 pub use label::Label;
 pub use left_step::LeftStep;
 pub use limits::MOST_STEPS;
 pub use noted_step::NotedStep;
 pub use op::{OPS, Op};
-pub use own_stops::own_stops;
 pub use place::Place;
-pub use places::places;
 pub use step::Step;
 pub use stop::Stop;
 pub use text::Text;

@@ -11,9 +11,9 @@ ghost use Rattle.ulfm_outcomes_reply.specs.inside.Judging.{AreListedOf, AreShari
 
 use crate::drawing::first_drawn;
 use crate::hang::judgement_of_all;
-use crate::list_reply::{below, list_status};
 use crate::lists::Lists;
 use crate::onlooker::Onlooker;
+use crate::outcomes_reply::{below, list_status};
 use crate::picked_steps::{chosen, no_name, printed, unknown_part};
 use crate::search::Search;
 use crate::threads::list_places;

@@ -29,7 +29,7 @@
 //! Files:
 //!
 //! - `search.rt`: a search, with its limit and its form: what most functions here take
-//! - `list_reply.rt`: [`list_reply`], and the reply to one job; `place_lists.rt`, `lists.rt`: the lists of places; `threads.rt`: these by threads
+//! - `outcomes_reply.rt`: [`list_reply`], and the reply to one job; `place_lists.rt`, `lists.rt`: the lists of places; `threads.rt`: these by threads
 //! - `picked_steps.rt`: the steps whose lines a list has (`--only`, `--notes`)
 //! - `unwanted.rt`: whatever a job doesn't want, and where it comes first; `never_rows.rt`: rows of `never`; `finding.rt`: what was found
 //! - `each_place.rt`: the reply with `--stops`; `show_reply.rt`, `show_each_place.rt`: with `--show`, and with both
@@ -46,11 +46,11 @@ mod each_place;
 mod finding;
 mod hang;
 mod hanging;
-mod list_reply;
 mod lists;
 mod mistakes;
 mod never_rows;
 mod onlooker;
+mod outcomes_reply;
 mod picked_steps;
 mod place_lists;
 mod remarks;
@@ -63,8 +63,8 @@ mod unwanted;
 mod verdicts;
 
 pub use hanging::open_goals;
-pub use list_reply::list_reply;
 pub use lists::Lists;
 pub use onlooker::{Onlooker, Seen};
+pub use outcomes_reply::list_reply;
 pub use search::Search;
 pub use threads::list_places;

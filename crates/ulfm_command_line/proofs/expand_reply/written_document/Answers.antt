@@ -1,5 +1,0 @@
-use Rattle.ulfm_command_line.proofs.Documents.{written-view}
-use Rattle.ulfm_command_line.proofs.expand_reply.written_document.Goals as goal
-
-pub returns : goal.returns
-returns c = written-view c.in_ok-written.written _ c.in_ok-written.ensures

@@ -1,7 +1,0 @@
-use Rattle.std.proofs.Common.{◌≡◌, ◌++◌}
-use Rattle.std.specs.List.{flat_map, range_with_len}
-use Rattle.ulfm_job.specs.Places.{own_stops_at}
-use Rattle.ulfm_job.proofs.own_stops.push_own.Given as goal
-
-abbrev pub invariant-loop-at : goal.invariant-loop-at
-invariant-loop-at l = l.stops.items ≡ l.fn.stops.items ++ flat_map (own_stops_at l.job l.rank) (range_with_len 0 l.at)
