@@ -29,7 +29,7 @@
 //! - a text at a place: `reading_at_place.rt`, `holding.rt` (what is asked before the steps of a name), `looked_at.rt` (which rows count), `copied.rt` (parts
 //!   of a reading once more), `laws.rt`; places by names: `place_names.rt`, `place_by_names.rt`
 //! - replies: `reply.rt` (`check`, refusals, and the statuses of the program), `expansion.rt`, `place_lines.rt` (`places`), `failure.rt` (no trace)
-//! - for standard error alone: `remark.rt`, `unmet.rt`, `verdict.rt`
+//! - for standard error alone: `remark.rt`, `unmet.rt`, `verdict_line.rt`
 //!
 //! Not here: replies that an engine makes (`ulfm_run_reply`, `ulfm_outcomes_reply`), and the way to the streams (`ulfm_program`). No contract speaks
 //! of the words of help, of tips and of remarks.
@@ -59,7 +59,7 @@ mod tips;
 mod unfollowed;
 mod unmeant;
 mod unmet;
-mod verdict;
+mod verdict_line;
 mod version;
 mod wish;
 
@@ -82,5 +82,5 @@ pub use ulfm_forms::{Form, Wording};
 pub use ulfm_job::Place;
 pub use unfollowed::{Unfollowed, asked_for};
 pub use unmet::push_unmet_answers;
-pub use verdict::{Extent, Verdict, Where};
+pub use verdict_line::{Extent, Verdict, Where};
 pub use wish::{Choice, Wish};

@@ -1,6 +1,6 @@
 //! What standard error tells beside a reply: for people, and none of it is promised.
 
-use crate::verdict::Verdict;
+use crate::verdict_line::Verdict;
 use std::alloc::{AllocError, Global};
 use std::fmt;
 use ulfm_job::{Clause, Label, Place, Text};

@@ -1,8 +1,8 @@
 pub mod Text
 pub mod Judgement
 pub mod Listed
-pub mod Words
-pub mod Objects
+pub mod ListText
+pub mod ListJson
 pub mod Goals
 pub mod Unmet
 pub mod Numbers
@@ -10,6 +10,6 @@ pub mod Union
 pub mod List
 pub mod Events
 pub mod Waits
-pub mod Scheduled
-pub mod Worded
+pub mod ScheduleJson
+pub mod ScheduleWords
 pub mod Told

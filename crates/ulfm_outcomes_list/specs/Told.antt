@@ -10,8 +10,8 @@ use Rattle.ulfm_schedule.specs.declared.schedule.Schedule.{Schedule as Scheduled
 use Rattle.ulfm_reader.specs.declared.name.Name.{Name}
 use Rattle.ulfm_job.specs.Text.{place_text}
 use Rattle.ulfm_job.specs.declared.place.Place.{Place}
-use Rattle.ulfm_outcomes_list.specs.Scheduled.{schedule_json}
-use Rattle.ulfm_outcomes_list.specs.Worded.{schedule_in}
+use Rattle.ulfm_outcomes_list.specs.ScheduleJson.{schedule_json}
+use Rattle.ulfm_outcomes_list.specs.ScheduleWords.{schedule_in}
 use Rattle.ulfm_outcomes_list.specs.declared.search_result.Told.{Told}
 use Rattle.ulfm_outcomes_list.specs.declared.search_result.Told.TheVariants.{Schedule, Many}
 

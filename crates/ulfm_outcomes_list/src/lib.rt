@@ -13,13 +13,13 @@
 //! - [`lists_of`]: as one list, an answer stands at a place exactly where the list of this place has it for the same step, which the file may number
 //!   otherwise than the job at the place. So it is with a step that never ends (`list_at`, List.antt; `places_with`, Union.antt; `number_at`,
 //!   Numbers.antt).
-//! - [`push_list`]: it prints such a value, for one place or for all alike, each answer with its places (`printed`, Objects.antt), in words
-//!   (`list_text`, Words.antt) or as JSON (`list_json`, Objects.antt). In words a line names eight places at most. The law `lines_tell` of
+//! - [`push_list`]: it prints such a value, for one place or for all alike, each answer with its places (`printed`, ListJson.antt), in words
+//!   (`list_text`, ListText.antt) or as JSON (`list_json`, ListJson.antt). In words a line names eight places at most. The law `lines_tell` of
 //!   `ulfm_outcomes` says what these lines tell of schedules.
 //! - [`unmet_in`], `Goals::of`: the first answer that isn't as its step expects (`first_unmet`, Unmet.antt), and what a schedule is to show
 //!   (Goals.antt).
 //! - [`push_told`], [`push_unmet`], [`push_row`], [`push_more_at`]: what stands below a list: what isn't as it should be, and the schedule that
-//!   shows it (Told.antt), in plain words, in MPI's (Worded.antt), or as objects (`schedule_json`, Scheduled.antt).
+//!   shows it (Told.antt), in plain words, in MPI's (ScheduleWords.antt), or as objects (`schedule_json`, ScheduleJson.antt).
 //!
 //! Files:
 //!
@@ -28,9 +28,11 @@
 //! - `list_of_places.rt`, `union.rt`: the lists of places as one; `place_list.rt`: what is kept of one of them; `numbers.rt`: steps as the file numbers
 //!   them
 //! - `judgement.rt`: what a list comes to, in a word or two
-//! - `printing.rt`: a list as text, by `words.rt` (or `worded.rt`, in MPI's words) or by `objects.rt`
+//! - `list_in_form.rt`: what is printed of a list, by `list_text.rt`, in plain words or MPI's, or by `list_json.rt`; `worded.rt`: an answer and its
+//!   plain words
 //! - `unmet.rt`: answers that aren't as expected; `goals.rt`: what a schedule is to show
-//! - `search_result.rt`: what is told below a list; `scheduled.rt`: a schedule as JSON, of `events.rt` and `waits.rt`; `worded_places.rt`: one in MPI's words
+//! - `search_result.rt`: what is told below a list; `schedule_json.rt`: a schedule as JSON, of `events.rt` and `waits.rt`; `schedule_words.rt`: one
+//!   in MPI's words
 //! - `job_step.rt`: the steps of a job; `open_step.rt`: one that is left open
 //!
 //! Not here: whether the rows are all there are (`ulfm_outcomes`), and that a schedule is one of the job (`ulfm_outcomes_spec`). No contract says
@@ -43,31 +45,32 @@ mod goals_met;
 mod job_step;
 mod judgement;
 mod list;
+mod list_in_form;
+mod list_json;
 mod list_of_places;
+mod list_text;
 mod listed_step;
 mod numbers;
-mod objects;
 mod open_step;
 mod outcome;
 mod outcomes;
 mod place_list;
-mod printing;
 mod rows;
-mod scheduled;
+mod schedule_json;
+mod schedule_words;
 mod search_result;
 mod step_list;
 mod union;
 mod unmet;
 mod waits;
 mod worded;
-mod worded_places;
-mod words;
 
 pub use goals::Goals;
 pub use goals_met::has_each;
 pub use job_step::{JobStep, steps_of};
 pub use judgement::Judgement;
 pub use list::list_of;
+pub use list_in_form::{more_in, push_list};
 pub use list_of_places::lists_of;
 pub use listed_step::ListedStep;
 pub use numbers::{filed_number, number_at};
@@ -75,11 +78,10 @@ pub use open_step::OpenStep;
 pub use outcome::Outcome;
 pub use outcomes::Outcomes;
 pub use place_list::Listed;
-pub use printing::{more_in, push_list};
 pub use rows::{add_answers, code_at, in_order, is_stuck, some_never_end};
+pub use schedule_words::push_schedule_in;
 pub use search_result::{Told, push_more_at, push_row, push_told, push_unmet};
 pub use step_list::StepList;
 pub use union::some_never_ends;
 pub use unmet::{Unmet, is_expected, unmet_in};
 pub use worded::Worded;
-pub use worded_places::push_schedule_in;

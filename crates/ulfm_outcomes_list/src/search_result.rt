@@ -4,8 +4,8 @@ ghost use Rattle.std.specs.Fmt.{decimal};
 ghost use Rattle.ulfm_outcomes_list.specs.Told.{alone_in, at_json, at_words, more_at, place_json, rest_json, row_head, row_in, row_key, row_saying, row_words, schedule_at, schedule_key, told_at, told_in, told_json, told_words, unmet_in, unmet_json, unmet_words};
 
 use crate::Unmet;
-use crate::scheduled::push_schedule_json;
-use crate::worded_places::push_schedule_in;
+use crate::schedule_json::push_schedule_json;
+use crate::schedule_words::push_schedule_in;
 use std::alloc::AllocError;
 use ulfm_forms::{Form, Wording};
 use ulfm_job::Place;

@@ -4,7 +4,7 @@ use Rattle.std.specs.Fmt.{decimal}
 use Rattle.std.specs.List.{find, flat_map, list_any, slice_split}
 use Rattle.std.specs.Str.{bytes_eq, trim}
 use Rattle.ulfm_outcomes_list.specs.Listed.{StepView, all_steps, list_found}
-use Rattle.ulfm_outcomes_list.specs.Objects.{printed}
+use Rattle.ulfm_outcomes_list.specs.ListJson.{printed}
 use Rattle.ulfm_outcomes_list.specs.declared.judgement.Judgement.{Judgement}
 use Rattle.ulfm_job.specs.declared.step.Step.{Step}
 use Rattle.ulfm_job.specs.declared.step.Step.TheVariants.{Note}

@@ -12,7 +12,7 @@ use Rattle.ulfm_outcomes_list.specs.Text.{some_never_ends}
 use Rattle.ulfm_outcomes_list.specs.declared.goals.Goals.{Goals}
 use Rattle.ulfm_forms.specs.declared.form.Form.{Form}
 use Rattle.ulfm_forms.specs.declared.form.Form.TheVariants.{Words, Json}
-use Rattle.ulfm_outcomes_list.specs.Objects.{more_in}
+use Rattle.ulfm_outcomes_list.specs.ListJson.{more_in}
 use Rattle.ulfm_outcomes_list.specs.declared.judgement.Judgement.{Judgement}
 use Rattle.ulfm_outcomes_list.specs.Told.{told_in}
 use Rattle.ulfm_outcomes_list.specs.declared.search_result.Told.TheVariants as told

@@ -19,7 +19,7 @@ use crate::search::Search;
 use crate::threads::list_places;
 use crate::unheld::with_unheld;
 use crate::unwanted::first_unwanted;
-use crate::verdicts::lists_remarks;
+use crate::verdict_lines::lists_remarks;
 use std::alloc::AllocError;
 use std::thread;
 use std::thread::Threads;

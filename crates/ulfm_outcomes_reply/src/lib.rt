@@ -35,7 +35,7 @@
 //! - `each_place.rt`: the reply with `--stops`; `show_reply.rt`, `show_each_place.rt`: with `--show`, and with both
 //! - `drawing.rt`: the step that `--draw` draws; `hanging.rt`, `hang.rt`: the first step that never ends
 //! - `onlooker.rt`: who is told how far the lists are
-//! - for standard error alone: `verdicts.rt`, `mistakes.rt`, `remarks.rt`, `unheld.rt`
+//! - for standard error alone: `verdict_lines.rt`, `mistakes.rt`, `remarks.rt`, `unheld.rt`
 //!
 //! Not here: the search (`ulfm_outcomes`), and how a list is printed (`ulfm_outcomes_list`). No contract speaks of a verdict's line on standard error, of
 //! mistakes and of what a picture shows.
@@ -60,7 +60,7 @@ mod show_reply;
 mod threads;
 mod unheld;
 mod unwanted;
-mod verdicts;
+mod verdict_lines;
 
 pub use hanging::open_goals;
 pub use lists::Lists;

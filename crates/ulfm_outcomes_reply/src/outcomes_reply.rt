@@ -4,7 +4,7 @@ ghost use Rattle.std.specs.Prelude.{◌≡◌, ◌++◌, ℕ, List, None, IfOk, 
 ghost use Rattle.ulfm_command_line.specs.Stopped.{IsAskedAt, asked_view};
 ghost use Rattle.ulfm_reach.specs.declared.reach.Reach.TheVariants.{All};
 ghost use Rattle.ulfm_outcomes_spec.specs.Outcomes.{IsList};
-ghost use Rattle.ulfm_outcomes_list.specs.Objects.{more_in};
+ghost use Rattle.ulfm_outcomes_list.specs.ListJson.{more_in};
 ghost use Rattle.ulfm_outcomes_list.specs.Text.{some_never_ends};
 ghost use Rattle.ulfm_command_line.specs.Wish.{choice_view};
 ghost use Rattle.ulfm_outcomes_reply.specs.Chosen.{list_in, unknown_part};
@@ -22,7 +22,7 @@ use crate::search::Search;
 use crate::show_each_place::show_each_reply;
 use crate::show_reply::show_reply;
 use crate::unwanted::unwanted;
-use crate::verdicts::list_remarks;
+use crate::verdict_lines::list_remarks;
 use std::alloc::AllocError;
 use std::thread::Threads;
 use ulfm_command_line::{DONE, PAST_LIMIT, Reply, UNFINISHED, asked_at};

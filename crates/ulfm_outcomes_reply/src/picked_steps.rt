@@ -2,7 +2,7 @@
 ghost use Rattle.std.specs.Prelude.{◌≡◌, ◌==◌, ◌++◌, ◌∷◌, [], if◌then◌else◌, not, IfOk, OnOk, filter, map, option_map, string_bytes};
 ghost use Rattle.std.specs.List.{find, flat_map, list_any, slice_split};
 ghost use Rattle.ulfm_outcomes_list.specs.Listed.{list_view, step_view};
-ghost use Rattle.ulfm_outcomes_list.specs.Objects.{printed};
+ghost use Rattle.ulfm_outcomes_list.specs.ListJson.{printed};
 ghost use Rattle.ulfm_command_line.specs.Stopped.{asked_view};
 ghost use Rattle.ulfm_command_line.specs.Wish.{choice_view};
 ghost use Rattle.ulfm_outcomes_reply.specs.Chosen.{are_called, chosen, is_all, is_called, is_chosen, is_note, is_part, labels, named_labels, no_name, parts_of, unknown_part};

@@ -16,7 +16,7 @@ use crate::finding::Finding;
 use crate::never_rows::{FirstRow, first_row, row_judgement, row_status};
 use crate::onlooker::{Onlooker, Seen};
 use crate::search::Search;
-use crate::verdicts::{row_remarks, unmet_remarks, where_of};
+use crate::verdict_lines::{row_remarks, unmet_remarks, where_of};
 use std::alloc::AllocError;
 use ulfm_command_line::{NOT_EXPECTED, Place, Reply, stopped_at};
 use ulfm_job::Job;

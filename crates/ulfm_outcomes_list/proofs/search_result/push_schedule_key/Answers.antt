@@ -1,6 +1,6 @@
 use Rattle.std.proofs.Common.{ℕ, List, ◌++◌, ap, ◌∙◌, codes, string_bytes, append_assoc}
 use Rattle.std.proofs.lemmas.Result.{on_ok_weaker}
-use Rattle.ulfm_outcomes_list.specs.Scheduled.{schedule_json}
+use Rattle.ulfm_outcomes_list.specs.ScheduleJson.{schedule_json}
 use Rattle.ulfm_outcomes_list.proofs.search_result.push_schedule_key.Goals as goal
 
 pub returns : goal.returns

@@ -1,6 +1,0 @@
-use Rattle.std.proofs.Common.{◌≡◌, ◌++◌, drop, map, string_bytes}
-use Rattle.ulfm_outcomes_list.specs.Scheduled.{step_objects}
-use Rattle.ulfm_outcomes_list.proofs.scheduled.push_steps.Given as goal
-
-abbrev pub invariant-loop-k : goal.invariant-loop-k
-invariant-loop-k l = map string_bytes l.objects.items ++ step_objects l.asked.names.items l.asked.job l.r l.k (drop l.k l.steps) ≡ map string_bytes l.initial.objects.items ++ step_objects l.asked.names.items l.asked.job l.r 0 l.steps
