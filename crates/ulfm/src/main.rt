@@ -8,20 +8,26 @@ use std::env;
 use std::io::ErrorKind;
 use std::process::ExitCode;
 use ulfm_outcomes::Exploration;
-use ulfm_program::{run_each, without_words};
+use ulfm_program::{Engine, run_each, without_words};
 
 fn main(rt: HostRuntime) -> ExitCode {
     let mut output = rt.stdout();
     let status = match words_of(&rt) {
-        Ok(words) => run_each(
-            &rt,
-            &Exploration,
-            rt.alloc(),
-            words.as_slice(),
-            &mut rt.stdin(),
-            &mut output,
-            &mut rt.stderr(),
-        ),
+        Ok(words) => {
+            let engine = Engine {
+                rt: &rt,
+                finder: &Exploration,
+                alloc: rt.alloc(),
+            };
+            let words = words.as_slice();
+            run_each(
+                &engine,
+                words,
+                &mut rt.stdin(),
+                &mut output,
+                &mut rt.stderr(),
+            )
+        }
         Err(kind) => without_words(
             rt.alloc(),
             kind == ErrorKind::OutOfMemory,

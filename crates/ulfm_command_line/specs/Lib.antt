@@ -9,6 +9,8 @@ pub mod Holding
 pub mod Failure
 pub mod Replies
 pub mod Expanded
+pub mod Places
+pub mod Unknown
+pub mod Body
 pub mod Stopped
 pub mod Named
-pub mod Places

@@ -1,13 +1,14 @@
 -- What the names of steps in `--stop` come to, once the job is read.
-use Rattle.std.specs.Prelude.{◌≡◌, ℕ, List, ◌++◌, Some, None, Result, Ok, Err, codes, string_bytes}
+use Rattle.std.specs.Prelude.{◌≡◌, ℕ, List, Some, None, Result, Ok, Err}
 use Rattle.ulfm_job.specs.declared.fault.JobFault.{JobFault}
 use Rattle.ulfm_job.specs.declared.fault.JobFault.TheVariants.{OutOfMemory}
 use Rattle.ulfm_forms.specs.declared.form.Form.{Form}
-use Rattle.ulfm_forms.specs.declared.form.Form.TheVariants.{Words, Json}
 use Rattle.ulfm_reader.specs.JobText.{job_of_bytes, reading_of_bytes}
 use Rattle.ulfm_command_line.specs.AskedFor.{Asked, reading_as}
+use Rattle.ulfm_command_line.specs.Body.{body_in}
 use Rattle.ulfm_command_line.specs.Failure.{out_of_memory_in}
 use Rattle.ulfm_command_line.specs.Naming.{place_named}
+use Rattle.ulfm_command_line.specs.Unknown.{unnamed_in}
 use Rattle.ulfm_command_line.specs.Replies.{refused_in}
 use Rattle.ulfm_command_line.specs.declared.command.Wanted.{Wanted}
 use Rattle.ulfm_command_line.specs.declared.command.Wanted.TheVariants.{Replay, Run, Outcomes, Draw}
@@ -28,19 +29,6 @@ pub record IsNamed (text bytes : List ℕ) (place : Place) : Type 0 where
   pub is_read : reading_of_bytes bytes ≡ Ok (reading_as read)
   pub named : place_named read.names text ≡ Some place
 
--- the line for a text that names no place of a job
-abbrev pub unnamed_text : List ℕ → List ℕ
-unnamed_text text = codes "place refused: " ++ text ++ codes "\n"
-
--- the same as an object
-abbrev pub unnamed_json : List ℕ → List ℕ
-unnamed_json text = codes "{\"place_refused\":\"" ++ text ++ codes "\"}\n"
-
--- either, in this form
-abbrev pub unnamed_in : Form → List ℕ → List ℕ
-unnamed_in (Words wording) text = unnamed_text text
-unnamed_in Json text = unnamed_json text
-
 -- The status and the text, in this form, where nothing is played since a text comes to no place: the line of the job's refusal, which may be J7; or
 -- that the job has no such steps; with 3 the line that memory ran out.
 pub data IsUnnamed (form : Form) (text bytes : List ℕ) : ℕ → List ℕ → Type 0 where
@@ -49,7 +37,7 @@ pub data IsUnnamed (form : Form) (text bytes : List ℕ) : ℕ → List ℕ → 
   no_memory : IsUnnamed form text bytes 1 (refused_in form OutOfMemory)
   starved : IsUnnamed form text bytes 3 (out_of_memory_in form)
 
--- the place that a text comes to, or the reply that it comes to none
-abbrev pub IsSettled : Form → List ℕ → List ℕ → Result Place Reply → Type 0
-IsSettled form text bytes (Ok place) = IsNamed text bytes place
-IsSettled form text bytes (Err reply) = IsUnnamed form text bytes reply.status (string_bytes reply.text)
+-- the place that a text comes to, or the reply, in each form, that it comes to none
+abbrev pub IsSettled : List ℕ → List ℕ → Result Place Reply → Type 0
+IsSettled text bytes (Ok place) = IsNamed text bytes place
+IsSettled text bytes (Err reply) = (form : Form) → IsUnnamed form text bytes reply.status (body_in form reply.body)

@@ -1,11 +1,10 @@
 -- What a text asks for, with the stops of a place.
-use Rattle.std.specs.Prelude.{◌≡◌, ◌==◌, ◌<◌, ◌+◌, ℕ, List, [], ◌++◌, length, map, Result, Ok, Err, codes, string_bytes, if◌then◌else◌}
+use Rattle.std.specs.Prelude.{◌≡◌, ◌==◌, ◌<◌, ◌+◌, ℕ, List, [], length, map, Result, Ok, Err, if◌then◌else◌}
 use Rattle.ulfm_job.specs.declared.clause.Clause.{Clause}
 use Rattle.ulfm_job.specs.declared.fault.JobFault.{JobFault}
 use Rattle.ulfm_job.specs.declared.fault.JobFault.TheVariants.{TooLarge, OutOfMemory}
 use Rattle.ulfm_job.specs.Job.{JobView, moved_clause, moved_number, script_at, step_count}
 use Rattle.ulfm_job.specs.Place.{IsPlaceOf, before, stopped, stops_of}
-use Rattle.ulfm_job.specs.Text.{place_text}
 use Rattle.ulfm_job.specs.declared.place.Place.{Place}
 use Rattle.ulfm_job.specs.declared.place.Place.TheVariants.{Nowhere, One, Two}
 use Rattle.ulfm_job.specs.declared.stop.Stop.{Stop}
@@ -15,9 +14,10 @@ use Rattle.ulfm_reader.specs.declared.filed.Filed.{Filed}
 use Rattle.ulfm_reader.specs.declared.name.Name.{Name}
 use Rattle.ulfm_reader.specs.declared.reading.Reading.{Reading as Kept}
 use Rattle.ulfm_forms.specs.declared.form.Form.{Form}
-use Rattle.ulfm_forms.specs.declared.form.Form.TheVariants.{Words, Json}
 pub use Rattle.ulfm_command_line.specs.AskedFor.{Asked, asked_view, reading_as}
+use Rattle.ulfm_command_line.specs.Body.{body_in}
 use Rattle.ulfm_command_line.specs.Holding.{held_at}
+use Rattle.ulfm_command_line.specs.Unknown.{no_place_in}
 use Rattle.ulfm_command_line.specs.Replies.{refused_in}
 use Rattle.ulfm_command_line.specs.declared.reply.Reply.{Reply}
 
@@ -68,19 +68,6 @@ pub record IsAskedAt (place : Place) (bytes : List ℕ) (asked : Asked) : Type 0
   pub inside : IsPlaceOf read.job place
   pub at_place : asked ≡ asked_at place read
 
--- the line for a place that a job hasn't
-abbrev pub no_place_text : Place → List ℕ
-no_place_text place = codes "place refused: " ++ place_text place ++ codes "\n"
-
--- the same as an object
-abbrev pub no_place_json : Place → List ℕ
-no_place_json place = codes "{\"place_refused\":\"" ++ place_text place ++ codes "\"}\n"
-
--- either, in this form
-abbrev pub no_place_in : Form → Place → List ℕ
-no_place_in (Words wording) place = no_place_text place
-no_place_in Json place = no_place_json place
-
 -- The status and the text, in this form, where nothing is played with the stops of a place: the line of the job's refusal, which is J6 too
 -- where these stops have no room in it, or J7; or that the job hasn't this place.
 pub data IsRefusal (form : Form) (place : Place) (bytes : List ℕ) : ℕ → List ℕ → Type 0 where
@@ -89,7 +76,7 @@ pub data IsRefusal (form : Form) (place : Place) (bytes : List ℕ) : ℕ → Li
   no_room : (job : JobView) → job_of_bytes bytes ≡ Ok (plan_of job) → 256 < step_count job.scripts + length (stops_of place) → IsRefusal form place bytes 1 (refused_in form TooLarge)
   no_memory : IsRefusal form place bytes 1 (refused_in form OutOfMemory)
 
--- what these bytes ask for with the stops of a place, or the reply that they are refused
-abbrev pub IsAsked : Form → Place → List ℕ → Result Kept Reply → Type 0
-IsAsked form place bytes (Ok asked) = IsAskedAt place bytes (asked_view asked)
-IsAsked form place bytes (Err reply) = IsRefusal form place bytes reply.status (string_bytes reply.text)
+-- what these bytes ask for with the stops of a place, or the reply, in each form, that they are refused
+abbrev pub IsAsked : Place → List ℕ → Result Kept Reply → Type 0
+IsAsked place bytes (Ok asked) = IsAskedAt place bytes (asked_view asked)
+IsAsked place bytes (Err reply) = (form : Form) → IsRefusal form place bytes reply.status (body_in form reply.body)

@@ -5,33 +5,35 @@ ghost use Rattle.toml.specs.Data.{as_table, members_depth, table as as_data};
 ghost use Rattle.toml.specs.Parse.{parse_document};
 ghost use Rattle.toml.specs.View.{table_view, view};
 ghost use Rattle.ulfm_reader.specs.Documents.{written_job};
+ghost use Rattle.ulfm_forms.specs.declared.form.Form.{Form};
+ghost use Rattle.ulfm_command_line.specs.Body.{body_in};
 ghost use Rattle.ulfm_command_line.specs.Expanded.{IsExpandReply, IsTextOf, document_in};
 
+use crate::body::Body;
 use crate::reply::{DONE, Reply, refusal};
 use std::alloc::{AllocError, Global};
 use toml::{Table, Value};
-use ulfm_forms::Form;
 use ulfm_job::Job;
 use ulfm_reader::{ReadJob, written_job};
 
 /// The reply of `expand`: the text of the job with its steps written out.
-pub fn expand_reply(alloc: Global, form: Form, bytes: &[u8]) -> Result<Reply, AllocError>
-    ensures { IfOk result (λ r. IsExpandReply form bytes.now r.status (string_bytes r.text)) }
+pub fn expand_reply(alloc: Global, bytes: &[u8]) -> Result<Reply, AllocError>
+    ensures { IfOk result (λ r. (form : Form) → IsExpandReply form bytes.now r.status (body_in form r.body)) }
 {
     match Job::read(alloc, bytes) {
         Ok(_job) => good_reply(alloc, bytes),
-        Err(fault) => refusal(alloc, form, fault),
+        Err(fault) => Ok(refusal(fault)),
     }
 }
 
 /// The reply for a good job.
 fn good_reply(alloc: Global, bytes: &[u8]) -> Result<Reply, AllocError>
-    ensures { IfOk result (λ r. (r.status ≡ 0) × IsTextOf (document_in bytes.now) (string_bytes r.text)) }
+    ensures { IfOk result (λ r. (r.status ≡ 0) × ((form : Form) → IsTextOf (document_in bytes.now) (body_in form r.body))) }
 {
     let text = written_text(alloc, bytes)?;
     Ok(Reply {
         status: DONE,
-        text,
+        body: Body::Text(text),
         remarks: None,
     })
 }

@@ -1,9 +1,10 @@
 //! Why a run has no trace, and its reply.
-ghost use Rattle.std.specs.Prelude.{◌≡◌, IfOk, string_bytes};
+ghost use Rattle.std.specs.Prelude.{◌≡◌};
 ghost use Rattle.ulfm_command_line.specs.Failure.{failed_in};
+ghost use Rattle.ulfm_command_line.specs.declared.body.Body.TheVariants.{Failed};
 
+use crate::body::Body;
 use crate::reply::{RUN_FAILED, Reply};
-use std::alloc::{AllocError, Global};
 use ulfm_forms::Form;
 
 /// Why a run has no trace.
@@ -34,13 +35,13 @@ pub fn failed_line(form: Form, failure: Failure) -> &'static str
 }
 
 /// The reply where a run failed.
-pub fn failed(alloc: Global, form: Form, failure: Failure) -> Result<Reply, AllocError>
-    ensures { IfOk result (λ r. (r.status ≡ 3) × (string_bytes r.text ≡ failed_in form failure)) }
+pub fn failed(failure: Failure) -> Reply
+    ensures status { result.status ≡ 3 }
+    ensures body { result.body ≡ Failed failure }
 {
-    let text = String::from_str(alloc, failed_line(form, failure))?;
-    Ok(Reply {
+    Reply {
         status: RUN_FAILED,
-        text,
+        body: Body::Failed(failure),
         remarks: None,
-    })
+    }
 }

@@ -1,7 +1,8 @@
 //! Command lines, a job's text with the stops of a place, and the replies that need no engine: `check`, `expand`, `places`, and refusals.
 //!
 //!     let asked = asked_for(alloc, words)?;
-//!     let reply = check_reply(alloc, asked.form, bytes)?;
+//!     let reply = check_reply(alloc, bytes);
+//!     let text = reply.body.text(alloc, asked.form)?;
 //!
 //! Read CommandLine.antt first, then Wish.antt (the parts of a command line that name steps), Holding.antt (what holds at a place of what a text
 //! asks for), Stopped.antt, Named.antt (places by names), and then Replies.antt. It promises:
@@ -19,6 +20,7 @@
 //! - [`expand_reply`]: a text whose TOML document is that of the job with its steps and rows written out, where it isn't nested deeper than TOML is
 //!   read (`IsExpandReply`, Expanded.antt).
 //! - [`places_reply`]: the places of the job, a line each (`IsPlacesReply`, Places.antt; `places_of`, Places.antt of `ulfm_job`).
+//! - [`Body`]: what a reply writes, whose text in a form is `body_in` (Body.antt).
 //! - [`failed`]: the line of a failure, in either form (`failed_in`, `out_of_memory_text`, Failure.antt).
 //!
 //! Files:
@@ -28,13 +30,15 @@
 //! - what else is said of words: `unmeant.rt`, `tips.rt`, `help.rt`, `version.rt`
 //! - a text at a place: `reading_at_place.rt`, `holding.rt` (what is asked before the steps of a name), `looked_at.rt` (which rows count), `copied.rt` (parts
 //!   of a reading once more), `laws.rt`; places by names: `place_names.rt`, `place_by_names.rt`
-//! - replies: `reply.rt` (`check`, refusals, and the statuses of the program), `expansion.rt`, `place_lines.rt` (`places`), `failure.rt` (no trace)
+//! - replies: `reply.rt` (`check`, refusals, and the statuses of the program), `expansion.rt`, `place_lines.rt` (`places`), `failure.rt` (no trace),
+//!   `body.rt` (what a reply writes, and its printer), `unknown.rt`
 //! - for standard error alone: `remark.rt`, `unmet.rt`, `verdict_line.rt`
 //!
 //! Not here: replies that an engine makes (`ulfm_run_reply`, `ulfm_outcomes_reply`), and the way to the streams (`ulfm_program`). No contract speaks
 //! of the words of help, of tips and of remarks.
 #![tactic(auto)]
 
+mod body;
 mod command;
 mod copied;
 mod expansion;
@@ -57,12 +61,14 @@ mod reply;
 mod subcommands;
 mod tips;
 mod unfollowed;
+mod unknown;
 mod unmeant;
 mod unmet;
 mod verdict_line;
 mod version;
 mod wish;
 
+pub use body::Body;
 pub use command::{Asked, Carrier, ListOptions, RunOptions, Wanted};
 pub use expansion::expand_reply;
 pub use failure::{Failure, failed, failed_line};

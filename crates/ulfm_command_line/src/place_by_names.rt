@@ -1,89 +1,62 @@
 //! What the names of steps in `--stop` come to, once the job is read.
-ghost use Rattle.std.specs.Prelude.{◌≡◌, ℕ, List, Ok, IfOk, string_bytes};
+ghost use Rattle.std.specs.Prelude.{◌≡◌, ℕ, List, Ok, IfOk};
 ghost use Rattle.ulfm_reader.specs.JobText.{reading_of_bytes};
 ghost use Rattle.ulfm_command_line.specs.AskedFor.{Asked, asked_view, reading_as};
 ghost use Rattle.ulfm_command_line.specs.CommandLine.{HasRanges};
-ghost use Rattle.ulfm_command_line.specs.Named.{IsSettled, unnamed_in, unnamed_json, unnamed_text, wanted_at};
+ghost use Rattle.ulfm_forms.specs.declared.form.Form.{Form};
+ghost use Rattle.ulfm_command_line.specs.Body.{body_in};
+ghost use Rattle.ulfm_command_line.specs.Named.{IsSettled, wanted_at};
+ghost use Rattle.ulfm_command_line.specs.Unknown.{unnamed_in};
 
+use crate::body::Body;
 use crate::command::{ListOptions, RunOptions, Wanted};
 use crate::place_names::place_named;
-use crate::remark::Remark;
 use crate::reply::{JOB_REFUSED, Reply, refusal};
 use std::alloc::{AllocError, Global};
-use ulfm_forms::Form;
 use ulfm_job::Place;
 use ulfm_reader::{Name, ReadJob, Reading};
 
 /// The place that a text comes to in the job of these bytes, by the numbers and the names of steps, or the reply that it comes to none.
 pub fn settled_place(
     alloc: Global,
-    form: Form,
     text: &str,
     bytes: &[u8],
 ) -> Result<Result<Place, Reply>, AllocError>
-    ensures { IfOk result (IsSettled form text.now bytes.now) }
+    ensures { IfOk result (IsSettled text.now bytes.now) }
 {
     match Reading::read(alloc, bytes) {
-        Ok(read) => settled(alloc, form, text, read),
-        Err(fault) => Ok(Err(refusal(alloc, form, fault)?)),
+        Ok(read) => settled(alloc, text, read),
+        Err(fault) => Ok(Err(refusal(fault))),
     }
 }
 
 /// The same by what was read.
-fn settled(
-    alloc: Global,
-    form: Form,
-    text: &str,
-    read: Reading,
-) -> Result<Result<Place, Reply>, AllocError>
-    ensures { (bytes : List ℕ) → reading_of_bytes bytes ≡ Ok (reading_as (asked_view read)) → IfOk result (IsSettled form text.now bytes) }
+fn settled(alloc: Global, text: &str, read: Reading) -> Result<Result<Place, Reply>, AllocError>
+    ensures { (bytes : List ℕ) → reading_of_bytes bytes ≡ Ok (reading_as (asked_view read)) → IfOk result (IsSettled text.now bytes) }
 {
-    settled_by(alloc, form, text, read.names.as_slice())
+    settled_by(alloc, text, read.names.as_slice())
 }
 
 /// The same by the names of steps.
-fn settled_by(
-    alloc: Global,
-    form: Form,
-    text: &str,
-    names: &[Name],
-) -> Result<Result<Place, Reply>, AllocError>
-    ensures { (bytes : List ℕ) (read : Asked) → reading_of_bytes bytes ≡ Ok (reading_as read) → read.names ≡ names.now → IfOk result (IsSettled form text.now bytes) }
+fn settled_by(alloc: Global, text: &str, names: &[Name]) -> Result<Result<Place, Reply>, AllocError>
+    ensures { (bytes : List ℕ) (read : Asked) → reading_of_bytes bytes ≡ Ok (reading_as read) → read.names ≡ names.now → IfOk result (IsSettled text.now bytes) }
 {
     let place = place_named(alloc, names, text)?;
     match place {
         Some(place) => Ok(Ok(place)),
-        None => Ok(Err(unnamed(alloc, form, text)?)),
+        None => Ok(Err(unnamed(alloc, text)?)),
     }
 }
 
 /// The reply to a text that names no place of a job.
-fn unnamed(alloc: Global, form: Form, text: &str) -> Result<Reply, AllocError>
-    ensures { IfOk result (λ r. (r.status ≡ 1) × (string_bytes r.text ≡ unnamed_in form text.now)) }
+fn unnamed(alloc: Global, text: &str) -> Result<Reply, AllocError>
+    ensures { IfOk result (λ r. (r.status ≡ 1) × ((form : Form) → body_in form r.body ≡ unnamed_in form text.now)) }
 {
-    let line = match form {
-        Form::Words(_) => unnamed_text(alloc, text)?,
-        Form::Json => unnamed_json(alloc, text)?,
-    };
     Ok(Reply {
         status: JOB_REFUSED,
-        text: line,
-        remarks: Remark::no_place(alloc, text),
+        body: Body::Unnamed(String::from_str(alloc, text)?),
+        remarks: None,
     })
-}
-
-/// The line for a text that names no place of a job.
-fn unnamed_text(alloc: Global, text: &str) -> Result<String, AllocError>
-    ensures { IfOk result (λ line. string_bytes line ≡ unnamed_text text.now) }
-{
-    format!(in alloc; "place refused: {text}\n")
-}
-
-/// The same as an object.
-fn unnamed_json(alloc: Global, text: &str) -> Result<String, AllocError>
-    ensures { IfOk result (λ line. string_bytes line ≡ unnamed_json text.now) }
-{
-    format!(in alloc; "{{\"place_refused\":\"{text}\"}}\n")
 }
 
 impl Wanted {

@@ -1,7 +1,10 @@
 //! The reply of `places`: a line for each place of a job.
 ghost use Rattle.std.specs.Prelude.{◌≡◌, ◌++◌, IfOk, OnOk, string_bytes};
+ghost use Rattle.ulfm_forms.specs.declared.form.Form.{Form as Written};
+ghost use Rattle.ulfm_command_line.specs.Body.{body_in};
 ghost use Rattle.ulfm_command_line.specs.Places.{IsPlacesReply, place_line_in, places_in};
 
+use crate::body::Body;
 use crate::reply::{DONE, Reply, refusal};
 use std::alloc::{AllocError, Global};
 use ulfm_forms::Form;
@@ -9,27 +12,26 @@ use ulfm_job::{Job, JobFault, MOST_STEPS, Place, places};
 use ulfm_reader::ReadJob;
 
 /// The reply of `places`, with at most so many stops, 1 or 2.
-pub fn places_reply(alloc: Global, form: Form, stops: u8, bytes: &[u8]) -> Result<Reply, AllocError>
-    ensures { IfOk result (λ r. IsPlacesReply form stops bytes.now r.status (string_bytes r.text)) }
+pub fn places_reply(alloc: Global, stops: u8, bytes: &[u8]) -> Result<Reply, AllocError>
+    ensures { IfOk result (λ r. (form : Written) → IsPlacesReply form stops bytes.now r.status (body_in form r.body)) }
 {
     let job = match Job::read(alloc, bytes) {
         Ok(job) => job,
-        Err(fault) => return refusal(alloc, form, fault),
+        Err(fault) => return Ok(refusal(fault)),
     };
     if job.len() + stops as usize > MOST_STEPS {
-        return refusal(alloc, form, JobFault::TooLarge);
+        return Ok(refusal(JobFault::TooLarge));
     }
     let places = places(alloc, &job, stops)?;
-    let text = places_in(alloc, form, places.as_slice())?;
     Ok(Reply {
         status: DONE,
-        text,
+        body: Body::Places(places),
         remarks: None,
     })
 }
 
 /// A line for each of these places.
-fn places_in(alloc: Global, form: Form, places: &[Place]) -> Result<String, AllocError>
+pub(crate) fn places_in(alloc: Global, form: Form, places: &[Place]) -> Result<String, AllocError>
     ensures { IfOk result (λ text. string_bytes text ≡ places_in form places.now) }
 {
     let mut text = String::new(alloc);

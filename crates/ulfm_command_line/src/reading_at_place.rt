@@ -1,46 +1,41 @@
 //! What a text asks for, with the stops of a place.
-ghost use Rattle.std.specs.Prelude.{◌≡◌, ◌≤◌, ℕ, List, Ok, IfOk, map, string_bytes};
+ghost use Rattle.std.specs.Prelude.{◌≡◌, ◌≤◌, ℕ, List, Ok, IfOk, map};
 ghost use Rattle.ulfm_job.specs.Place.{IsPlaceOf, IsStopOf};
 ghost use Rattle.ulfm_reader.specs.JobText.{reading_of_bytes, rows_of};
-ghost use Rattle.ulfm_command_line.specs.Stopped.{IsAsked, asked_at, asked_beside, asked_view, beside_stops, clauses_beside, filed_beside, name_beside, no_place_in, no_place_json, no_place_text, number_beside, reading_as};
+ghost use Rattle.ulfm_command_line.specs.Stopped.{IsAsked, asked_at, asked_beside, asked_view, beside_stops, clauses_beside, filed_beside, name_beside, number_beside, reading_as};
+ghost use Rattle.ulfm_command_line.specs.declared.body.Body.TheVariants.{NoPlace};
 
+use crate::body::Body;
 use crate::copied::copied_texts;
 use crate::holding::held_at;
 use crate::reply::{JOB_REFUSED, Reply, refusal};
 use std::alloc::{AllocError, Global};
-use ulfm_forms::Form;
 use ulfm_job::{Clause, JobFault, MOST_STEPS, Place, Stop};
 use ulfm_reader::{Filed, Name, ReadJob, Reading};
 
 /// What a text asks for, with the stops of a place, or the reply that its job is refused, or hasn't this place.
 pub fn asked_at(
     alloc: Global,
-    form: Form,
     place: Place,
     bytes: &[u8],
 ) -> Result<Result<Reading, Reply>, AllocError>
-    ensures { IfOk result (IsAsked form place bytes.now) }
+    ensures { IfOk result (IsAsked place bytes.now) }
 {
     match Reading::read(alloc, bytes) {
-        Ok(read) => placed(alloc, form, place, read),
-        Err(fault) => Ok(Err(refusal(alloc, form, fault)?)),
+        Ok(read) => placed(alloc, place, read),
+        Err(fault) => Ok(Err(refusal(fault))),
     }
 }
 
 /// What was read, with the stops of a place, or the reply that the job hasn't this place, or no room for these stops.
-fn placed(
-    alloc: Global,
-    form: Form,
-    place: Place,
-    read: Reading,
-) -> Result<Result<Reading, Reply>, AllocError>
-    ensures { (bytes : List ℕ) → reading_of_bytes bytes ≡ Ok (reading_as (asked_view read)) → IfOk result (IsAsked form place bytes) }
+fn placed(alloc: Global, place: Place, read: Reading) -> Result<Result<Reading, Reply>, AllocError>
+    ensures { (bytes : List ℕ) → reading_of_bytes bytes ≡ Ok (reading_as (asked_view read)) → IfOk result (IsAsked place bytes) }
 {
     if !place.is_inside(&read.job) {
-        return Ok(Err(no_place(alloc, form, place)?));
+        return Ok(Err(no_place(place)));
     }
     if read.job.len() + place.len() > MOST_STEPS {
-        return Ok(Err(refusal(alloc, form, JobFault::TooLarge)?));
+        return Ok(Err(refusal(JobFault::TooLarge)));
     }
     Ok(Ok(stopped_at(alloc, place, &read)?))
 }
@@ -70,35 +65,15 @@ fn with_stops(alloc: Global, place: Place, read: Reading) -> Result<Reading, All
 }
 
 /// The reply to a place that a job hasn't.
-fn no_place(alloc: Global, form: Form, place: Place) -> Result<Reply, AllocError>
-    ensures { IfOk result (λ r. (r.status ≡ 1) × (string_bytes r.text ≡ no_place_in form place)) }
+fn no_place(place: Place) -> Reply
+    ensures status { result.status ≡ 1 }
+    ensures body { result.body ≡ NoPlace place }
 {
-    let text = match form {
-        Form::Words(_) => no_place_text(alloc, place)?,
-        Form::Json => no_place_json(alloc, place)?,
-    };
-    Ok(Reply {
+    Reply {
         status: JOB_REFUSED,
-        text,
+        body: Body::NoPlace(place),
         remarks: None,
-    })
-}
-
-/// What stands before a place that a job hasn't.
-const NO_PLACE: &str = "place refused: ";
-
-/// The line for a place that a job hasn't.
-fn no_place_text(alloc: Global, place: Place) -> Result<String, AllocError>
-    ensures { IfOk result (λ text. string_bytes text ≡ no_place_text place) }
-{
-    format!(in alloc; "{NO_PLACE}{place}\n")
-}
-
-/// The same as an object.
-fn no_place_json(alloc: Global, place: Place) -> Result<String, AllocError>
-    ensures { IfOk result (λ text. string_bytes text ≡ no_place_json place) }
-{
-    format!(in alloc; "{{\"place_refused\":\"{place}\"}}\n")
+    }
 }
 
 /// What was read and holds at its place, with one more stop of its job: steps of its rank behind the stop have a number more, by which rows, names

@@ -35,12 +35,6 @@ pub enum Remark {
     Verdict(Verdict),
     /// A schedule in which a step never ends, line by line.
     Hanging(String),
-    /// This text names no answer of the job.
-    NoGoal(String),
-    /// No step of the job has this name.
-    NoName(String),
-    /// The job hasn't the place of this text, which names steps.
-    NoPlace(String),
     /// A step has an answer that is nearly always a mistake of the script: how it begins, and at which places, where some are looked at.
     Mistaken(StepTold, &'static str, Vec<Place>),
     /// What a step expects only before the steps of this name holds at no place that was looked at.
@@ -165,31 +159,6 @@ impl Remark {
             Subject::Row(number) => Remark::UnheldRow(number, before),
         })
     }
-
-    /// That a text names no answer of the job, alone. Nothing where a growth was refused.
-    pub fn no_goal(alloc: Global, goal: &str) -> Option<Vec<Remark>> {
-        let goal = String::from_str(alloc, goal).ok()?;
-        alone(alloc, Remark::NoGoal(goal))
-    }
-
-    /// That no step of the job has a name, alone. Nothing where a growth was refused.
-    pub fn no_name(alloc: Global, name: &str) -> Option<Vec<Remark>> {
-        let name = String::from_str(alloc, name).ok()?;
-        alone(alloc, Remark::NoName(name))
-    }
-
-    /// That the job hasn't the place of a text, alone. Nothing where a growth was refused.
-    pub fn no_place(alloc: Global, text: &str) -> Option<Vec<Remark>> {
-        let text = String::from_str(alloc, text).ok()?;
-        alone(alloc, Remark::NoPlace(text))
-    }
-}
-
-/// A remark alone.
-fn alone(alloc: Global, remark: Remark) -> Option<Vec<Remark>> {
-    let mut remarks = Vec::new(alloc);
-    remarks.push(remark).ok()?;
-    Some(remarks)
 }
 
 /// Whether a step of a rank asks for a clause.

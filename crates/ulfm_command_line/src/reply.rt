@@ -1,7 +1,11 @@
 //! The reply to a job's bytes by `check`, and to a job that is refused.
 ghost use Rattle.std.specs.Prelude.{◌≡◌, Some, IfOk, string_bytes};
+ghost use Rattle.ulfm_forms.specs.declared.form.Form.{Form as Written};
+ghost use Rattle.ulfm_command_line.specs.Body.{body_in};
 ghost use Rattle.ulfm_command_line.specs.Replies.{fault_text, job_fault_json, job_fault_text, refused_in, good_in, good_json, good_line, IsCheckReply};
+ghost use Rattle.ulfm_command_line.specs.declared.body.Body.TheVariants.{Refused};
 
+use crate::body::Body;
 use crate::remark::Remark;
 use std::alloc::{AllocError, Global};
 use std::fmt;
@@ -39,11 +43,11 @@ pub const NO_SCHEDULE: u8 = 8;
 /// What was played to its end has an answer that its step doesn't expect, or all answers of a row that must not go together.
 pub const NOT_EXPECTED: u8 = 9;
 
-/// A status, and the text that is written with it.
+/// A status, and what is written with it.
 #[derive(Drop)]
 pub struct Reply {
     pub status: u8,
-    pub text: String,
+    pub body: Body,
     /// What standard error tells beside it, if anything: for people, and none of it is promised.
     pub remarks: Option<Vec<Remark>>,
 }
@@ -124,7 +128,12 @@ fn good_json(alloc: Global, ranks: u8, steps: usize) -> Result<String, AllocErro
 }
 
 /// The line for a good job, in this form.
-fn good_in(alloc: Global, form: Form, ranks: u8, steps: usize) -> Result<String, AllocError>
+pub(crate) fn good_in(
+    alloc: Global,
+    form: Form,
+    ranks: u8,
+    steps: usize,
+) -> Result<String, AllocError>
     ensures { IfOk result (λ text. string_bytes text ≡ good_in form ranks steps) }
 {
     match form {
@@ -134,7 +143,7 @@ fn good_in(alloc: Global, form: Form, ranks: u8, steps: usize) -> Result<String,
 }
 
 /// The line for a job that is refused, in this form.
-fn refused_in(alloc: Global, form: Form, fault: JobFault) -> Result<String, AllocError>
+pub(crate) fn refused_in(alloc: Global, form: Form, fault: JobFault) -> Result<String, AllocError>
     ensures { IfOk result (λ text. string_bytes text ≡ refused_in form fault) }
 {
     match form {
@@ -150,30 +159,27 @@ fn refused_in(alloc: Global, form: Form, fault: JobFault) -> Result<String, Allo
 }
 
 /// The reply to a job that is refused.
-pub fn refusal(alloc: Global, form: Form, fault: JobFault) -> Result<Reply, AllocError>
-    ensures { IfOk result (λ r. (r.status ≡ 1) × (string_bytes r.text ≡ refused_in form fault)) }
+pub fn refusal(fault: JobFault) -> Reply
+    ensures status { result.status ≡ 1 }
+    ensures body { result.body ≡ Refused fault }
 {
-    let text = refused_in(alloc, form, fault)?;
-    Ok(Reply {
+    Reply {
         status: JOB_REFUSED,
-        text,
+        body: Body::Refused(fault),
         remarks: None,
-    })
+    }
 }
 
 /// The reply of `check`.
-pub fn check_reply(alloc: Global, form: Form, bytes: &[u8]) -> Result<Reply, AllocError>
-    ensures { IfOk result (λ r. IsCheckReply form bytes.now r.status (string_bytes r.text)) }
+pub fn check_reply(alloc: Global, bytes: &[u8]) -> Reply
+    ensures { (form : Written) → IsCheckReply form bytes.now result.status (body_in form result.body) }
 {
     match Job::read(alloc, bytes) {
-        Ok(job) => {
-            let text = good_in(alloc, form, job.ranks(), job.len())?;
-            Ok(Reply {
-                status: DONE,
-                text,
-                remarks: None,
-            })
-        }
-        Err(fault) => refusal(alloc, form, fault),
+        Ok(job) => Reply {
+            status: DONE,
+            body: Body::Good(job.ranks(), job.len()),
+            remarks: None,
+        },
+        Err(fault) => refusal(fault),
     }
 }

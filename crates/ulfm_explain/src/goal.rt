@@ -3,7 +3,7 @@
 use crate::answers_at;
 use crate::misplaced::place_of;
 use std::alloc::{AllocError, Global};
-use ulfm_command_line::{Form, Wanted, Wording, asked_at};
+use ulfm_command_line::{Wanted, asked_at};
 use ulfm_job::Place;
 use ulfm_reader::{Reading, name_at};
 
@@ -22,7 +22,7 @@ pub(crate) fn goal_reason(
     goal: &str,
 ) -> Result<String, AllocError> {
     let place = place_of(wanted);
-    let Ok(asked) = asked_at(alloc, Form::Words(Wording::Plain), place, bytes)? else {
+    let Ok(asked) = asked_at(alloc, place, bytes)? else {
         return Ok(String::new(alloc));
     };
     // (where a rank stops its steps are other ones than those of the file)

@@ -1,14 +1,15 @@
 //! What standard error says beside a reply: for people, and none of it is promised.
 
 use crate::goal::goal_reason;
-use crate::misplaced::{misplaced_line, place_of};
+use crate::misplaced::misplaced_line;
 use crate::only_names::name_line;
 use crate::remark_lines::{remarks_told, verdict_line};
 use crate::stop_names::unnamed_line;
 use crate::{Explanation, explain, warnings};
 use std::alloc::{AllocError, Global};
 use std::io::Write;
-use ulfm_command_line::{DONE, JOB_REFUSED, PAST_LIMIT, Remark, Reply, RunOptions, Wanted};
+use ulfm_command_line::{Body, PAST_LIMIT, Remark, Reply, RunOptions, Wanted};
+use ulfm_job::JobFault;
 use ulfm_reader::write_whole;
 
 /// Why no stop can be put into a good job.
@@ -26,9 +27,6 @@ const MANY_STATES: &str =
 /// What to do where a run with the turns of its job leaves steps unfinished.
 const FEW_TURNS: &str =
     "threads poll fast, so the job's turns may be too few for a run: add --turns 1000000\n";
-
-/// The refusal of a job that is too large.
-const TOO_LARGE: &str = "J6";
 
 /// Says what a reply to these bytes doesn't. Where it can't be said, nothing is.
 pub fn write_notes<E: Write>(
@@ -59,21 +57,28 @@ pub fn write_fault<E: Write>(alloc: Global, usage: &str, errors: &mut E) {
     }
 }
 
-/// The text that a goal is refused, and why, as one line.
+/// That a goal is refused, and why, as one line.
 fn goal_line(
     alloc: Global,
     wanted: Wanted,
     bytes: &[u8],
-    text: &str,
     goal: &str,
 ) -> Result<String, AllocError> {
     let goal = goal.trim_ascii();
     let reason = goal_reason(alloc, wanted, bytes, goal)?;
-    if reason.is_empty() {
-        return fault_line(alloc, text);
+    let mut line = String::from_str(alloc, "ulfm: goal refused")?;
+    push_part(&mut line, goal)?;
+    push_part(&mut line, reason.as_str())?;
+    line.push_str("\n")?;
+    Ok(line)
+}
+
+/// Adds a part behind a colon, if it isn't empty.
+fn push_part(line: &mut String, part: &str) -> Result<(), AllocError> {
+    if part.is_empty() {
+        return Ok(());
     }
-    let end = if goal.is_empty() { "" } else { ":" };
-    format!(in alloc; "ulfm: {}{end} {reason}\n", text.trim_ascii())
+    write!(line, ": {part}")
 }
 
 /// What a tip stands behind in a usage text.
@@ -104,19 +109,15 @@ fn notes_on(
     bytes: &[u8],
     reply: &Reply,
 ) -> Result<String, AllocError> {
-    match refused_text(reply) {
-        Some(Remark::NoGoal(goal)) => {
-            return goal_line(alloc, wanted, bytes, reply.text.as_str(), goal.as_str())
-        }
-        Some(Remark::NoName(name)) => return name_line(alloc, wanted, bytes, name.as_str()),
-        Some(Remark::NoPlace(text)) => return unnamed_line(alloc, bytes, text.as_str()),
-        _ => {}
-    }
-    match (reply.status, wanted) {
-        (JOB_REFUSED, _) if bytes.trim_ascii().is_empty() => String::from_str(alloc, EMPTY),
-        (JOB_REFUSED, _) => refused_notes(alloc, wanted, bytes, reply.text.as_str()),
-        (DONE, Wanted::Check) => lines_of(alloc, "warning: ", &warnings(alloc, bytes)?),
-        (PAST_LIMIT, _) => String::from_str(alloc, MANY_STATES),
+    match &reply.body {
+        Body::NoGoal(goal) => goal_line(alloc, wanted, bytes, goal.as_str()),
+        Body::NoName(name) => name_line(alloc, wanted, bytes, name.as_str()),
+        Body::Unnamed(text) => unnamed_line(alloc, bytes, text.as_str()),
+        Body::NoPlace(place) => misplaced_line(alloc, bytes, *place),
+        Body::Refused(_) if bytes.trim_ascii().is_empty() => String::from_str(alloc, EMPTY),
+        Body::Refused(fault) => refused_notes(alloc, bytes, *fault),
+        Body::Good(..) => lines_of(alloc, "warning: ", &warnings(alloc, bytes)?),
+        _ if reply.status == PAST_LIMIT => String::from_str(alloc, MANY_STATES),
         _ => match &reply.remarks {
             Some(remarks) => remark_notes(alloc, wanted, remarks.as_slice()),
             None => Ok(String::new(alloc)),
@@ -124,37 +125,13 @@ fn notes_on(
     }
 }
 
-/// The remark on a goal that names no answer of the job, on a name that no step has, or on a place, if there is one.
-fn refused_text(reply: &Reply) -> Option<&Remark> {
-    let remarks = reply.remarks.as_ref()?;
-    remarks.iter().find(|remark| {
-        matches!(
-            remark,
-            Remark::NoGoal(_) | Remark::NoName(_) | Remark::NoPlace(_)
-        )
-    })
-}
-
-/// Why a job is refused, and which stop put into it has no place there.
-fn refused_notes(
-    alloc: Global,
-    wanted: Wanted,
-    bytes: &[u8],
-    text: &str,
-) -> Result<String, AllocError> {
-    let found = explain(alloc, bytes)?;
-    let mut notes = refused_lines(alloc, found.as_slice(), text)?;
-    let place = misplaced_line(alloc, bytes, place_of(wanted))?;
-    notes.push_str(place.as_str())?;
-    Ok(notes)
-}
-
 /// Why a job is refused, by what is wrong with its text. Where nothing is, yet it is too large, a stop has no room in it.
-fn refused_lines(alloc: Global, found: &[Explanation], text: &str) -> Result<String, AllocError> {
-    if found.is_empty() && text.contains(TOO_LARGE) {
+fn refused_notes(alloc: Global, bytes: &[u8], fault: JobFault) -> Result<String, AllocError> {
+    let found = explain(alloc, bytes)?;
+    if found.is_empty() && fault == JobFault::TooLarge {
         return String::from_str(alloc, NO_ROOM);
     }
-    lines_of(alloc, "", found)
+    lines_of(alloc, "", found.as_slice())
 }
 
 /// A line for each explanation, behind a word.

@@ -3,7 +3,7 @@
 use crate::misplaced::place_of;
 use std::alloc::{AllocError, Global};
 use strsim::osa_distance;
-use ulfm_command_line::{Form, Wanted, Wording, asked_at};
+use ulfm_command_line::{Wanted, asked_at};
 use ulfm_reader::Name;
 
 /// The most edits to a name that is told as the nearest.
@@ -17,7 +17,7 @@ pub(crate) fn name_line(
     text: &str,
 ) -> Result<String, AllocError> {
     let mut line = format!(in alloc; "ulfm: name refused: {text}: no step is called so")?;
-    if let Ok(asked) = asked_at(alloc, Form::Words(Wording::Plain), place_of(wanted), bytes)? {
+    if let Ok(asked) = asked_at(alloc, place_of(wanted), bytes)? {
         match nearest_of(alloc, asked.names.as_slice(), None, text)? {
             Some(name) => write!(line, "; did you mean '{name}'?")?,
             None => line.push_str(

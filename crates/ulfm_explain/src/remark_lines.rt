@@ -79,8 +79,6 @@ fn head_of(remark: &Remark) -> Option<&'static str> {
         Remark::Mistaken(..) => Some(MISTAKEN),
         Remark::Skipped(_) => Some(SKIPPED),
         Remark::UnheldStep(..) | Remark::UnheldRow(..) => Some(UNHELD),
-        // (it is told in place of all others)
-        Remark::NoGoal(_) | Remark::NoName(_) | Remark::NoPlace(_) => None,
         Remark::Verdict(_) | Remark::Hanging(_) => None,
     }
 }
@@ -112,9 +110,6 @@ fn line_of(alloc: Global, remark: &Remark) -> Result<String, AllocError> {
             write!(line, "never[{number}]: before '{name}'")?;
         }
         Remark::Verdict(_) | Remark::Hanging(_) => {}
-        Remark::NoGoal(text) | Remark::NoName(text) | Remark::NoPlace(text) => {
-            line.push_str(text.as_str())?;
-        }
     }
     line.push_str("\n")?;
     Ok(line)

@@ -56,8 +56,8 @@ module _ (form : Form) (options : ListOptions) (asked : Asked) where
     unfound-end count None past all =
         All-map wanted_at (λ (one : Listed). one.place) listed (subst (All (λ (one : Listed). wanted_at one.place)) (take_all count listed past) all)
     unfound-end count (Some finding) past first = λ alone status.
-        let words = string_bytes finding.reply.text in
-        subst (λ (what : Judgement). IsJudgedEach form options asked (places_in listed) alone status what finding.reply.status words) (sym first.5)
+        let words = string_bytes finding.text in
+        subst (λ (what : Judgement). IsJudgedEach form options asked (places_in listed) alone status what finding.status words) (sym first.5)
         (subst (λ (k : ℕ). IsJudgedEach form options asked (places_in listed) alone status NotKnown k words) (sym first.6)
         (unfound first.0 first.1 words first.2 first.3
         (All-map (IsUnfound form options asked) (λ (one : Listed). one.place) listed (subst (All (λ (one : Listed). IsUnfound form options asked one.place)) (take_all count listed past) first.4)) first.7))
@@ -80,8 +80,8 @@ module _ (form : Form) (options : ListOptions) (asked : Asked) where
       found-next first None so_far here some = absurd (false≢true some)
       found-next first (Some finding) so_far here nine = λ alone status.
           let what = finding.judgement in
-          let words = string_bytes finding.reply.text in
-          let same = told-found one.place what finding.reply.status words here nine in
+          let words = string_bytes finding.text in
+          let same = told-found one.place what finding.status words here nine in
           subst (λ (k : ℕ). IsJudgedEach form options asked (places_in listed) alone status what k words) (sym same)
           (found i one.place what words place-next (places-before (IsUnfound form options asked) (unfound-all i first so_far)) (subst (λ (k : ℕ). is_told one.place what k words) same here))
 
@@ -90,12 +90,12 @@ module _ (form : Form) (options : ListOptions) (asked : Asked) where
           → IsUnfoundUpTo form options asked listed (i + 1) (option_or first told)
       unfound-next None None all here none = places-more wanted_at all here
       unfound-next None (Some finding) all here other =
-          let words = string_bytes finding.reply.text in
-          let told = told-unfound one.place finding.judgement finding.reply.status words here other in
+          let words = string_bytes finding.text in
+          let told = told-unfound one.place finding.judgement finding.status words here other in
           (i, one.place, place-next, places-before wanted_at all, places-more (IsUnfound form options asked) (unfound-all i None all) (inr (words, told.2)), told.0, told.1, told.2)
       unfound-next (Some finding) None first here none =
           (first.0, first.1, first.2, first.3, places-more (IsUnfound form options asked) first.4 (inl here), first.5, first.6, first.7)
       unfound-next (Some finding) (Some later) first here other =
-          let words = string_bytes later.reply.text in
-          let told = told-unfound one.place later.judgement later.reply.status words here other in
+          let words = string_bytes later.text in
+          let told = told-unfound one.place later.judgement later.status words here other in
           (first.0, first.1, first.2, first.3, places-more (IsUnfound form options asked) first.4 (inr (words, told.2)), first.5, first.6, first.7)

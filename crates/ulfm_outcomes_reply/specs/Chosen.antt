@@ -64,10 +64,6 @@ chosen choice asked = filter (is_chosen choice (parts_of choice.only) asked.name
 abbrev pub unknown_part : ChoiceView → Asked → Option (List ℕ)
 unknown_part choice asked = find (λ part. not (is_called (flat_map (labels asked.names) (all_steps 0 asked.job.scripts)) part)) (parts_of choice.only)
 
--- the line for such a part
-abbrev pub no_name : List ℕ → List ℕ
-no_name part = codes "name refused: " ++ trim part ++ codes "\n"
-
 -- the list of an exploration of a job, which comes to this, in this form
 abbrev pub list_in : Form → ChoiceView → Asked → Judgement → Reached → List ℕ
 list_in form choice asked judgement reached = printed form asked.names (list_found (chosen choice asked) judgement reached)

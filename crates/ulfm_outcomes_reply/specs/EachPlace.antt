@@ -1,5 +1,6 @@
 -- What `outcomes --stops` writes for a job.
 use Rattle.std.specs.Prelude.{◌≡◌, ◌<◌, ◌⊎◌, ℕ, ◌+◌, List, [], ◌++◌, Option, Some, None, All, map, slice_get, take}
+use Rattle.std.specs.Str.{trim}
 use Rattle.ulfm_job.specs.declared.fault.JobFault.TheVariants.{TooLarge}
 use Rattle.ulfm_job.specs.Job.{step_count}
 use Rattle.ulfm_job.specs.Places.{places_of}
@@ -15,10 +16,11 @@ use Rattle.ulfm_forms.specs.declared.form.Form.{Form}
 use Rattle.ulfm_command_line.specs.Failure.{out_of_memory_in}
 use Rattle.ulfm_command_line.specs.Replies.{refused_in}
 use Rattle.ulfm_command_line.specs.Stopped.{Asked, IsAskedAt, IsRefusal, asked_at}
+use Rattle.ulfm_command_line.specs.Unknown.{no_name}
 use Rattle.ulfm_command_line.specs.declared.command.ListOptions.{ListOptions}
 use Rattle.ulfm_command_line.specs.Wish.{ChoiceView}
 use Rattle.ulfm_outcomes_list.specs.declared.unmet.Unmet.{Unmet}
-use Rattle.ulfm_outcomes_reply.specs.Chosen.{lists_in, no_name, unknown_part}
+use Rattle.ulfm_outcomes_reply.specs.Chosen.{lists_in, unknown_part}
 use Rattle.ulfm_outcomes_reply.specs.Drawn.{IsDrawn, left_drawn}
 use Rattle.ulfm_outcomes_reply.specs.Hangs.{judgement_of_all}
 use Rattle.ulfm_outcomes_reply.specs.Outcomes.{list_status}
@@ -75,6 +77,6 @@ pub data IsEachPlaceReply (form : Form) (choice : ChoiceView) (options : ListOpt
   no_room_for_stops : (asked : Asked) → IsAskedAt Nowhere bytes asked → unknown_part choice asked ≡ None → 256 < step_count asked.job.scripts + stops → IsEachPlaceReply form choice options stops bytes 1 (refused_in form TooLarge)
   drawn_at_place : (asked : Asked) (listed : List Listed) (past : Option Place) (status : ℕ) (text : List ℕ) → IsAskedAt Nowhere bytes asked → unknown_part choice asked ≡ None
       → AreLists asked options.limit (places_of stops asked.job) listed past → IsFirstPicture form options asked listed status text → IsEachPlaceReply form choice options stops bytes status text
-  misnamed_at_all : (asked : Asked) (part : List ℕ) → IsAskedAt Nowhere bytes asked → unknown_part choice asked ≡ Some part → IsEachPlaceReply form choice options stops bytes 1 (no_name part)
+  misnamed_at_all : (asked : Asked) (part : List ℕ) → IsAskedAt Nowhere bytes asked → unknown_part choice asked ≡ Some part → IsEachPlaceReply form choice options stops bytes 1 (no_name (trim part))
   not_listed_at_all : (status : ℕ) (text : List ℕ) → IsRefusal form Nowhere bytes status text → IsEachPlaceReply form choice options stops bytes status text
   no_memory_for_lists : IsEachPlaceReply form choice options stops bytes 3 (out_of_memory_in form)

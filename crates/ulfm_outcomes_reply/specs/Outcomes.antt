@@ -1,5 +1,6 @@
 -- What `outcomes` writes for a job.
 use Rattle.std.specs.Prelude.{◌≡◌, ℕ, Bool, List, ◌++◌, Some, None, Result, Ok, Err, codes, if◌then◌else◌}
+use Rattle.std.specs.Str.{trim}
 use Rattle.ulfm_job.specs.declared.clause.Clause.{Clause}
 use Rattle.ulfm_reader.specs.Goals.{goals_of}
 use Rattle.ulfm_reach.specs.declared.reach.Reach.TheVariants.{All, More}
@@ -19,12 +20,13 @@ use Rattle.ulfm_outcomes_list.specs.declared.search_result.Told.TheVariants as t
 use Rattle.ulfm_schedule.specs.declared.schedule.Schedule.{Schedule}
 use Rattle.ulfm_command_line.specs.Failure.{out_of_memory_in}
 use Rattle.ulfm_command_line.specs.Stopped.{Asked, IsAskedAt, IsRefusal, reading_as}
+use Rattle.ulfm_command_line.specs.Unknown.{no_goal, no_name}
 use Rattle.ulfm_command_line.specs.declared.command.ListOptions.{ListOptions}
 use Rattle.ulfm_command_line.specs.Wish.{ChoiceView}
 use Rattle.ulfm_outcomes_list.specs.declared.unmet.Unmet.{Unmet}
 use Rattle.ulfm_outcomes_reply.specs.Drawn.{IsDrawn, left_drawn}
 use Rattle.ulfm_outcomes_reply.specs.Hangs.{judgement_alone}
-use Rattle.ulfm_outcomes_reply.specs.Chosen.{list_in, no_name, unknown_part}
+use Rattle.ulfm_outcomes_reply.specs.Chosen.{list_in, unknown_part}
 use Rattle.ulfm_outcomes_reply.specs.Wanted.{IsToldOf, IsWanted}
 
 -- what the words say that no schedule shows the answers, in this form
@@ -55,13 +57,9 @@ pub data IsOutcomesReply (form : Form) (choice : ChoiceView) (options : ListOpti
       → IsJudged form choice options asked reached status text → IsOutcomesReply form choice options bytes status text
   past_limit : (asked : Asked) → IsAskedAt options.place bytes asked → unknown_part choice asked ≡ None → IsList asked.job options.limit More
       → IsOutcomesReply form choice options bytes 7 (more_in form options.limit)
-  misnamed : (asked : Asked) (part : List ℕ) → IsAskedAt options.place bytes asked → unknown_part choice asked ≡ Some part → IsOutcomesReply form choice options bytes 1 (no_name part)
+  misnamed : (asked : Asked) (part : List ℕ) → IsAskedAt options.place bytes asked → unknown_part choice asked ≡ Some part → IsOutcomesReply form choice options bytes 1 (no_name (trim part))
   not_listed : (status : ℕ) (text : List ℕ) → IsRefusal form options.place bytes status text → IsOutcomesReply form choice options bytes status text
   unlisted : IsOutcomesReply form choice options bytes 3 (out_of_memory_in form)
-
--- the line for a goal that names no answer of the job
-abbrev pub no_goal : List ℕ → List ℕ
-no_goal text = codes "goal refused: " ++ text ++ codes "\n"
 
 -- the answers that a text names, by what was read of a job
 abbrev pub goals_asked : Asked → List ℕ → Result (List Clause) (List ℕ)

@@ -16,8 +16,9 @@ use Rattle.ulfm_forms.specs.declared.form.Form.{Form}
 use Rattle.ulfm_command_line.specs.Failure.{out_of_memory_in}
 use Rattle.ulfm_command_line.specs.Replies.{refused_in}
 use Rattle.ulfm_command_line.specs.Stopped.{Asked, IsAskedAt, IsRefusal, asked_at, clauses_beside}
+use Rattle.ulfm_command_line.specs.Unknown.{no_goal}
 use Rattle.ulfm_command_line.specs.declared.command.ListOptions.{ListOptions}
-use Rattle.ulfm_outcomes_reply.specs.Outcomes.{goals_asked, no_goal, nowhere_in}
+use Rattle.ulfm_outcomes_reply.specs.Outcomes.{goals_asked, nowhere_in}
 use Rattle.ulfm_outcomes_list.specs.Told.{told_in}
 use Rattle.ulfm_outcomes_list.specs.declared.search_result.Told.{Told}
 use Rattle.ulfm_outcomes_list.specs.declared.search_result.Told.TheVariants as told

@@ -1,7 +1,8 @@
 //! The step that `--draw` draws where no answers are to be shown: the first one that never ends.
-ghost use Rattle.std.specs.Prelude.{◌≡◌, Some, IfOk, map, string_bytes};
+ghost use Rattle.std.specs.Prelude.{◌≡◌, Some, IfOk, map};
 ghost use Rattle.ulfm_outcomes_spec.specs.Unmet.{Judges};
 ghost use Rattle.ulfm_outcomes_list.specs.Listed.{step_view};
+ghost use Rattle.ulfm_command_line.specs.Body.{body_in};
 ghost use Rattle.ulfm_command_line.specs.Stopped.{asked_at, asked_view};
 ghost use Rattle.ulfm_outcomes_reply.specs.Drawn.{IsDrawn, first_left, left_drawn, left_of};
 ghost use Rattle.ulfm_outcomes_reply.specs.Wanted.{HasList};
@@ -127,7 +128,7 @@ fn left_reply<F: Finder, W: Watch>(
     watch: &mut W,
 ) -> Result<Reply, AllocError>
     requires { Judges asked.now.job (Some left) }
-    ensures { IfOk result (λ r. IsDrawn search.now.form search.now.options at (asked_view asked.now) left r.status (string_bytes r.text)) }
+    ensures { IfOk result (λ r. IsDrawn search.now.form search.now.options at (asked_view asked.now) left r.status (body_in search.now.form r.body)) }
 {
     let goals = left.goals(search.alloc, &asked.job)?;
     let told = told_of(search, &asked.job, &goals, watch)?;

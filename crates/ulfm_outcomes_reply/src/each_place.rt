@@ -3,6 +3,7 @@
 ghost use Rattle.std.specs.Prelude.{◌≡◌, ◌<◌, ◌≤◌, ℕ, List, None, IfOk, string_bytes};
 ghost use Rattle.ulfm_outcomes_list.specs.Told.{more_at};
 ghost use Rattle.ulfm_job.specs.declared.place.Place.TheVariants.{Nowhere};
+ghost use Rattle.ulfm_command_line.specs.Body.{body_in};
 ghost use Rattle.ulfm_command_line.specs.Stopped.{IsAskedAt, asked_view};
 ghost use Rattle.ulfm_command_line.specs.Wish.{choice_view};
 ghost use Rattle.ulfm_outcomes_reply.specs.Chosen.{unknown_part};
@@ -23,7 +24,9 @@ use crate::verdict_lines::lists_remarks;
 use std::alloc::AllocError;
 use std::thread;
 use std::thread::Threads;
-use ulfm_command_line::{ListOptions, MOST_THREADS, PAST_LIMIT, Place, Reply, asked_at, refusal};
+use ulfm_command_line::{
+    Body, ListOptions, MOST_THREADS, PAST_LIMIT, Place, Reply, asked_at, refusal,
+};
 use ulfm_job::{JobFault, MOST_STEPS, places};
 use ulfm_outcomes_list::{Judgement, lists_of, push_more_at, some_never_ends};
 use ulfm_outcomes_spec::Finder;
@@ -41,9 +44,9 @@ where
     R: Threads + Sync,
     F: Finder + Sync,
     L: Onlooker + Sync,
-    ensures { IfOk result (λ r. IsEachPlaceReply search.now.form (choice_view search.now.choice) search.now.options stops bytes.now r.status (string_bytes r.text)) }
+    ensures { IfOk result (λ r. IsEachPlaceReply search.now.form (choice_view search.now.choice) search.now.options stops bytes.now r.status (body_in search.now.form r.body)) }
 {
-    let read = asked_at(search.alloc, search.form, Place::Nowhere, bytes)?;
+    let read = asked_at(search.alloc, Place::Nowhere, bytes)?;
     match read {
         Ok(asked) => named_reply(rt, search, stops, &asked, onlooker),
         Err(reply) => Ok(reply),
@@ -62,7 +65,7 @@ where
     R: Threads + Sync,
     F: Finder + Sync,
     L: Onlooker + Sync,
-    ensures { (bytes : List ℕ) → IsAskedAt Nowhere bytes (asked_view asked.now) → IfOk result (λ r. IsEachPlaceReply search.now.form (choice_view search.now.choice) search.now.options stops bytes r.status (string_bytes r.text)) }
+    ensures { (bytes : List ℕ) → IsAskedAt Nowhere bytes (asked_view asked.now) → IfOk result (λ r. IsEachPlaceReply search.now.form (choice_view search.now.choice) search.now.options stops bytes r.status (body_in search.now.form r.body)) }
 {
     match unknown_part(search, asked)? {
         Some(part) => no_name(search.alloc, part),
@@ -82,10 +85,10 @@ where
     R: Threads + Sync,
     F: Finder + Sync,
     L: Onlooker + Sync,
-    ensures { (bytes : List ℕ) → IsAskedAt Nowhere bytes (asked_view asked.now) → unknown_part (choice_view search.now.choice) (asked_view asked.now) ≡ None → IfOk result (λ r. IsEachPlaceReply search.now.form (choice_view search.now.choice) search.now.options stops bytes r.status (string_bytes r.text)) }
+    ensures { (bytes : List ℕ) → IsAskedAt Nowhere bytes (asked_view asked.now) → unknown_part (choice_view search.now.choice) (asked_view asked.now) ≡ None → IfOk result (λ r. IsEachPlaceReply search.now.form (choice_view search.now.choice) search.now.options stops bytes r.status (body_in search.now.form r.body)) }
 {
     if asked.job.len() + stops as usize > MOST_STEPS {
-        return refusal(search.alloc, search.form, JobFault::TooLarge);
+        return Ok(refusal(JobFault::TooLarge));
     }
     let places = places(search.alloc, &asked.job, stops)?;
     let threads = threads_of(rt, search.options);
@@ -128,13 +131,13 @@ fn judged<F: Finder, L: Onlooker>(
     onlooker: &L,
 ) -> Result<Reply, AllocError>
     requires listed { AreListedOf (asked_view asked.now) search.now.options.limit lists.now.listed.items }
-    ensures { IfOk result (λ r. IsEachText search.now.form (choice_view search.now.choice) search.now.options (asked_view asked.now) lists.now r.status (string_bytes r.text)) }
+    ensures { IfOk result (λ r. IsEachText search.now.form (choice_view search.now.choice) search.now.options (asked_view asked.now) lists.now r.status (body_in search.now.form r.body)) }
 {
     let listed = lists.listed.as_slice();
     match first_unwanted(search, asked, listed, onlooker)? {
         Some(told) => {
             let text = text_of(search, asked, lists, told.judgement)?;
-            below(text, with_unheld(told.reply, asked, listed))
+            below(text, with_unheld(told, asked, listed))
         }
         None => alone(search, asked, lists, onlooker),
     }
@@ -147,12 +150,12 @@ fn alone<F: Finder, L: Onlooker>(
     lists: &Lists,
     onlooker: &L,
 ) -> Result<Reply, AllocError>
-    ensures { IfOk result (λ r. (r.status ≡ lists_status search.now.options lists.now) × (string_bytes r.text ≡ lists_text search.now.form (choice_view search.now.choice) (asked_view asked.now) search.now.options lists.now (lists_judgement search.now.options (asked_view asked.now) lists.now))) }
+    ensures { IfOk result (λ r. (r.status ≡ lists_status search.now.options lists.now) × (body_in search.now.form r.body ≡ lists_text search.now.form (choice_view search.now.choice) (asked_view asked.now) search.now.options lists.now (lists_judgement search.now.options (asked_view asked.now) lists.now))) }
 {
     let judgement = judgement_of(search, asked, lists)?;
     Ok(Reply {
         status: status_of(search.options, lists),
-        text: text_of(search, asked, lists, judgement)?,
+        body: Body::Text(text_of(search, asked, lists, judgement)?),
         remarks: lists_remarks(search, asked, lists, onlooker),
     })
 }

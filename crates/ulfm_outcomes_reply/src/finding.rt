@@ -3,7 +3,7 @@ ghost use Rattle.std.specs.Prelude.{◌≡◌};
 ghost use Rattle.ulfm_command_line.specs.Stopped.{asked_view};
 ghost use Rattle.ulfm_outcomes_reply.specs.Wanted.{asks};
 
-use ulfm_command_line::Reply;
+use ulfm_command_line::Remark;
 use ulfm_outcomes_list::Judgement;
 use ulfm_reader::Reading;
 
@@ -12,8 +12,12 @@ use ulfm_reader::Reading;
 pub struct Finding {
     /// What the list comes to.
     pub judgement: Judgement,
-    /// What is told, with its status.
-    pub reply: Reply,
+    /// The status.
+    pub status: u8,
+    /// What is told.
+    pub text: String,
+    /// What standard error tells beside it, if anything.
+    pub remarks: Option<Vec<Remark>>,
 }
 
 /// Whether a job asks for something: answers of its steps, or by rows of `never`.

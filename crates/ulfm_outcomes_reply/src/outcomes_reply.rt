@@ -1,6 +1,8 @@
 //! The reply of `outcomes`: a line for each step, with all that it may be answered, and below it a schedule that shows what the job doesn't
 //! want.
 ghost use Rattle.std.specs.Prelude.{◌≡◌, ◌++◌, ℕ, List, None, IfOk, option_map, string_bytes};
+ghost use Rattle.ulfm_forms.specs.declared.form.Form.{Form};
+ghost use Rattle.ulfm_command_line.specs.Body.{body_in};
 ghost use Rattle.ulfm_command_line.specs.Stopped.{IsAskedAt, asked_view};
 ghost use Rattle.ulfm_reach.specs.declared.reach.Reach.TheVariants.{All};
 ghost use Rattle.ulfm_outcomes_spec.specs.Outcomes.{IsList};
@@ -15,6 +17,7 @@ ghost use Rattle.ulfm_outcomes_reply.specs.Hangs.{judgement_alone};
 
 use crate::drawing::drawn;
 use crate::each_place::each_place_reply;
+use crate::finding::Finding;
 use crate::hang::judgement_alone;
 use crate::onlooker::Onlooker;
 use crate::picked_steps::{chosen, no_name, printed, unknown_part};
@@ -25,7 +28,7 @@ use crate::unwanted::unwanted;
 use crate::verdict_lines::list_remarks;
 use std::alloc::AllocError;
 use std::thread::Threads;
-use ulfm_command_line::{DONE, PAST_LIMIT, Reply, UNFINISHED, asked_at};
+use ulfm_command_line::{Body, DONE, PAST_LIMIT, Reply, UNFINISHED, asked_at};
 use ulfm_outcomes_list::{Judgement, list_of, more_in, some_never_end};
 use ulfm_outcomes_spec::Finder;
 use ulfm_reach::{Reach, Reached, Watch};
@@ -44,7 +47,7 @@ where
     R: Threads + Sync,
     F: Finder + Sync,
     W: Watch + Onlooker + Sync,
-    ensures { IfOk result (λ r. IsListReply search.now.form (option_map (λ s. s.now) show.entry) (choice_view search.now.choice) search.now.options bytes.now r.status (string_bytes r.text)) }
+    ensures { IfOk result (λ r. IsListReply search.now.form (option_map (λ s. s.now) show.entry) (choice_view search.now.choice) search.now.options bytes.now r.status (body_in search.now.form r.body)) }
 {
     match (show, search.options.stops) {
         (Some(show), Some(stops)) => show_each_reply(search, stops, show, bytes, &*watch),
@@ -60,9 +63,9 @@ fn outcomes_reply<F: Finder, W: Watch>(
     bytes: &[u8],
     watch: &mut W,
 ) -> Result<Reply, AllocError>
-    ensures { IfOk result (λ r. IsOutcomesReply search.now.form (choice_view search.now.choice) search.now.options bytes.now r.status (string_bytes r.text)) }
+    ensures { IfOk result (λ r. IsOutcomesReply search.now.form (choice_view search.now.choice) search.now.options bytes.now r.status (body_in search.now.form r.body)) }
 {
-    let read = asked_at(search.alloc, search.form, search.options.place, bytes)?;
+    let read = asked_at(search.alloc, search.options.place, bytes)?;
     match read {
         Ok(asked) => named_reply(search, &asked, watch),
         Err(reply) => Ok(reply),
@@ -75,7 +78,7 @@ fn named_reply<F: Finder, W: Watch>(
     asked: &Reading,
     watch: &mut W,
 ) -> Result<Reply, AllocError>
-    ensures { (bytes : List ℕ) → IsAskedAt search.now.options.place bytes (asked_view asked.now) → IfOk result (λ r. IsOutcomesReply search.now.form (choice_view search.now.choice) search.now.options bytes r.status (string_bytes r.text)) }
+    ensures { (bytes : List ℕ) → IsAskedAt search.now.options.place bytes (asked_view asked.now) → IfOk result (λ r. IsOutcomesReply search.now.form (choice_view search.now.choice) search.now.options bytes r.status (body_in search.now.form r.body)) }
 {
     match unknown_part(search, asked)? {
         Some(part) => no_name(search.alloc, part),
@@ -90,7 +93,7 @@ fn explored_reply<F: Finder, W: Watch>(
     watch: &mut W,
 ) -> Result<Reply, AllocError>
     requires { unknown_part (choice_view search.now.choice) (asked_view asked.now) ≡ None }
-    ensures { (bytes : List ℕ) → IsAskedAt search.now.options.place bytes (asked_view asked.now) → IfOk result (λ r. IsOutcomesReply search.now.form (choice_view search.now.choice) search.now.options bytes r.status (string_bytes r.text)) }
+    ensures { (bytes : List ℕ) → IsAskedAt search.now.options.place bytes (asked_view asked.now) → IfOk result (λ r. IsOutcomesReply search.now.form (choice_view search.now.choice) search.now.options bytes r.status (body_in search.now.form r.body)) }
 {
     let reach = search.outcomes(&asked.job, watch)?;
     reached_reply(search, asked, &reach, watch)
@@ -105,7 +108,7 @@ fn reached_reply<F: Finder, W: Watch>(
 ) -> Result<Reply, AllocError>
     requires named { unknown_part (choice_view search.now.choice) (asked_view asked.now) ≡ None }
     requires list { IsList asked.now.job search.now.options.limit reach.now }
-    ensures { (bytes : List ℕ) → IsAskedAt search.now.options.place bytes (asked_view asked.now) → IfOk result (λ r. IsOutcomesReply search.now.form (choice_view search.now.choice) search.now.options bytes r.status (string_bytes r.text)) }
+    ensures { (bytes : List ℕ) → IsAskedAt search.now.options.place bytes (asked_view asked.now) → IfOk result (λ r. IsOutcomesReply search.now.form (choice_view search.now.choice) search.now.options bytes r.status (body_in search.now.form r.body)) }
 {
     match reach {
         Reach::All(reached) => judged(search, asked, reached, watch),
@@ -115,11 +118,11 @@ fn reached_reply<F: Finder, W: Watch>(
 
 /// The reply that there are more states than the limit.
 fn more_reply<F>(search: &Search<'_, F>) -> Result<Reply, AllocError>
-    ensures { IfOk result (λ r. (r.status ≡ 7) × (string_bytes r.text ≡ more_in search.now.form search.now.options.limit)) }
+    ensures { IfOk result (λ r. (r.status ≡ 7) × (body_in search.now.form r.body ≡ more_in search.now.form search.now.options.limit)) }
 {
     Ok(Reply {
         status: PAST_LIMIT,
-        text: more_in(search.alloc, search.form, search.options.limit as usize)?,
+        body: Body::Text(more_in(search.alloc, search.form, search.options.limit as usize)?),
         remarks: None,
     })
 }
@@ -132,7 +135,7 @@ fn judged<F: Finder, W: Watch>(
     watch: &mut W,
 ) -> Result<Reply, AllocError>
     requires { IsList asked.now.job search.now.options.limit (All reached.now) }
-    ensures { IfOk result (λ r. IsJudged search.now.form (choice_view search.now.choice) search.now.options (asked_view asked.now) reached.now r.status (string_bytes r.text)) }
+    ensures { IfOk result (λ r. IsJudged search.now.form (choice_view search.now.choice) search.now.options (asked_view asked.now) reached.now r.status (body_in search.now.form r.body)) }
 {
     match drawn(search, None, asked, &reached.found, watch)? {
         Some(reply) => Ok(reply),
@@ -149,12 +152,12 @@ fn undrawn<F: Finder, W: Watch>(
 ) -> Result<Reply, AllocError>
     requires list { IsList asked.now.job search.now.options.limit (All reached.now) }
     requires none { left_drawn search.now.options.drawn asked.now.job reached.now.found ≡ None }
-    ensures { IfOk result (λ r. IsJudged search.now.form (choice_view search.now.choice) search.now.options (asked_view asked.now) reached.now r.status (string_bytes r.text)) }
+    ensures { IfOk result (λ r. IsJudged search.now.form (choice_view search.now.choice) search.now.options (asked_view asked.now) reached.now r.status (body_in search.now.form r.body)) }
 {
     match unwanted(search, None, asked, &reached.found, watch)? {
         Some(told) => {
             let list = text_of(search, asked, reached, told.judgement)?;
-            below(list, told.reply)
+            below(list, told)
         }
         None => good(search, asked, reached, watch),
     }
@@ -167,13 +170,13 @@ fn good<F: Finder, W: Watch>(
     reached: &Reached,
     watch: &mut W,
 ) -> Result<Reply, AllocError>
-    ensures { IfOk result (λ r. (r.status ≡ list_status search.now.options.is_strict (some_never_ends reached.now.found)) × (string_bytes r.text ≡ list_in search.now.form (choice_view search.now.choice) (asked_view asked.now) (judgement_alone search.now.options.is_strict (asked_view asked.now) reached.now.found) reached.now)) }
+    ensures { IfOk result (λ r. (r.status ≡ list_status search.now.options.is_strict (some_never_ends reached.now.found)) × (body_in search.now.form r.body ≡ list_in search.now.form (choice_view search.now.choice) (asked_view asked.now) (judgement_alone search.now.options.is_strict (asked_view asked.now) reached.now.found) reached.now)) }
 {
     let is_open = some_never_end(&reached.found);
     let judgement = judgement_alone(search, asked, &reached.found)?;
     Ok(Reply {
         status: list_status(search.options.is_strict, is_open),
-        text: text_of(search, asked, reached, judgement)?,
+        body: Body::Text(text_of(search, asked, reached, judgement)?),
         remarks: list_remarks(search, asked, &reached.found, watch),
     })
 }
@@ -204,14 +207,14 @@ pub(crate) fn list_status(is_strict: bool, is_open: bool) -> u8
 }
 
 /// What is told, below this text.
-pub(crate) fn below(text: String, told: Reply) -> Result<Reply, AllocError>
-    ensures { IfOk result (λ r. (r.status ≡ told.status) × (string_bytes r.text ≡ string_bytes text ++ string_bytes told.text)) }
+pub(crate) fn below(text: String, told: Finding) -> Result<Reply, AllocError>
+    ensures { IfOk result (λ r. (r.status ≡ told.status) × ((form : Form) → body_in form r.body ≡ string_bytes text ++ string_bytes told.text)) }
 {
     let mut text = text;
     text.push_str(told.text.as_str())?;
     Ok(Reply {
         status: told.status,
-        text,
+        body: Body::Text(text),
         remarks: told.remarks,
     })
 }

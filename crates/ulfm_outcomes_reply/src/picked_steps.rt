@@ -1,15 +1,19 @@
 //! The steps whose lines a list has.
 ghost use Rattle.std.specs.Prelude.{◌≡◌, ◌==◌, ◌++◌, ◌∷◌, [], if◌then◌else◌, not, IfOk, OnOk, filter, map, option_map, string_bytes};
 ghost use Rattle.std.specs.List.{find, flat_map, list_any, slice_split};
+ghost use Rattle.std.specs.Str.{trim};
+ghost use Rattle.ulfm_forms.specs.declared.form.Form.{Form as Written};
 ghost use Rattle.ulfm_outcomes_list.specs.Listed.{list_view, step_view};
 ghost use Rattle.ulfm_outcomes_list.specs.ListJson.{printed};
+ghost use Rattle.ulfm_command_line.specs.Body.{body_in};
 ghost use Rattle.ulfm_command_line.specs.Stopped.{asked_view};
+ghost use Rattle.ulfm_command_line.specs.Unknown.{no_name};
 ghost use Rattle.ulfm_command_line.specs.Wish.{choice_view};
-ghost use Rattle.ulfm_outcomes_reply.specs.Chosen.{are_called, chosen, is_all, is_called, is_chosen, is_note, is_part, labels, named_labels, no_name, parts_of, unknown_part};
+ghost use Rattle.ulfm_outcomes_reply.specs.Chosen.{are_called, chosen, is_all, is_called, is_chosen, is_note, is_part, labels, named_labels, parts_of, unknown_part};
 
 use crate::search::Search;
 use std::alloc::{AllocError, Global};
-use ulfm_command_line::{Choice, JOB_REFUSED, Remark, Reply};
+use ulfm_command_line::{Body, Choice, JOB_REFUSED, Reply};
 use ulfm_job::Step;
 use ulfm_outcomes_list::{JobStep, StepList, push_list, steps_of};
 use ulfm_reader::{Name, Reading, name_at};
@@ -48,14 +52,12 @@ pub(crate) fn unknown_part<'a, F>(
 
 /// The reply to a part of `--only` that names no step of the job.
 pub(crate) fn no_name(alloc: Global, part: &str) -> Result<Reply, AllocError>
-    ensures { IfOk result (λ r. (r.status ≡ 1) × (string_bytes r.text ≡ no_name part.now)) }
+    ensures { IfOk result (λ r. (r.status ≡ 1) × ((form : Written) → body_in form r.body ≡ no_name (trim part.now))) }
 {
-    let name = part.trim();
-    let text = format!(in alloc; "name refused: {name}\n")?;
     Ok(Reply {
         status: JOB_REFUSED,
-        text,
-        remarks: Remark::no_name(alloc, name),
+        body: Body::NoName(String::from_str(alloc, part.trim())?),
+        remarks: None,
     })
 }
 

@@ -1,9 +1,10 @@
 //! The reply of `outcomes --stops --show`: the first place at which a schedule shows answers, and that schedule.
-ghost use Rattle.std.specs.Prelude.{◌≡◌, ℕ, All, List, IfOk, Some, string_bytes};
+ghost use Rattle.std.specs.Prelude.{◌≡◌, ℕ, All, List, IfOk, Some};
 ghost use Rattle.ulfm_job.specs.Place.{IsPlaceOf, job_at};
 ghost use Rattle.ulfm_outcomes_reply.specs.ShowEach.{AreGoalsAt, IsShowEachReply, beside};
 ghost use Rattle.ulfm_outcomes_reply.specs.inside.Judging.{IsFirstLook, IsInside, IsLookAt, IsLookAtText, look_at_status};
 ghost use Rattle.ulfm_outcomes_reply.specs.inside.Looking.{IsLookText, look_status};
+ghost use Rattle.ulfm_command_line.specs.Body.{body_in};
 ghost use Rattle.ulfm_command_line.specs.Stopped.{IsAskedAt, asked_at, asked_view};
 ghost use Rattle.ulfm_job.specs.declared.place.Place.TheVariants.{Nowhere};
 
@@ -25,9 +26,9 @@ pub fn show_each_reply<F: Finder, L: Onlooker>(
     bytes: &[u8],
     onlooker: &L,
 ) -> Result<Reply, AllocError>
-    ensures { IfOk result (λ r. IsShowEachReply search.now.form search.now.options stops show.now bytes.now r.status (string_bytes r.text)) }
+    ensures { IfOk result (λ r. IsShowEachReply search.now.form search.now.options stops show.now bytes.now r.status (body_in search.now.form r.body)) }
 {
-    let read = asked_at(search.alloc, search.form, Place::Nowhere, bytes)?;
+    let read = asked_at(search.alloc, Place::Nowhere, bytes)?;
     match read {
         Ok(asked) => sought_reply(search, stops, show, &asked, onlooker),
         Err(reply) => Ok(reply),
@@ -42,10 +43,10 @@ fn sought_reply<F: Finder, L: Onlooker>(
     asked: &Reading,
     onlooker: &L,
 ) -> Result<Reply, AllocError>
-    ensures { (bytes : List ℕ) → IsAskedAt Nowhere bytes (asked_view asked.now) → IfOk result (λ r. IsShowEachReply search.now.form search.now.options stops show.now bytes r.status (string_bytes r.text)) }
+    ensures { (bytes : List ℕ) → IsAskedAt Nowhere bytes (asked_view asked.now) → IfOk result (λ r. IsShowEachReply search.now.form search.now.options stops show.now bytes r.status (body_in search.now.form r.body)) }
 {
     if asked.job.len() + stops as usize > MOST_STEPS {
-        return refusal(search.alloc, search.form, JobFault::TooLarge);
+        return Ok(refusal(JobFault::TooLarge));
     }
     let answers = match asked.goals(search.alloc, show)? {
         Ok(answers) => answers,
@@ -151,7 +152,7 @@ fn look_reply<F>(
     look: &Option<LookAt>,
 ) -> Result<Reply, AllocError>
     requires { IsInside asked.now.job look.now }
-    ensures { IfOk result (λ r. (r.status ≡ look_at_status look.now) × IsLookAtText search.now.form search.now.options.drawn (asked_view asked.now) look.now (string_bytes r.text)) }
+    ensures { IfOk result (λ r. (r.status ≡ look_at_status look.now) × IsLookAtText search.now.form search.now.options.drawn (asked_view asked.now) look.now (body_in search.now.form r.body)) }
 {
     match look {
         Some(look) => look_at_reply(search, asked, look),
@@ -166,7 +167,7 @@ fn look_at_reply<F>(
     look: &LookAt,
 ) -> Result<Reply, AllocError>
     requires { IsPlaceOf asked.now.job look.now.place }
-    ensures { IfOk result (λ r. (r.status ≡ look_status (Some look.now.told)) × IsLookText search.now.form search.now.options.drawn (Some look.now.place) (asked_at look.now.place (asked_view asked.now)) (Some look.now.told) (string_bytes r.text)) }
+    ensures { IfOk result (λ r. (r.status ≡ look_status (Some look.now.told)) × IsLookText search.now.form search.now.options.drawn (Some look.now.place) (asked_at look.now.place (asked_view asked.now)) (Some look.now.told) (body_in search.now.form r.body)) }
 {
     let made = stopped_at(search.alloc, look.place, asked)?;
     told_reply(search, Some(look.place), &made, &look.told)

@@ -1,14 +1,15 @@
 //! The reply of `outcomes --show`: a schedule that shows answers.
-ghost use Rattle.std.specs.Prelude.{◌≡◌, ℕ, List, None, Some, IfOk, string_bytes};
-ghost use Rattle.ulfm_outcomes_reply.specs.Outcomes.{IsShowReply, no_goal, nowhere_in};
+ghost use Rattle.std.specs.Prelude.{◌≡◌, ℕ, List, None, Some, IfOk};
+ghost use Rattle.ulfm_forms.specs.declared.form.Form.{Form as Written};
+ghost use Rattle.ulfm_outcomes_reply.specs.Outcomes.{IsShowReply, nowhere_in};
 ghost use Rattle.ulfm_outcomes_reply.specs.inside.Looking.{IsLookText, look_status};
+ghost use Rattle.ulfm_command_line.specs.Body.{body_in};
 ghost use Rattle.ulfm_command_line.specs.Stopped.{IsAskedAt, asked_view};
+ghost use Rattle.ulfm_command_line.specs.Unknown.{no_goal};
 
 use crate::search::Search;
 use std::alloc::{AllocError, Global};
-use ulfm_command_line::{
-    DONE, JOB_REFUSED, NO_SCHEDULE, PAST_LIMIT, Place, Remark, Reply, asked_at,
-};
+use ulfm_command_line::{Body, DONE, JOB_REFUSED, NO_SCHEDULE, PAST_LIMIT, Place, Reply, asked_at};
 use ulfm_draw::drawn;
 use ulfm_forms::Form;
 use ulfm_outcomes_list::{Goals, Told, push_told};
@@ -23,9 +24,9 @@ pub fn show_reply<F: Finder, W: Watch>(
     bytes: &[u8],
     watch: &mut W,
 ) -> Result<Reply, AllocError>
-    ensures { IfOk result (λ r. IsShowReply search.now.form search.now.options show.now bytes.now r.status (string_bytes r.text)) }
+    ensures { IfOk result (λ r. IsShowReply search.now.form search.now.options show.now bytes.now r.status (body_in search.now.form r.body)) }
 {
-    let read = asked_at(search.alloc, search.form, search.options.place, bytes)?;
+    let read = asked_at(search.alloc, search.options.place, bytes)?;
     match read {
         Ok(asked) => sought_reply(search, show, &asked, watch),
         Err(reply) => Ok(reply),
@@ -39,7 +40,7 @@ fn sought_reply<F: Finder, W: Watch>(
     asked: &Reading,
     watch: &mut W,
 ) -> Result<Reply, AllocError>
-    ensures { (bytes : List ℕ) → IsAskedAt search.now.options.place bytes (asked_view asked.now) → IfOk result (λ r. IsShowReply search.now.form search.now.options show.now bytes r.status (string_bytes r.text)) }
+    ensures { (bytes : List ℕ) → IsAskedAt search.now.options.place bytes (asked_view asked.now) → IfOk result (λ r. IsShowReply search.now.form search.now.options show.now bytes r.status (body_in search.now.form r.body)) }
 {
     let answers = match asked.goals(search.alloc, show)? {
         Ok(answers) => answers,
@@ -52,13 +53,12 @@ fn sought_reply<F: Finder, W: Watch>(
 
 /// The reply to a goal that names no answer of the job.
 pub(crate) fn no_goal(alloc: Global, goal: &str) -> Result<Reply, AllocError>
-    ensures { IfOk result (λ r. (r.status ≡ 1) × (string_bytes r.text ≡ no_goal goal.now)) }
+    ensures { IfOk result (λ r. (r.status ≡ 1) × ((form : Written) → body_in form r.body ≡ no_goal goal.now)) }
 {
-    let text = format!(in alloc; "goal refused: {goal}\n")?;
     Ok(Reply {
         status: JOB_REFUSED,
-        text,
-        remarks: Remark::no_goal(alloc, goal),
+        body: Body::NoGoal(String::from_str(alloc, goal)?),
+        remarks: None,
     })
 }
 
@@ -68,7 +68,7 @@ fn look_reply<F>(
     asked: &Reading,
     look: &Option<Told>,
 ) -> Result<Reply, AllocError>
-    ensures { IfOk result (λ r. (r.status ≡ look_status look.now) × IsLookText search.now.form search.now.options.drawn None (asked_view asked.now) look.now (string_bytes r.text)) }
+    ensures { IfOk result (λ r. (r.status ≡ look_status look.now) × IsLookText search.now.form search.now.options.drawn None (asked_view asked.now) look.now (body_in search.now.form r.body)) }
 {
     match look {
         Some(told) => told_reply(search, None, asked, told),
@@ -78,11 +78,11 @@ fn look_reply<F>(
 
 /// The reply that no schedule shows the answers.
 pub(crate) fn nowhere_reply(alloc: Global, form: Form) -> Result<Reply, AllocError>
-    ensures { IfOk result (λ r. (r.status ≡ 8) × (string_bytes r.text ≡ nowhere_in form)) }
+    ensures { IfOk result (λ r. (r.status ≡ 8) × (body_in form r.body ≡ nowhere_in form)) }
 {
     Ok(Reply {
         status: NO_SCHEDULE,
-        text: String::from_str(alloc, nowhere(form))?,
+        body: Body::Text(String::from_str(alloc, nowhere(form))?),
         remarks: None,
     })
 }
@@ -104,21 +104,23 @@ pub(crate) fn told_reply<F>(
     asked: &Reading,
     told: &Told,
 ) -> Result<Reply, AllocError>
-    ensures { IfOk result (λ r. (r.status ≡ look_status (Some told.now)) × IsLookText search.now.form search.now.options.drawn at (asked_view asked.now) (Some told.now) (string_bytes r.text)) }
+    ensures { IfOk result (λ r. (r.status ≡ look_status (Some told.now)) × IsLookText search.now.form search.now.options.drawn at (asked_view asked.now) (Some told.now) (body_in search.now.form r.body)) }
 {
     let style = search.options.drawn;
     if let (Told::Schedule(schedule), Some(style)) = (told, style) {
         let note = note_of(search.alloc, at)?;
+        let wording = search.form.wording();
+        let text = drawn(
+            search.alloc,
+            style,
+            wording,
+            &asked.job,
+            schedule,
+            note.as_str(),
+        )?;
         return Ok(Reply {
             status: DONE,
-            text: drawn(
-                search.alloc,
-                style,
-                search.form.wording(),
-                &asked.job,
-                schedule,
-                note.as_str(),
-            )?,
+            body: Body::Text(text),
             remarks: None,
         });
     }
@@ -126,7 +128,7 @@ pub(crate) fn told_reply<F>(
     push_told(&mut text, search.form, at, asked, told)?;
     Ok(Reply {
         status: status_of(told),
-        text,
+        body: Body::Text(text),
         remarks: None,
     })
 }

@@ -1,22 +1,25 @@
 //! What a job asks only before the steps of a name, where it holds at no place that was looked at: for people, and none of it is promised.
 ghost use Rattle.std.specs.Prelude.{◌≡◌, string_bytes};
 
+use crate::finding::Finding;
 use std::alloc::{AllocError, Global};
-use ulfm_command_line::{Remark, Reply, holds_at};
+use ulfm_command_line::{Remark, holds_at};
 use ulfm_outcomes_list::Listed;
 use ulfm_reader::{Proviso, Reading};
 
-/// A reply, and beside what standard error tells with it, what holds at none of these places. Nothing is told where a growth was refused.
-pub(crate) fn with_unheld(told: Reply, asked: &Reading, listed: &[Listed]) -> Reply
+/// What was found, and beside what standard error tells with it, what holds at none of these places. Nothing is told where a growth was refused.
+pub(crate) fn with_unheld(told: Finding, asked: &Reading, listed: &[Listed]) -> Finding
     ensures status { result.status ≡ told.status }
     ensures text { string_bytes result.text ≡ string_bytes told.text }
 {
-    let Reply {
+    let Finding {
+        judgement,
         status,
         text,
         remarks,
     } = told;
-    Reply {
+    Finding {
+        judgement,
         status,
         text,
         remarks: all_told(remarks, asked, listed),

@@ -18,7 +18,7 @@ use crate::onlooker::{Onlooker, Seen};
 use crate::search::Search;
 use crate::verdict_lines::{row_remarks, unmet_remarks, where_of};
 use std::alloc::AllocError;
-use ulfm_command_line::{NOT_EXPECTED, Place, Reply, stopped_at};
+use ulfm_command_line::{NOT_EXPECTED, Place, stopped_at};
 use ulfm_job::Job;
 use ulfm_outcomes_list::{
     Goals, Judgement, Listed, Told, Unmet, filed_number, push_row, push_unmet,
@@ -54,7 +54,7 @@ fn is_found(told: &Option<Finding>) -> bool
     ensures { result ≡ is_found told.now }
 {
     match told {
-        Some(finding) => finding.reply.status == NOT_EXPECTED,
+        Some(finding) => finding.status == NOT_EXPECTED,
         None => false,
     }
 }
@@ -113,18 +113,16 @@ fn unmet_told<F: Finder, W: Watch>(
     watch: &mut W,
 ) -> Result<Finding, AllocError>
     requires { Judges asked.now.job (Some unmet) }
-    ensures { IfOk result (λ r. (found : List (List ℕ)) → first_unmet asked.now.job found ≡ Some unmet → IsToldOf search.now.form search.now.options at (asked_view asked.now) found r.judgement r.reply.status (string_bytes r.reply.text)) }
+    ensures { IfOk result (λ r. (found : List (List ℕ)) → first_unmet asked.now.job found ≡ Some unmet → IsToldOf search.now.form search.now.options at (asked_view asked.now) found r.judgement r.status (string_bytes r.text)) }
 {
     let goals = unmet.goals(search.alloc, &asked.job)?;
     let told = told_of(search, &asked.job, &goals, watch)?;
     let text = unmet_text(search, at, asked, unmet, &told)?;
     Ok(Finding {
         judgement: Judgement::unmet(unmet),
-        reply: Reply {
-            status: NOT_EXPECTED,
-            text,
-            remarks: unmet_remarks(search.alloc, asked, where_of(search, at), unmet, &told),
-        },
+        status: NOT_EXPECTED,
+        text,
+        remarks: unmet_remarks(search.alloc, asked, where_of(search, at), unmet, &told),
     })
 }
 
@@ -180,16 +178,14 @@ fn row_told<F>(
     asked: &Reading,
     first: &FirstRow,
 ) -> Result<Finding, AllocError>
-    ensures { IfOk result (λ r. (r.judgement ≡ row_judgement first.now.told) × (r.reply.status ≡ row_status first.now.told) × (string_bytes r.reply.text ≡ row_in search.now.form at asked.now.names.items asked.now.job first.now.number first.now.told)) }
+    ensures { IfOk result (λ r. (r.judgement ≡ row_judgement first.now.told) × (r.status ≡ row_status first.now.told) × (string_bytes r.text ≡ row_in search.now.form at asked.now.names.items asked.now.job first.now.number first.now.told)) }
 {
     let mut text = String::new(search.alloc);
     push_row(&mut text, search.form, at, asked, first.number, &first.told)?;
     Ok(Finding {
         judgement: row_judgement(&first.told),
-        reply: Reply {
-            status: row_status(&first.told),
-            text,
-            remarks: row_remarks(search.alloc, asked, where_of(search, at), first),
-        },
+        status: row_status(&first.told),
+        text,
+        remarks: row_remarks(search.alloc, asked, where_of(search, at), first),
     })
 }

@@ -1,2 +1,3 @@
 -- What private functions and proofs alone cite.
 pub mod Threads
+pub mod Printed

@@ -2,11 +2,13 @@
 ghost use Rattle.std.specs.Prelude.{◌≢◌, ◌≡◌, ◌≤◌, ◌⊎◌, [], false, map, IsTrue};
 ghost use Rattle.std.specs.Io.KnownBytes.{Keeps, Appends};
 ghost use Rattle.ulfm_program.specs.Replies.{IsReplyIn, IsReplyTo, IsWhole, GetsReply, GetsBeginning, GetsFront, GetsFrontOf, not_text};
+ghost use Rattle.ulfm_program.specs.inside.Printed.{GetsPrinted};
 ghost use Rattle.ulfm_command_line.specs.declared.command.Wanted.{Wanted};
 ghost use Rattle.ulfm_command_line.specs.CommandLine.{AsksFor, HasRanges, faults, form_asked, IsWordsStatus};
 ghost use Rattle.ulfm_command_line.specs.Failure.{out_of_memory_in, out_of_memory_text};
 ghost use Rattle.ulfm_command_line.specs.Wish.{wish_asked, wish_view};
 
+use crate::engine::Engine;
 use crate::far::Far;
 use crate::progress::Progress;
 use crate::reply::{reply_to, settled};
@@ -17,7 +19,7 @@ use std::sync::Wait;
 use std::thread::Threads;
 use std::time::Clock;
 use ulfm_command_line::{
-    Asked, DONE, Failure, INPUT_FAILED, OUTPUT_FAILED, PAST_LIMIT, RUN_FAILED, Reply, USAGE,
+    Asked, Body, DONE, Failure, INPUT_FAILED, OUTPUT_FAILED, PAST_LIMIT, RUN_FAILED, Reply, USAGE,
     Unfollowed, asked_for, failed_line,
 };
 use ulfm_explain::{write_fault, write_notes, write_verdict};
@@ -32,9 +34,7 @@ const NOT_TEXT: &str = "a word of the command line isn't UTF-8\n";
 /// reply. Standard error gets how far a list of outcomes is, where that is asked for, and then what a person wants to know beside
 /// the reply. Answers the status (docs/JSON.md). With 2 the words were looked at alone.
 pub fn run_on<T, F, S, R, W, E>(
-    rt: &T,
-    finder: &F,
-    alloc: Global,
+    engine: &Engine<'_, T, F>,
     words: &[S],
     input: &mut R,
     output: &mut W,
@@ -59,8 +59,9 @@ where
     ensures not_followed { faults (map S.text words.now) ≢ [] → (R.remaining input.new ≡ R.remaining input.old) × IsWordsStatus (faults (map S.text words.now)) result }
     ensures known { result ≤ 9 }
 {
+    let alloc = engine.alloc;
     match asked_for(alloc, words) {
-        Ok(asked) => follow(rt, finder, alloc, &asked, input, output, errors),
+        Ok(asked) => follow(engine, &asked, input, output, errors),
         Err(Unfollowed::Help(text)) => write_reply(output, DONE, text.as_bytes()),
         Err(Unfollowed::Usage(text)) => {
             let status = write_reply(output, USAGE, text.as_bytes());
@@ -94,9 +95,7 @@ pub fn without_words<W: Write, E: Write>(
 
 /// Reads the input, and writes the reply to it, and then the notes on it.
 pub(crate) fn follow<T, F, R, W, E>(
-    rt: &T,
-    finder: &F,
-    alloc: Global,
+    engine: &Engine<'_, T, F>,
     asked: &Asked<'_>,
     input: &mut R,
     output: &mut W,
@@ -116,22 +115,37 @@ where
     ensures no_usage { result ≢ 2 }
     ensures known { result ≤ 9 }
 {
+    let alloc = engine.alloc;
     let form = asked.form;
     let bytes = match read_front(alloc, input) {
         Ok(bytes) => bytes,
         Err(InputFault::Failed) => return INPUT_FAILED,
         Err(InputFault::OutOfMemory) => return write_starved(output, form),
     };
-    let mut progress = Progress::new(rt, alloc, &mut *errors, asked.wanted);
-    let told = reply_to(rt, finder, alloc, asked, bytes.as_slice(), &mut progress);
+    let mut progress = Progress::new(engine.rt, alloc, &mut *errors, asked.wanted);
+    let told = reply_to(engine, asked, bytes.as_slice(), &mut progress);
     let far = progress.end();
     match told {
         Ok(reply) => {
             write_verdict(alloc, asked.has_colour, &reply, errors);
-            let status = write_reply(output, reply.status, reply.text.as_bytes());
+            let status = write_body(alloc, form, &reply, output);
             write_remarks(alloc, asked, bytes.as_slice(), &reply, far, errors);
             status
         }
+        Err(_) => write_starved(output, form),
+    }
+}
+
+/// Prints a reply in this form, or writes that memory ran out, and answers the status of that, or of output that failed.
+fn write_body<W: Write>(alloc: Global, form: Form, reply: &Reply, output: &mut W) -> u8
+    requires { IsWhole reply.now.status }
+    ensures { GetsPrinted form reply.now (W.contents output.old) (W.contents output.new) result }
+{
+    if let Body::Text(text) = &reply.body {
+        return write_reply(output, reply.status, text.as_bytes());
+    }
+    match reply.body.text(alloc, form) {
+        Ok(text) => write_reply(output, reply.status, text.as_bytes()),
         Err(_) => write_starved(output, form),
     }
 }

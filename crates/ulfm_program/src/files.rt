@@ -8,6 +8,7 @@ ghost use Rattle.ulfm_command_line.specs.CommandLine.{AsksFor, HasRanges, IsWord
 ghost use Rattle.ulfm_command_line.specs.Wish.{wish_asked, wish_view};
 
 use crate::app::{follow, run_on, write_starved};
+use crate::engine::Engine;
 use crate::page_file::{tell_unpaged, write_page};
 use std::alloc::Global;
 use std::convert::AsStr;
@@ -28,9 +29,7 @@ use ulfm_reader::write_whole;
 /// of an input that fails, and standard error names it. Answers the greatest status (docs/JSON.md). Where the words name files, the input
 /// isn't read.
 pub fn run_each<T, F, S, R, W, E>(
-    rt: &T,
-    finder: &F,
-    alloc: Global,
+    engine: &Engine<'_, T, F>,
     words: &[S],
     input: &mut R,
     output: &mut W,
@@ -58,25 +57,23 @@ where
         ⊎ GetsAnswers (IsReplyIn (form_asked (map S.text words.now)) (wish_asked (map S.text words.now)) wanted) (files_in (asked (map S.text words.now))) (W.contents output.old) (W.contents output.new) result }
     ensures known { result ≤ 9 }
 {
-    match asked_for(alloc, words) {
+    match asked_for(engine.alloc, words) {
         Ok(asked) => {
             if asked.files.is_empty() {
                 tell_unpaged(&asked, errors);
-                follow(rt, finder, alloc, &asked, input, output, errors)
+                follow(engine, &asked, input, output, errors)
             } else {
-                run_files(rt, finder, alloc, &asked, output, errors)
+                run_files(engine, &asked, output, errors)
             }
         }
         Err(Unfollowed::OutOfMemory) => write_starved(output, Form::Words(Wording::Plain)),
-        Err(_) => run_on(rt, finder, alloc, words, input, output, errors),
+        Err(_) => run_on(engine, words, input, output, errors),
     }
 }
 
 /// Follows the words for each file that they name, and answers the greatest status.
 fn run_files<T, F, W, E>(
-    rt: &T,
-    finder: &F,
-    alloc: Global,
+    engine: &Engine<'_, T, F>,
     asked: &Asked<'_>,
     output: &mut W,
     errors: &mut E,
@@ -94,7 +91,7 @@ where
     let has_head = files.len() > 1;
     let mut greatest = DONE;
     for file in files {
-        let status = run_file(rt, finder, alloc, asked, file, has_head, output, errors);
+        let status = run_file(engine, asked, file, has_head, output, errors);
         if greatest < status {
             greatest = status;
         }
@@ -107,9 +104,7 @@ where
 
 /// Follows the words for a file, below a line with its name where that is wanted, and answers the status.
 fn run_file<T, F, W, E>(
-    rt: &T,
-    finder: &F,
-    alloc: Global,
+    engine: &Engine<'_, T, F>,
     asked: &Asked<'_>,
     file: &str,
     has_head: bool,
@@ -128,17 +123,17 @@ where
     if !write_head(file, has_head, output) {
         return OUTPUT_FAILED;
     }
-    match File::open(rt, file) {
+    match File::open(engine.rt, file) {
         Ok(mut opened) => {
-            let status = follow(rt, finder, alloc, asked, &mut opened, output, errors);
-            write_page(rt, finder, alloc, asked, file, status, errors);
+            let status = follow(engine, asked, &mut opened, output, errors);
+            write_page(engine, asked, file, status, errors);
             if status == INPUT_FAILED {
-                write_unread(alloc, file, "the read failed", errors);
+                write_unread(engine.alloc, file, "the read failed", errors);
             }
             status
         }
         Err(error) => {
-            write_unread(alloc, file, error, errors);
+            write_unread(engine.alloc, file, error, errors);
             INPUT_FAILED
         }
     }

@@ -27,7 +27,7 @@
 //!
 //! - `files.rt`: [`run_each`], file by file
 //! - `app.rt`: [`run_on`], from words and one input to a status; [`without_words`], where there are no words
-//! - `reply.rt`: which reply a command gets
+//! - `reply.rt`: which reply a command gets; `engine.rt`: what plays a job for it, in one value
 //! - `progress.rt`, `far.rt`: how far a search is, on standard error
 //! - `page_file.rt`: the page of `--html`, beside the reply: a table, a step a row and a place a column, and behind whatever isn't as wanted a picture of
 //!   a schedule. It stands alone: nothing is fetched, and no script runs
@@ -42,6 +42,7 @@
 mod app;
 mod cell;
 mod column;
+mod engine;
 mod far;
 mod files;
 mod page;
@@ -52,5 +53,6 @@ mod silent_watch;
 mod unwanted;
 
 pub use app::{run_on, without_words};
+pub use engine::Engine;
 pub use files::run_each;
 pub use page::page_of;

@@ -1,7 +1,8 @@
 //! The page of `--html`: for people, and none of it is promised.
 
+use crate::engine::Engine;
 use crate::page_of;
-use std::alloc::{AllocError, Global};
+use std::alloc::AllocError;
 use std::fs::File;
 use std::io::Write;
 use std::rt::Files;
@@ -30,9 +31,7 @@ pub(crate) fn tell_unpaged<E: Write>(asked: &Asked<'_>, errors: &mut E) {
 
 /// Writes the page of the job in a file, whose answer had this status, if the words ask for one. Where it can't be written, standard error says so.
 pub(crate) fn write_page<T: Files, F: Finder, E: Write>(
-    rt: &T,
-    finder: &F,
-    alloc: Global,
+    engine: &Engine<'_, T, F>,
     asked: &Asked<'_>,
     file: &str,
     status: u8,
@@ -50,8 +49,8 @@ pub(crate) fn write_page<T: Files, F: Finder, E: Write>(
         return;
     }
     let search = Search {
-        finder,
-        alloc,
+        finder: engine.finder,
+        alloc: engine.alloc,
         form: Form::Words(Wording::Plain),
         options: ListOptions {
             is_brief: true,
@@ -59,10 +58,10 @@ pub(crate) fn write_page<T: Files, F: Finder, E: Write>(
         },
         choice: asked.wish.choice,
     };
-    match made(rt, &search, stops, file) {
+    match made(engine.rt, &search, stops, file) {
         // Standard error has said what is wrong with the job.
         Ok(None) if status == JOB_REFUSED => {}
-        Ok(Some(text)) if is_kept(rt, page, text.as_str()) => {}
+        Ok(Some(text)) if is_kept(engine.rt, page, text.as_str()) => {}
         _ => {
             let _is_written = write_whole(errors, UNWRITTEN.as_bytes());
         }

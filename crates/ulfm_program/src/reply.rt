@@ -1,10 +1,12 @@
 //! The reply to a job's bytes.
-ghost use Rattle.std.specs.Prelude.{◌≡◌, false, IfOk, string_bytes};
+ghost use Rattle.std.specs.Prelude.{◌≡◌, false, IfOk};
 ghost use Rattle.ulfm_program.specs.Replies.{IsReplyBy, IsReplyIn, IsReplyNaming};
 ghost use Rattle.ulfm_program.specs.inside.Threads.{needs_threads};
+ghost use Rattle.ulfm_command_line.specs.Body.{body_in};
 ghost use Rattle.ulfm_command_line.specs.CommandLine.{HasRanges};
 ghost use Rattle.ulfm_command_line.specs.Wish.{WishView, wish_view};
 
+use crate::engine::Engine;
 use std::alloc::{AllocError, Global};
 use std::sync::Wait;
 use std::thread::Threads;
@@ -19,9 +21,7 @@ use ulfm_run_reply::{draw_reply, replay_reply, run_reply, sweep_reply};
 
 /// The reply to what the words ask for. `watch` is told how far a list of outcomes is.
 pub fn reply_to<R, F, P>(
-    rt: &R,
-    finder: &F,
-    alloc: Global,
+    engine: &Engine<'_, R, F>,
     asked: &Asked<'_>,
     bytes: &[u8],
     watch: &mut P,
@@ -31,19 +31,17 @@ where
     F: Finder + Sync,
     P: Watch + Onlooker + Sync,
     requires { HasRanges asked.now.wanted }
-    ensures { IfOk result (λ r. IsReplyIn asked.now.form (wish_view asked.now.wish) asked.now.wanted bytes.now r.status (string_bytes r.text)) }
+    ensures { IfOk result (λ r. IsReplyIn asked.now.form (wish_view asked.now.wish) asked.now.wanted bytes.now r.status (body_in asked.now.form r.body)) }
 {
     match asked.wish.stop {
-        Some(text) => naming_reply(rt, finder, alloc, asked, text, bytes, watch),
-        None => settled_reply(rt, finder, alloc, asked, asked.wanted, bytes, watch),
+        Some(text) => naming_reply(engine, asked, text, bytes, watch),
+        None => settled_reply(engine, asked, asked.wanted, bytes, watch),
     }
 }
 
 /// The reply where ranks stop by a text that names steps.
 fn naming_reply<R, F, P>(
-    rt: &R,
-    finder: &F,
-    alloc: Global,
+    engine: &Engine<'_, R, F>,
     asked: &Asked<'_>,
     text: &str,
     bytes: &[u8],
@@ -54,13 +52,13 @@ where
     F: Finder + Sync,
     P: Watch + Onlooker + Sync,
     requires { HasRanges asked.now.wanted }
-    ensures { IfOk result (λ r. IsReplyNaming asked.now.form (wish_view asked.now.wish) asked.now.wanted text.now bytes.now r.status (string_bytes r.text)) }
+    ensures { IfOk result (λ r. IsReplyNaming asked.now.form (wish_view asked.now.wish) asked.now.wanted text.now bytes.now r.status (body_in asked.now.form r.body)) }
 {
-    let settled = settled_place(alloc, asked.form, text, bytes)?;
+    let settled = settled_place(engine.alloc, text, bytes)?;
     match settled {
         Ok(place) => {
             let wanted = asked.wanted.at(place);
-            settled_reply(rt, finder, alloc, asked, wanted, bytes, watch)
+            settled_reply(engine, asked, wanted, bytes, watch)
         }
         Err(reply) => Ok(reply),
     }
@@ -71,7 +69,7 @@ pub(crate) fn settled(alloc: Global, asked: &Asked<'_>, bytes: &[u8]) -> Wanted 
     let Some(text) = asked.wish.stop else {
         return asked.wanted;
     };
-    match settled_place(alloc, asked.form, text, bytes) {
+    match settled_place(alloc, text, bytes) {
         Ok(Ok(place)) => asked.wanted.at(place),
         _ => asked.wanted,
     }
@@ -79,9 +77,7 @@ pub(crate) fn settled(alloc: Global, asked: &Asked<'_>, bytes: &[u8]) -> Wanted 
 
 /// The reply to this in place of what the words ask for: with ranks stopped by the numbers of steps.
 fn settled_reply<R, F, P>(
-    rt: &R,
-    finder: &F,
-    alloc: Global,
+    engine: &Engine<'_, R, F>,
     asked: &Asked<'_>,
     wanted: Wanted,
     bytes: &[u8],
@@ -92,22 +88,22 @@ where
     F: Finder + Sync,
     P: Watch + Onlooker + Sync,
     requires { HasRanges wanted }
-    ensures { IfOk result (λ r. IsReplyBy asked.now.form (wish_view asked.now.wish) wanted bytes.now r.status (string_bytes r.text)) }
+    ensures { IfOk result (λ r. IsReplyBy asked.now.form (wish_view asked.now.wish) wanted bytes.now r.status (body_in asked.now.form r.body)) }
 {
     let form = asked.form;
     match wanted {
-        Wanted::Run(options) => run_reply(rt, alloc, form, options, bytes),
+        Wanted::Run(options) => run_reply(engine.rt, engine.alloc, form, options, bytes),
         Wanted::Outcomes(options) => {
             let search = Search {
-                finder,
-                alloc,
+                finder: engine.finder,
+                alloc: engine.alloc,
                 form,
                 options,
                 choice: asked.wish.choice,
             };
-            list_reply(rt, &search, asked.wish.show, bytes, watch)
+            list_reply(engine.rt, &search, asked.wish.show, bytes, watch)
         }
-        _ => plain_reply(alloc, form, wanted, bytes),
+        _ => plain_reply(engine.alloc, form, wanted, bytes),
     }
 }
 
@@ -115,18 +111,18 @@ where
 fn plain_reply(alloc: Global, form: Form, wanted: Wanted, bytes: &[u8]) -> Result<Reply, AllocError>
     requires ranges { HasRanges wanted }
     requires plain { needs_threads wanted ≡ false }
-    ensures { IfOk result (λ r. (wish : WishView) → IsReplyBy form wish wanted bytes.now r.status (string_bytes r.text)) }
+    ensures { IfOk result (λ r. (wish : WishView) → IsReplyBy form wish wanted bytes.now r.status (body_in form r.body)) }
 {
     match wanted {
-        Wanted::Check => check_reply(alloc, form, bytes),
+        Wanted::Check => Ok(check_reply(alloc, bytes)),
         Wanted::Replay {
             is_strict,
             turns,
             place,
         } => replay_reply(alloc, form, is_strict, turns, place, bytes),
         Wanted::Sweep => sweep_reply(alloc, form, bytes),
-        Wanted::Places(stops) => places_reply(alloc, form, stops, bytes),
-        Wanted::Expand => expand_reply(alloc, form, bytes),
+        Wanted::Places(stops) => places_reply(alloc, stops, bytes),
+        Wanted::Expand => expand_reply(alloc, bytes),
         Wanted::Draw {
             style,
             turns,

@@ -1,6 +1,5 @@
 pub mod Unswept
 pub mod Tallied
-pub mod Totals
 pub mod Failing
 pub mod Left
 pub mod Statuses

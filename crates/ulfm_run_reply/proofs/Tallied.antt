@@ -1,13 +1,19 @@
 -- Counting one more text, row by row, and one more run.
-use Rattle.std.proofs.Common.{◌≡◌, ◌<◌, ℕ, Bool, ◌+◌, ◌&&◌, ◌||◌, List, [], ◌∷◌, ◌++◌, true, take, drop, set, get_or, length, take-append-drop, map, bytes_eq, string_bytes, append_assoc, drop-set-lt, arith, sym, ap, ap₂, subst, ◌∙◌, if◌then◌else◌}
-use Rattle.std.specs.List.{list_all, list_any}
+use Rattle.std.proofs.Common.{◌≡◌, ◌<◌, ℕ, Bool, ◌+◌, ◌&&◌, ◌||◌, List, [], ◌∷◌, ◌++◌, Option, Some, None, true, false, take, drop, set, get_or, length, take-append-drop, map, bytes_eq, string_bytes, append_assoc, drop-set-lt, arith, refl, sym, ap, ap₂, subst, ◌∙◌, if◌then◌else◌}
+use Rattle.std.specs.List.{cons_option, filter_map, list_all, list_any}
 use Rattle.std.proofs.Math.Bool.{and-true, or-false}
-use Rattle.std.proofs.lemmas.List.{drop_more, get_or_default, map-append, take_more_set}
+use Rattle.std.proofs.lemmas.List.{append-nil, drop_more, get_or_default, map-append, take_more_set}
+use Rattle.std.proofs.lemmas.List.Elements.{filter_map-append}
 use Rattle.std.proofs.lemmas.List.Folds.{list_all-append, list_any-append}
 use Rattle.std.proofs.lemmas.List.Sums.{fold-append}
 use Rattle.ulfm_answer.specs.Report.{Report}
+use Rattle.ulfm_job.specs.Job.{JobView}
+use Rattle.ulfm_forms.specs.Form.{trace_in}
+use Rattle.ulfm_forms.specs.declared.form.Form.{Form}
+use Rattle.ulfm_reader.specs.declared.name.Name.{Name}
+use Rattle.ulfm_run_reply.specs.Brief.{Lines, Spot, line_at, line_counted, lines_there, repeats_in, with_run}
 use Rattle.ulfm_run_reply.specs.declared.tally.Counted.{Counted}
-use Rattle.ulfm_run_reply.specs.inside.Tallied.{row_of, rows_of}
+use Rattle.ulfm_run_reply.specs.inside.Tallied.{row_of, rows_of, spots_told, told_in}
 use Rattle.ulfm_run_reply.specs.Tally.{Row, counted, counted_once, tally}
 
 -- the first i rows, and then the others with one more text
@@ -45,3 +51,23 @@ some_more is_bad runs reports = list_any-append is_bad runs (reports ∷ []) ∙
 -- and may be the one whose answers aren't as the job asks
 pub all_more : (is_good : List Report → Bool) (runs : List (List Report)) (reports : List Report) → list_all is_good (runs ++ reports ∷ []) ≡ (list_all is_good runs && is_good reports)
 all_more is_good runs reports = list_all-append is_good runs (reports ∷ []) ∙ ap (λ b. list_all is_good runs && b) (and-true (is_good reports))
+
+-- a line beside others is one more text, if there is one
+counted_after : (lines : List (List ℕ)) (line : Option (List ℕ)) → line_counted (tally lines) line ≡ tally (lines ++ cons_option line [])
+counted_after lines None = ap tally (sym (append-nil lines))
+counted_after lines (Some line) = sym (fold-append counted_once [] lines (line ∷ []))
+
+-- one more run is one more line at each place where it has one
+pub lines_more : (form : Form) (names : List Name) (job : JobView) (runs : List (List Report)) (reports : List Report) (places : List Spot)
+    → map (with_run form names job reports) (map (lines_there form names job runs) places) ≡ map (lines_there form names job (runs ++ reports ∷ [])) places
+lines_more form names job runs reports [] = refl
+lines_more form names job runs reports (spot ∷ places) =
+    let at = line_at form names job spot in
+    let here = counted_after (filter_map at runs) (at reports) ∙ ap tally (sym (filter_map-append at runs (reports ∷ []))) in
+    ap₂ (λ (rows : List Row) (lines : List Lines). (spot, rows) ∷ lines) here (lines_more form names job runs reports places)
+
+-- what is told of runs by their traces and lines
+pub repeats : (form : Form) (is_brief : Bool) (names : List Name) (job : JobView) (runs : List (List Report))
+    → told_in form is_brief names job (length runs) (tally (map (trace_in form names job) runs)) (map (lines_there form names job runs) (spots_told is_brief job)) ≡ repeats_in form is_brief names job runs
+repeats form true names job runs = refl
+repeats form false names job runs = refl

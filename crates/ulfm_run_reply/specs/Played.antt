@@ -1,5 +1,5 @@
 -- What the program writes for a job that is played: replayed, run, or drawn.
-use Rattle.std.specs.Prelude.{◌≡◌, ◌≤◌, ℕ, Bool, List, [], length, map, Option, Some, None, All}
+use Rattle.std.specs.Prelude.{◌≡◌, ◌≤◌, ℕ, Bool, List, [], length, Option, Some, None, All}
 use Rattle.std.specs.List.{list_all, list_any}
 use Rattle.std.specs.Option.{option_map_or}
 use Rattle.ulfm_base.specs.Items.{items_from}
@@ -15,7 +15,6 @@ use Rattle.ulfm_run.specs.Fault.{ShowUntrue}
 use Rattle.ulfm_report_laws.specs.Room.{HaveRoom}
 use Rattle.ulfm_world.specs.Replay.{MadeAtRest}
 use Rattle.ulfm_run_reply.specs.Brief.{repeats_in}
-use Rattle.ulfm_run_reply.specs.Tally.{tally}
 use Rattle.ulfm_command_line.specs.declared.command.RunOptions.{RunOptions}
 use Rattle.ulfm_command_line.specs.Failure.{failed_in, out_of_memory_in}
 use Rattle.ulfm_run_reply.specs.Asking.{as_asked}
@@ -70,7 +69,7 @@ pub data IsRunReply (form : Form) (options : RunOptions) (bytes : List ℕ) : �
       → IsRunReply form options bytes (played_status options.is_strict (as_asked asked.rows (given_turns options.turns asked.job) reports) (has_unfinished (given_turns options.turns asked.job) reports)) (trace_in form asked.names (given_turns options.turns asked.job) reports)
   repeated : (asked : Asked) (runs : List (List Report)) → options.repeat ≡ Some (length runs) → IsAskedAt options.place bytes asked
       → All (AreOfRun (given_turns options.turns asked.job)) runs
-      → IsRunReply form options bytes (played_status options.is_strict (list_all (as_asked asked.rows (given_turns options.turns asked.job)) runs) (list_any (has_unfinished (given_turns options.turns asked.job)) runs)) (repeats_in form options.is_brief (given_turns options.turns asked.job) (length runs) (tally (map (trace_in form asked.names (given_turns options.turns asked.job)) runs)))
+      → IsRunReply form options bytes (played_status options.is_strict (list_all (as_asked asked.rows (given_turns options.turns asked.job)) runs) (list_any (has_unfinished (given_turns options.turns asked.job)) runs)) (repeats_in form options.is_brief asked.names (given_turns options.turns asked.job) runs)
   not_run : (status : ℕ) (text : List ℕ) → IsRefusal form options.place bytes status text → IsRunReply form options bytes status text
   no_thread : (asked : Asked) → IsAskedAt options.place bytes asked → IsRunReply form options bytes 3 (failed_in form run.NoThread)
   untrue : (asked : Asked) (reports : List Report) → IsAskedAt options.place bytes asked

@@ -29,7 +29,8 @@
 //! - `replayed.rt`, `run.rt`, `swept.rt`, `picture.rt`: the four replies
 //! - `trace.rt`: the reply that a trace is, with its status; `traced.rt`: its text, in words or as JSON
 //! - `demands.rt`: whether answers are as the job asks
-//! - `tally.rt`: `run --repeat`, each trace once with its count; `brief.rt`: each line once
+//! - `tally.rt`: `run --repeat`, each trace once with its count; `lines_at.rt`: each line once, place by place; `line_at.rt`: one of them;
+//!   `brief.rt`: what is printed of them
 //! - `turns.rt`: the job with the turns of `--turns`; `faults.rt`: why a run has no trace
 //! - `remarks.rt`: what standard error is to tell of the reports
 //!
@@ -39,6 +40,8 @@
 mod brief;
 mod demands;
 mod faults;
+mod line_at;
+mod lines_at;
 mod picture;
 mod remarks;
 mod replayed;

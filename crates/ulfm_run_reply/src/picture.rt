@@ -1,11 +1,12 @@
 //! The reply of `draw`: a picture of a replay.
-ghost use Rattle.std.specs.Prelude.{◌≡◌, IfOk, string_bytes};
+ghost use Rattle.std.specs.Prelude.{◌≡◌, IfOk};
 ghost use Rattle.ulfm_run_reply.specs.Played.{IsDrawReply};
+ghost use Rattle.ulfm_command_line.specs.Body.{body_in};
 ghost use Rattle.ulfm_command_line.specs.CommandLine.{AreTurns};
 
 use crate::turns::given_turns;
 use std::alloc::{AllocError, Global};
-use ulfm_command_line::{DONE, Place, Reply, asked_at};
+use ulfm_command_line::{Body, DONE, Place, Reply, asked_at};
 use ulfm_draw::drawn;
 use ulfm_forms::{Form, Style, Wording};
 use ulfm_job::Job;
@@ -22,9 +23,9 @@ pub fn draw_reply(
     bytes: &[u8],
 ) -> Result<Reply, AllocError>
     requires { AreTurns turns }
-    ensures { IfOk result (λ r. IsDrawReply form turns place bytes.now r.status (string_bytes r.text)) }
+    ensures { IfOk result (λ r. IsDrawReply form turns place bytes.now r.status (body_in form r.body)) }
 {
-    let read = asked_at(alloc, form, place, bytes)?;
+    let read = asked_at(alloc, place, bytes)?;
     let asked = match read {
         Ok(asked) => given_turns(asked, turns),
         Err(reply) => return Ok(reply),
@@ -49,7 +50,7 @@ fn picture_of(
     let text = drawn(alloc, style, wording, job, &schedule, "")?;
     Ok(Reply {
         status: DONE,
-        text,
+        body: Body::Text(text),
         remarks: None,
     })
 }

@@ -1,6 +1,7 @@
 //! The reply of `replay`.
-ghost use Rattle.std.specs.Prelude.{IfOk, string_bytes};
+ghost use Rattle.std.specs.Prelude.{IfOk};
 ghost use Rattle.ulfm_run_reply.specs.Played.{IsReplayReply};
+ghost use Rattle.ulfm_command_line.specs.Body.{body_in};
 ghost use Rattle.ulfm_command_line.specs.CommandLine.{AreTurns};
 
 use crate::trace::trace_reply;
@@ -20,9 +21,9 @@ pub fn replay_reply(
     bytes: &[u8],
 ) -> Result<Reply, AllocError>
     requires { AreTurns turns }
-    ensures { IfOk result (λ r. IsReplayReply form is_strict turns place bytes.now r.status (string_bytes r.text)) }
+    ensures { IfOk result (λ r. IsReplayReply form is_strict turns place bytes.now r.status (body_in form r.body)) }
 {
-    let read = asked_at(alloc, form, place, bytes)?;
+    let read = asked_at(alloc, place, bytes)?;
     let asked = match read {
         Ok(asked) => given_turns(asked, turns),
         Err(reply) => return Ok(reply),

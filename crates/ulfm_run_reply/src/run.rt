@@ -1,5 +1,5 @@
 //! The reply of `run`.
-ghost use Rattle.std.specs.Prelude.{All, List, length, map, ℕ, ◌≡◌, ◌<◌, IfErr, IfOk, string_bytes, vec_len};
+ghost use Rattle.std.specs.Prelude.{All, List, length, map, ℕ, ◌≡◌, ◌<◌, IfErr, IfOk, vec_len};
 ghost use Rattle.ulfm_carrier.specs.declared.lane_ends.LaneEnds.{LaneEnds as Lanes};
 ghost use Rattle.ulfm_carrier.specs.declared.shared_ends.SharedEnds.{SharedEnds as Shared};
 ghost use Rattle.ulfm_carrier.specs.Family.{AllFresh};
@@ -10,6 +10,7 @@ ghost use Rattle.ulfm_board.specs.Known.{OneBoard, nothing_known};
 ghost use Rattle.ulfm_run_reply.specs.inside.Cells.{AreEnough};
 ghost use Rattle.ulfm_run_reply.specs.Played.{AreOfRanks, AreOfRun, IsRunReply};
 ghost use Rattle.ulfm_run_reply.specs.inside.Shown.{IsShown};
+ghost use Rattle.ulfm_command_line.specs.Body.{body_in};
 ghost use Rattle.ulfm_command_line.specs.CommandLine.{AreInRange};
 ghost use Rattle.ulfm_report_laws.specs.Lawful.{LawfulReport};
 ghost use Rattle.ulfm_run.specs.Flow.{contents};
@@ -40,31 +41,23 @@ pub fn run_reply<R: Threads + Wait + Sync>(
     bytes: &[u8],
 ) -> Result<Reply, AllocError>
     requires { AreInRange options }
-    ensures { IfOk result (λ r. IsRunReply form options bytes.now r.status (string_bytes r.text)) }
+    ensures { IfOk result (λ r. IsRunReply form options bytes.now r.status (body_in form r.body)) }
 {
-    let read = asked_at(alloc, form, options.place, bytes)?;
+    let read = asked_at(alloc, options.place, bytes)?;
     let asked = match read {
         Ok(asked) => given_turns(asked, options.turns),
         Err(reply) => return Ok(reply),
     };
     if let Some(times) = options.repeat {
-        return match tally_of(rt, alloc, options.carrier, form, times, &asked) {
-            Ok(tally) => tally_reply(
-                alloc,
-                form,
-                options.is_strict,
-                options.is_brief,
-                &asked.job,
-                times,
-                tally,
-            ),
-            Err(failure) => failed(alloc, form, failure),
+        return match tally_of(rt, alloc, form, options, times, &asked) {
+            Ok(tally) => tally_reply(alloc, form, options, &asked, times, tally),
+            Err(failure) => Ok(failed(failure)),
         };
     }
     let ran = run_by_carrier(rt, alloc, options.carrier, &asked.job);
     match ran {
         Ok(reports) => trace_reply(alloc, form, options.is_strict, &asked, reports.as_slice()),
-        Err(failure) => failed(alloc, form, failure),
+        Err(failure) => Ok(failed(failure)),
     }
 }
 

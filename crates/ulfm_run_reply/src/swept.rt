@@ -1,9 +1,10 @@
 //! The reply of `sweep`: a line for each place of a stop.
 ghost use Rattle.std.specs.Prelude.{◌≡◌, ◌++◌, IfOk, OnOk, string_bytes};
+ghost use Rattle.ulfm_command_line.specs.Body.{body_in};
 ghost use Rattle.ulfm_run_reply.specs.Sweep.{IsSweepReply, sweep_in, sweep_json, sweep_line, sweep_line_in};
 
 use std::alloc::{AllocError, Global};
-use ulfm_command_line::{DONE, Reply, refusal};
+use ulfm_command_line::{Body, DONE, Reply, refusal};
 use ulfm_forms::Form;
 use ulfm_job::Job;
 use ulfm_reader::ReadJob;
@@ -11,22 +12,22 @@ use ulfm_replay::{SweepFault, SweepLine, sweep};
 
 /// The reply of `sweep`.
 pub fn sweep_reply(alloc: Global, form: Form, bytes: &[u8]) -> Result<Reply, AllocError>
-    ensures { IfOk result (λ r. IsSweepReply form bytes.now r.status (string_bytes r.text)) }
+    ensures { IfOk result (λ r. IsSweepReply form bytes.now r.status (body_in form r.body)) }
 {
     let job = match Job::read(alloc, bytes) {
         Ok(job) => job,
-        Err(fault) => return refusal(alloc, form, fault),
+        Err(fault) => return Ok(refusal(fault)),
     };
     match sweep(alloc, &job) {
         Ok(lines) => lines_reply(alloc, form, lines.as_slice()),
-        Err(SweepFault::Job(fault)) => refusal(alloc, form, fault),
+        Err(SweepFault::Job(fault)) => Ok(refusal(fault)),
         Err(SweepFault::Run(_)) => Err(AllocError),
     }
 }
 
 /// The lines of a sweep as a reply.
 fn lines_reply(alloc: Global, form: Form, lines: &[SweepLine]) -> Result<Reply, AllocError>
-    ensures { IfOk result (λ r. (r.status ≡ 0) × (string_bytes r.text ≡ sweep_in form lines.now)) }
+    ensures { IfOk result (λ r. (r.status ≡ 0) × (body_in form r.body ≡ sweep_in form lines.now)) }
 {
     let mut text = String::new(alloc);
     for line in lines {
@@ -34,7 +35,7 @@ fn lines_reply(alloc: Global, form: Form, lines: &[SweepLine]) -> Result<Reply, 
     }
     Ok(Reply {
         status: DONE,
-        text,
+        body: Body::Text(text),
         remarks: None,
     })
 }

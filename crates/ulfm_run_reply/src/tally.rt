@@ -1,20 +1,22 @@
 //! The reply of `run --repeat`: the traces of its runs, counted.
-ghost use Rattle.std.specs.Prelude.{◌≡◌, ◌++◌, ◌&&◌, ◌||◌, ◌+◌, ◌<◌, ◌≤◌, All, List, length, map, sum_by, IfErr, IfOk, OnOk, string_bytes};
+ghost use Rattle.std.specs.Prelude.{◌≡◌, ◌++◌, ◌&&◌, ◌||◌, ◌+◌, ◌<◌, ◌≤◌, [], false, true, All, List, length, map, IfErr, IfOk, OnOk, string_bytes};
 ghost use Rattle.std.specs.List.{list_all, list_any};
 ghost use Rattle.ulfm_run_reply.specs.Played.{AreOfRun};
 ghost use Rattle.ulfm_reader.specs.JobText.{rows_of as rows_asked};
 ghost use Rattle.ulfm_answer.specs.Report.{Report};
 ghost use Rattle.ulfm_forms.specs.Form.{trace_in};
+ghost use Rattle.ulfm_command_line.specs.Body.{body_in};
 ghost use Rattle.ulfm_run_reply.specs.declared.tally.Counted.{Counted as Kept};
-ghost use Rattle.ulfm_run_reply.specs.inside.Tallied.{row_of, rows_of};
+ghost use Rattle.ulfm_run_reply.specs.inside.Tallied.{AreFew, AreFewAt, lines_seen, row_of, rows_of, spots_told, told_in, unseen};
 ghost use Rattle.ulfm_run_reply.specs.inside.Shown.{IsShown};
-ghost use Rattle.ulfm_run_reply.specs.Brief.{repeats_in};
+ghost use Rattle.ulfm_run_reply.specs.Brief.{lines_there, with_run};
 ghost use Rattle.ulfm_run_reply.specs.Tally.{counted, counted_once, row_in, row_json, row_text, tally, tally_in};
 ghost use Rattle.ulfm_run_reply.specs.Asking.{as_asked};
 ghost use Rattle.ulfm_run_reply.specs.Unfinished.{has_unfinished, played_status};
 
 use crate::brief::brief_text;
 use crate::demands::as_asked;
+use crate::lines_at::{LinesAt, spots_told, with_lines};
 use crate::remarks::remarks_on;
 use crate::run::run_by_carrier;
 use crate::trace::{has_unfinished, played_status};
@@ -22,7 +24,7 @@ use crate::traced::trace_in;
 use std::alloc::{AllocError, Global};
 use std::sync::Wait;
 use std::thread::Threads;
-use ulfm_command_line::{Carrier, Failure, Remark, Reply};
+use ulfm_command_line::{Body, Failure, Remark, Reply, RunOptions};
 use ulfm_forms::Form;
 use ulfm_job::Job;
 use ulfm_reader::Reading;
@@ -35,17 +37,37 @@ pub struct Counted {
     pub count: u32,
 }
 
-/// The distinct traces of runs, in the order in which they first came, whether some run left a step unfinished, whether in all of them
-/// the answers are as the job asks, and what standard error tells of these traces.
+/// What repeated runs gave: their distinct traces in the order in which they first came, their lines at each place where these are asked for,
+/// whether some run left a step unfinished, whether in all of them the answers are as the job asks, and what standard error tells of these
+/// traces.
 #[derive(Drop)]
 pub struct Tally {
     pub rows: Vec<Counted>,
+    pub spots: Vec<LinesAt>,
     pub is_unfinished: bool,
     pub is_met: bool,
     pub remarks: Vec<Remark>,
 }
 
-/// Runs a job so many times, and counts the traces in this form.
+impl Tally {
+    /// That of no runs of a job, whose lines are counted if it is told in brief.
+    fn new(alloc: Global, is_brief: bool, job: &Job) -> Result<Tally, AllocError>
+        ensures fresh { IfOk result (λ t. (t.rows.items ≡ []) × (t.is_unfinished ≡ false) × (t.is_met ≡ true)) }
+        ensures spots { IfOk result (λ t. map lines_seen t.spots.items ≡ map unseen (spots_told is_brief job.now)) }
+        ensures few { IfOk result (λ t. AreFewAt 0 t.spots.items) }
+    {
+        let spots = spots_told(alloc, is_brief, job)?;
+        Ok(Tally {
+            rows: Vec::new(alloc),
+            spots,
+            is_unfinished: false,
+            is_met: true,
+            remarks: Vec::new(alloc),
+        })
+    }
+}
+
+/// Runs a job so many times with these options, and counts the traces in this form.
 ///
 /// # Errors
 ///
@@ -53,72 +75,81 @@ pub struct Tally {
 pub fn tally_of<R: Threads + Wait + Sync>(
     rt: &R,
     alloc: Global,
-    carrier: Carrier,
     form: Form,
+    options: RunOptions,
     times: u32,
     asked: &Reading,
 ) -> Result<Tally, Failure>
     ensures runs { IfOk result (λ t. (runs : List (List Report)) × (length runs ≡ times) × All (AreOfRun asked.now.job) runs
-        × (t.is_unfinished ≡ list_any (has_unfinished asked.now.job) runs) × (t.is_met ≡ list_all (as_asked (rows_asked asked.now.never.items) asked.now.job) runs) × (rows_of t.rows.items ≡ tally (map (trace_in form asked.now.names.items asked.now.job) runs))) }
+        × (t.is_unfinished ≡ list_any (has_unfinished asked.now.job) runs) × (t.is_met ≡ list_all (as_asked (rows_asked asked.now.never.items) asked.now.job) runs) × (rows_of t.rows.items ≡ tally (map (trace_in form asked.now.names.items asked.now.job) runs))
+        × (map lines_seen t.spots.items ≡ map (lines_there form asked.now.names.items asked.now.job runs) (spots_told options.is_brief asked.now.job))) }
     ensures shown { IfErr result (λ failure. IsShown asked.now.job failure) }
 {
-    let mut tally = Tally {
-        rows: Vec::new(alloc),
-        is_unfinished: false,
-        is_met: true,
-        remarks: Vec::new(alloc),
+    let mut tally = match Tally::new(alloc, options.is_brief, &asked.job) {
+        Ok(tally) => tally,
+        Err(_) => return Err(Failure::OutOfMemory),
     };
     let mut done = 0;
     while done < times {
-        run_once(rt, alloc, carrier, form, asked, &mut tally, done)?;
+        let reports = run_by_carrier(rt, alloc, options.carrier, &asked.job)?;
+        tally = match counted_run(form, asked, tally, reports.as_slice(), done) {
+            Ok(tally) => tally,
+            Err(_) => return Err(Failure::OutOfMemory),
+        };
         done += 1;
     }
     Ok(tally)
 }
 
-/// Runs a job once more, after so many runs, and counts its trace.
-fn run_once<R: Threads + Wait + Sync>(
-    rt: &R,
-    alloc: Global,
-    carrier: Carrier,
+/// What so many runs gave, and one more with these reports.
+fn counted_run(
     form: Form,
     asked: &Reading,
-    tally: &mut Tally,
+    tally: Tally,
+    reports: &[RankReport],
     done: u32,
-) -> Result<(), Failure>
-    requires few { All (λ (row : Kept). row.count ≤ done) tally.old.rows.items }
+) -> Result<Tally, AllocError>
+    requires few { AreFew done tally.rows.items }
+    requires few_at { AreFewAt done tally.spots.items }
     requires room { done < 4294967295 }
-    ensures ran { OnOk result ((reports : List Report) × AreOfRun asked.now.job reports
-        × (tally.new.is_unfinished ≡ (tally.old.is_unfinished || has_unfinished asked.now.job reports))
-        × (tally.new.is_met ≡ (tally.old.is_met && as_asked (rows_asked asked.now.never.items) asked.now.job reports))
-        × (rows_of tally.new.rows.items ≡ counted_once (rows_of tally.old.rows.items) (trace_in form asked.now.names.items asked.now.job reports))) }
-    ensures few { OnOk result (All (λ (row : Kept). row.count ≤ done + 1) tally.new.rows.items) }
-    ensures shown { IfErr result (λ failure. IsShown asked.now.job failure) }
+    ensures unfinished { IfOk result (λ t. t.is_unfinished ≡ (tally.is_unfinished || has_unfinished asked.now.job reports.now)) }
+    ensures met { IfOk result (λ t. t.is_met ≡ (tally.is_met && as_asked (rows_asked asked.now.never.items) asked.now.job reports.now)) }
+    ensures traces { IfOk result (λ t. rows_of t.rows.items ≡ counted_once (rows_of tally.rows.items) (trace_in form asked.now.names.items asked.now.job reports.now)) }
+    ensures lines { IfOk result (λ t. map lines_seen t.spots.items ≡ map (with_run form asked.now.names.items asked.now.job reports.now) (map lines_seen tally.spots.items)) }
+    ensures few { IfOk result (λ t. AreFew (done + 1) t.rows.items) }
+    ensures few_at { IfOk result (λ t. AreFewAt (done + 1) t.spots.items) }
 {
-    let reports = run_by_carrier(rt, alloc, carrier, &asked.job)?;
-    let hangs = has_unfinished(&asked.job, reports.as_slice());
-    let is_met = as_asked(alloc, asked, reports.as_slice());
-    tally.is_unfinished = tally.is_unfinished | hangs;
-    tally.is_met = tally.is_met & is_met;
-    match trace_in(alloc, form, &asked.names, &asked.job, reports.as_slice()) {
-        Ok(trace) => {
-            let known = tally.rows.len();
-            match count_text(&mut tally.rows, trace, 1, done) {
-                Ok(()) => {
-                    if known < tally.rows.len() {
-                        push_remarks(&mut tally.remarks, asked, reports.as_slice());
-                    }
-                    Ok(())
-                }
-                Err(_) => Err(Failure::OutOfMemory),
-            }
-        }
-        Err(_) => Err(Failure::OutOfMemory),
-    }
+    let Tally {
+        rows,
+        spots,
+        is_unfinished,
+        is_met,
+        remarks,
+    } = tally;
+    let mut rows = rows;
+    let mut remarks = remarks;
+    let alloc = *rows.allocator();
+    let trace = trace_in(alloc, form, &asked.names, &asked.job, reports)?;
+    let known = rows.len();
+    count_text(&mut rows, trace, 1, done)?;
+    push_remarks(&mut remarks, known < rows.len(), asked, reports);
+    let spots = with_lines(form, asked, spots, reports, done)?;
+    let hangs = has_unfinished(&asked.job, reports);
+    let is_good = as_asked(alloc, asked, reports);
+    Ok(Tally {
+        rows,
+        spots,
+        is_unfinished: is_unfinished | hangs,
+        is_met: is_met & is_good,
+        remarks,
+    })
 }
 
-/// Adds what is told of reports, if there is memory for it.
-fn push_remarks(remarks: &mut Vec<Remark>, asked: &Reading, reports: &[RankReport]) {
+/// Adds what is told of reports whose trace is new, if there is memory for it.
+fn push_remarks(remarks: &mut Vec<Remark>, is_new: bool, asked: &Reading, reports: &[RankReport]) {
+    if !is_new {
+        return;
+    }
     if let Some(mut more) = remarks_on(*remarks.allocator(), asked, reports) {
         let _are_told = remarks.append(&mut more);
     }
@@ -146,28 +177,26 @@ pub fn count_text(
     Ok(())
 }
 
-/// What is told of repeated runs of a job, with its status.
+/// What is told of repeated runs with these options, with its status.
 pub fn tally_reply(
     alloc: Global,
     form: Form,
-    is_strict: bool,
-    is_brief: bool,
-    job: &Job,
+    options: RunOptions,
+    asked: &Reading,
     times: u32,
     tally: Tally,
 ) -> Result<Reply, AllocError>
-    requires { sum_by (λ (row : Kept). row.count) tally.rows.items ≡ times }
-    ensures { IfOk result (λ r. (r.status ≡ played_status is_strict tally.is_met tally.is_unfinished)
-        × (string_bytes r.text ≡ repeats_in form is_brief job.now times (rows_of tally.rows.items))) }
+    ensures { IfOk result (λ r. (r.status ≡ played_status options.is_strict tally.is_met tally.is_unfinished)
+        × (body_in form r.body ≡ told_in form options.is_brief asked.now.names.items asked.now.job times (rows_of tally.rows.items) (map lines_seen tally.spots.items))) }
 {
-    let text = if is_brief {
-        brief_text(alloc, form, job, times, &tally.rows)?
+    let text = if options.is_brief {
+        brief_text(alloc, form, asked, times, &tally.spots)?
     } else {
         tally_text(alloc, form, times, &tally.rows)?
     };
     Ok(Reply {
-        status: played_status(is_strict, tally.is_met, tally.is_unfinished),
-        text,
+        status: played_status(options.is_strict, tally.is_met, tally.is_unfinished),
+        body: Body::Text(text),
         remarks: Some(tally.remarks),
     })
 }

@@ -1,8 +1,9 @@
 //! The reply that a trace is.
-ghost use Rattle.std.specs.Prelude.{◌≡◌, IfOk, string_bytes};
+ghost use Rattle.std.specs.Prelude.{◌≡◌, IfOk};
 ghost use Rattle.ulfm_answer.specs.Report.{is_unfinished};
 ghost use Rattle.ulfm_forms.specs.Form.{trace_in};
 ghost use Rattle.ulfm_reader.specs.JobText.{rows_of};
+ghost use Rattle.ulfm_command_line.specs.Body.{body_in};
 ghost use Rattle.ulfm_run_reply.specs.Asking.{as_asked};
 ghost use Rattle.ulfm_run_reply.specs.Unfinished.{has_unfinished, left_from, leaves_unfinished, played_status};
 
@@ -11,7 +12,7 @@ use crate::remarks::remarks_on;
 use crate::traced::trace_in;
 use std::alloc::{AllocError, Global};
 use ulfm_answer::{StepAnswer, StepReport};
-use ulfm_command_line::{DONE, NOT_EXPECTED, Reply, UNFINISHED};
+use ulfm_command_line::{Body, DONE, NOT_EXPECTED, Reply, UNFINISHED};
 use ulfm_forms::Form;
 use ulfm_job::Job;
 use ulfm_reader::Reading;
@@ -25,14 +26,14 @@ pub fn trace_reply(
     asked: &Reading,
     reports: &[RankReport],
 ) -> Result<Reply, AllocError>
-    ensures { IfOk result (λ r. (r.status ≡ played_status is_strict (as_asked (rows_of asked.now.never.items) asked.now.job reports.now) (has_unfinished asked.now.job reports.now)) × (string_bytes r.text ≡ trace_in form asked.now.names.items asked.now.job reports.now)) }
+    ensures { IfOk result (λ r. (r.status ≡ played_status is_strict (as_asked (rows_of asked.now.never.items) asked.now.job reports.now) (has_unfinished asked.now.job reports.now)) × (body_in form r.body ≡ trace_in form asked.now.names.items asked.now.job reports.now)) }
 {
     let is_met = as_asked(alloc, asked, reports);
     let status = played_status(is_strict, is_met, has_unfinished(&asked.job, reports));
     let text = trace_in(alloc, form, &asked.names, &asked.job, reports)?;
     Ok(Reply {
         status,
-        text,
+        body: Body::Text(text),
         remarks: remarks_on(alloc, asked, reports),
     })
 }

@@ -10,6 +10,7 @@ use Rattle.ulfm_outcomes_reply.specs.declared.lists.Lists.{Lists}
 use Rattle.ulfm_forms.specs.declared.form.Form.{Form}
 use Rattle.ulfm_command_line.specs.Stopped.{Asked, asked_at}
 use Rattle.ulfm_command_line.specs.declared.command.ListOptions.{ListOptions}
+use Rattle.ulfm_command_line.specs.Body.{body_in}
 use Rattle.ulfm_command_line.specs.declared.reply.Reply.{Reply}
 use Rattle.ulfm_outcomes_reply.specs.declared.finding.Finding.{Finding}
 use Rattle.ulfm_outcomes_list.specs.declared.judgement.Judgement.{Judgement}
@@ -46,29 +47,29 @@ AreListedOf asked limit listed = All (IsListedOf asked limit) listed
 -- this is wanted, or that is told of it, by these rows of a list
 abbrev pub IsUnwanted : Form → ListOptions → Option Place → Asked → List (List ℕ) → Option Finding → Type 0
 IsUnwanted form options at asked found None = IsWanted asked
-IsUnwanted form options at asked found (Some told) = IsToldOf form options at asked found told.judgement told.reply.status (string_bytes told.reply.text)
+IsUnwanted form options at asked found (Some told) = IsToldOf form options at asked found told.judgement told.status (string_bytes told.text)
 
 -- the same at a place, by a list there
 abbrev pub IsUnwantedAt : Form → ListOptions → Place → Asked → Option Finding → Type 0
 IsUnwantedAt form options place asked None = IsWanted asked
-IsUnwantedAt form options place asked (Some told) = IsToldAt form options place asked told.judgement told.reply.status (string_bytes told.reply.text)
+IsUnwantedAt form options place asked (Some told) = IsToldAt form options place asked told.judgement told.status (string_bytes told.text)
 
 -- it is wanted at each of these places, or that is told of them, whatever the lists come to alone
 abbrev pub IsFirstUnwanted : Form → ListOptions → Asked → List Place → Option Finding → Type 0
 IsFirstUnwanted form options asked places None = All (λ place. IsWanted (asked_at place asked)) places
-IsFirstUnwanted form options asked places (Some told) = (alone : Judgement) (status : ℕ) → IsJudgedEach form options asked places alone status told.judgement told.reply.status (string_bytes told.reply.text)
+IsFirstUnwanted form options asked places (Some told) = (alone : Judgement) (status : ℕ) → IsJudgedEach form options asked places alone status told.judgement told.status (string_bytes told.text)
 
 -- a schedule that isn't wanted was found, by what is told
 abbrev pub is_found : Option Finding → Bool
 is_found None = false
-is_found (Some told) = told.reply.status == 9
+is_found (Some told) = told.status == 9
 
 -- of so many of the lists none has a schedule that was found: at each of their places it is wanted, or that is told of the first with a row
 -- that can't be looked for
 abbrev pub IsUnfoundUpTo : Form → ListOptions → Asked → List Listed → ℕ → Option Finding → Type 0
 IsUnfoundUpTo form options asked listed count None = All (λ (one : Listed). IsWanted (asked_at one.place asked)) (take count listed)
 IsUnfoundUpTo form options asked listed count (Some told) = (number : ℕ) × (place : Place) × (slice_get (places_in listed) number ≡ Some place) × All (λ p. IsWanted (asked_at p asked)) (take number (places_in listed))
-    × All (λ (one : Listed). IsUnfound form options asked one.place) (take count listed) × (told.judgement ≡ NotKnown) × (told.reply.status ≡ 7) × IsToldAt form options place (asked_at place asked) NotKnown 7 (string_bytes told.reply.text)
+    × All (λ (one : Listed). IsUnfound form options asked one.place) (take count listed) × (told.judgement ≡ NotKnown) × (told.status ≡ 7) × IsToldAt form options place (asked_at place asked) NotKnown 7 (string_bytes told.text)
 
 -- the status of lists below which nothing is told
 abbrev pub status_past : ListOptions → List Listed → Option Place → ℕ
@@ -109,7 +110,7 @@ IsDrawnThere form options one asked drawn = IsDrawnOf form options (Some one.pla
 -- none at any of these places, or the picture at the first where there is one
 abbrev pub IsFirstDrawn : Form → ListOptions → Asked → List Listed → Option Reply → Type 0
 IsFirstDrawn form options asked listed None = All (IsUndrawn options asked) listed
-IsFirstDrawn form options asked listed (Some reply) = IsFirstPicture form options asked listed reply.status (string_bytes reply.text)
+IsFirstDrawn form options asked listed (Some reply) = IsFirstPicture form options asked listed reply.status (body_in form reply.body)
 
 -- a search at a place for answers came to nothing, since no schedule shows them, or to what is told
 abbrev pub IsLookAt : JobView → List Clause → Bool → ℕ → Place → Option Told → Type 0

@@ -1,5 +1,5 @@
 -- What single functions find that look for schedules.
-use Rattle.std.specs.Prelude.{◌≡◌, ℕ, Bool, List, Option, Some, None, slice_get, string_bytes, take}
+use Rattle.std.specs.Prelude.{◌≡◌, ℕ, Bool, List, Option, Some, None, slice_get, take}
 use Rattle.ulfm_job.specs.declared.clause.Clause.{Clause}
 use Rattle.ulfm_job.specs.Job.{JobView}
 use Rattle.ulfm_outcomes_spec.specs.Told.{IsLook}
@@ -14,6 +14,7 @@ use Rattle.ulfm_outcomes_list.specs.declared.search_result.Told.{Told}
 use Rattle.ulfm_outcomes_list.specs.declared.search_result.Told.TheVariants.{Schedule, Many}
 use Rattle.ulfm_command_line.specs.Stopped.{Asked}
 use Rattle.ulfm_command_line.specs.declared.command.ListOptions.{ListOptions}
+use Rattle.ulfm_command_line.specs.Body.{body_in}
 use Rattle.ulfm_command_line.specs.declared.reply.Reply.{Reply}
 use Rattle.ulfm_job.specs.declared.place.Place.{Place}
 use Rattle.ulfm_outcomes_reply.specs.Drawn.{IsDrawn, left_drawn}
@@ -46,7 +47,7 @@ IsLookText form drawn at asked (Some (Many limit)) text = text ≡ told_in form 
 -- a picture of the first step that never ends, by the rows of a list, where one is asked for and a step never ends
 abbrev pub IsDrawnOf : Form → ListOptions → Option Place → Asked → List (List ℕ) → Option Reply → Type 0
 IsDrawnOf form options at asked found None = left_drawn options.drawn asked.job found ≡ None
-IsDrawnOf form options at asked found (Some reply) = (left : Unmet) × (left_drawn options.drawn asked.job found ≡ Some left) × IsDrawn form options at asked left reply.status (string_bytes reply.text)
+IsDrawnOf form options at asked found (Some reply) = (left : Unmet) × (left_drawn options.drawn asked.job found ≡ Some left) × IsDrawn form options at asked left reply.status (body_in form reply.body)
 
 -- what a list comes to below which this is told of a row
 abbrev pub row_judgement : Told → Judgement

@@ -12,6 +12,6 @@ returns-in-Some c = λ bytes read is same. record {
 }
 
 pub returns-in_ok-unnamed-in-None : goal.returns-in_ok-unnamed-in-None
-returns-in_ok-unnamed-in-None c = λ bytes read is same.
+returns-in_ok-unnamed-in-None c = λ bytes read is same form.
     let h = c.in_ok-unnamed-in-None.ensures in
-    rw (h.0, h.1) (no_name read is (ap (λ (names : List Name). place_named names c.args.text.now) same ∙ sym c.in_ok-place.ensures ∙ c.in-None.is))
+    rw (h.0, h.1 form) (no_name read is (ap (λ (names : List Name). place_named names c.args.text.now) same ∙ sym c.in_ok-place.ensures ∙ c.in-None.is))

@@ -17,7 +17,7 @@ returns-in_ok-text-in-Some g c =
     let options = c.args.search.now.options in
     let lists = c.args.lists.now in
     let told = c.in-Some.told in
-    let words = string_bytes told.reply.text in
+    let words = string_bytes told.text in
     let of_slice = subst (IsFirstUnwanted form options asked (places_in c.as_slice-listed.result.now)) c.in-Some.is c.in_ok-told.ensures in
     let first = subst (λ (listed : List Listed). IsFirstUnwanted form options asked (places_in listed) (Some told)) c.as_slice-listed.ensures.value of_slice in
     IfOk-weaker c.below.result _ _ (λ r h. (
@@ -25,7 +25,7 @@ returns-in_ok-text-in-Some g c =
       words,
       subst (λ (k : ℕ). IsJudgedEach form options asked (places_in lists.listed.items) (lists_judgement options asked lists) (lists_status options lists) told.judgement k words) (sym (h.0 ∙ c.with_unheld.ensures.status))
           (first (lists_judgement options asked lists) (lists_status options lists)),
-      h.1 ∙ ap (λ (t : List ℕ). string_bytes c.in_ok-text-in-Some.text ++ t) c.with_unheld.ensures.text ∙ ap (λ (t : List ℕ). t ++ words) c.in_ok-text-in-Some.ensures,
+      h.1 form ∙ ap (λ (t : List ℕ). string_bytes c.in_ok-text-in-Some.text ++ t) c.with_unheld.ensures.text ∙ ap (λ (t : List ℕ). t ++ words) c.in_ok-text-in-Some.ensures,
     )) c.below.ensures
 
 pub returns-in-None : goal.returns-in-None

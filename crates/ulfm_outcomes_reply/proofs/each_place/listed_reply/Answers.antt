@@ -1,6 +1,7 @@
-use Rattle.std.proofs.Common.{All, List, None, Some, string_bytes, subst, sym, ◌∙◌, arith}
+use Rattle.std.proofs.Common.{All, List, None, Some, subst, sym, ◌∙◌, arith}
 use Rattle.std.proofs.lemmas.Result.{IfOk-weaker}
 use Rattle.ulfm_job.specs.Place.{IsPlaceOf}
+use Rattle.ulfm_command_line.specs.Body.{body_in}
 use Rattle.ulfm_command_line.specs.Stopped.{asked_view}
 use Rattle.ulfm_command_line.specs.Wish.{choice_view}
 use Rattle.ulfm_job.specs.declared.place.Place.{Place}
@@ -13,7 +14,7 @@ use Rattle.ulfm_outcomes_reply.proofs.each_place.listed_reply.Goals as goal
 
 pub returns-then-len-stops-gt-MOST_STEPS : goal.returns-then-len-stops-gt-MOST_STEPS
 returns-then-len-stops-gt-MOST_STEPS g c = λ bytes read named.
-    IfOk-weaker c.refusal.result _ _ (λ r h. rw (h.0, h.1) (no_room_for_stops (asked_view c.args.asked.now) read named (omega (arith, c.len.ensures.exact, c.if-len-stops-gt-MOST_STEPS.true)))) c.refusal.ensures
+    rw (c.refusal.ensures.status, c.refusal.ensures.body) (no_room_for_stops (asked_view c.args.asked.now) read named (omega (arith, c.len.ensures.exact, c.if-len-stops-gt-MOST_STEPS.true)))
 
 pub judged-requires : goal.judged-requires
 judged-requires g c =
@@ -39,7 +40,7 @@ returns-in-Some g c = λ bytes read named.
     let reply = c.in-Some.reply in
     let of_slice = subst (IsFirstDrawn form options asked c.as_slice-2.result.now) c.in-Some.is c.in_ok-reply.ensures in
     let first = subst (λ (listed : List Listed). IsFirstDrawn form options asked listed (Some reply)) c.as_slice-2.ensures.value of_slice in
-    drawn_at_place asked lists.listed.items lists.past_limit reply.status (string_bytes reply.text) read named
+    drawn_at_place asked lists.listed.items lists.past_limit reply.status (body_in form reply.body) read named
     (subst (λ (ps : List Place). AreLists asked options.limit ps lists.listed.items lists.past_limit) (c.as_slice.ensures.value ∙ c.in_ok-places.ensures.exact) c.in_ok-lists.ensures) first
 
 pub returns : goal.returns
@@ -50,5 +51,5 @@ returns g c = λ bytes read named.
     let lists = c.in_ok-lists.lists in
     let of_slice = subst (IsFirstDrawn form options asked c.as_slice-2.result.now) c.in-None.is c.in_ok-reply.ensures in
     let none = subst (λ (listed : List Listed). IsFirstDrawn form options asked listed None) c.as_slice-2.ensures.value of_slice in
-    IfOk-weaker c.judged.result _ _ (λ r h. each_as form (choice_view c.args.search.now.choice) options c.args.stops bytes asked c.as_slice.result.now lists.listed.items lists.past_limit h.0 r.status (string_bytes r.text) h.1 read named
+    IfOk-weaker c.judged.result _ _ (λ r h. each_as form (choice_view c.args.search.now.choice) options c.args.stops bytes asked c.as_slice.result.now lists.listed.items lists.past_limit h.0 r.status (body_in c.args.search.now.form r.body) h.1 read named
     c.in_ok-lists.ensures (c.as_slice.ensures.value ∙ c.in_ok-places.ensures.exact) none h.2 h.3) c.judged.ensures

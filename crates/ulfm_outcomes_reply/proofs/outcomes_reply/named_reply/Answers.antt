@@ -11,4 +11,4 @@ explored_reply-requires g c = sym c.in_ok-part.ensures ∙ ap part_now c.in-None
 pub returns-in-Some : goal.returns-in-Some
 returns-in-Some g c = λ bytes read.
     let named = sym c.in_ok-part.ensures ∙ ap part_now c.in-Some.is in
-    IfOk-weaker c.no_name.result _ _ (λ r h. rw (h.0, h.1) (misnamed (asked_view c.args.asked.now) c.in-Some.part.now read named)) c.no_name.ensures
+    IfOk-weaker c.no_name.result _ _ (λ r h. rw (h.0, h.1 c.args.search.now.form) (misnamed (asked_view c.args.asked.now) c.in-Some.part.now read named)) c.no_name.ensures

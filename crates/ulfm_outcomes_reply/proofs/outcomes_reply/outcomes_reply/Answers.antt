@@ -4,7 +4,7 @@ use Rattle.ulfm_outcomes_reply.specs.Outcomes.{not_listed}
 use Rattle.ulfm_outcomes_reply.proofs.outcomes_reply.outcomes_reply.Goals as goal
 
 pub returns-in-Ok : goal.returns-in-Ok
-returns-in-Ok g c = c.named_reply.ensures c.args.bytes.now (subst (IsAsked c.args.search.now.form c.args.search.now.options.place c.args.bytes.now) c.in-Ok.is c.in_ok-read.ensures)
+returns-in-Ok g c = c.named_reply.ensures c.args.bytes.now (subst (IsAsked c.args.search.now.options.place c.args.bytes.now) c.in-Ok.is c.in_ok-read.ensures)
 
 pub returns-in-Err : goal.returns-in-Err
-returns-in-Err g c = not_listed _ _ (subst (IsAsked c.args.search.now.form c.args.search.now.options.place c.args.bytes.now) c.in-Err.is c.in_ok-read.ensures)
+returns-in-Err g c = not_listed _ _ (subst (IsAsked c.args.search.now.options.place c.args.bytes.now) c.in-Err.is c.in_ok-read.ensures c.args.search.now.form)

@@ -16,10 +16,10 @@ returns-in_ok-list-in-Some g c =
     let options = c.args.search.now.options in
     let choice = choice_view c.args.search.now.choice in
     let told = c.in-Some.told in
-    let words = string_bytes told.reply.text in
+    let words = string_bytes told.text in
     let is = subst (IsUnwanted form options None asked c.args.reached.now.found) c.in-Some.is c.in_ok-told.ensures in
-    let whole = subst (λ (list : List ℕ). IsJudged form choice options asked c.args.reached.now told.reply.status (list ++ words)) (sym c.in_ok-list-in-Some.ensures) (unwanted told.judgement told.reply.status words c.requires.none is) in
-    IfOk-weaker c.below.result _ _ (λ r h. rw (h.0, h.1) whole) c.below.ensures
+    let whole = subst (λ (list : List ℕ). IsJudged form choice options asked c.args.reached.now told.status (list ++ words)) (sym c.in_ok-list-in-Some.ensures) (unwanted told.judgement told.status words c.requires.none is) in
+    IfOk-weaker c.below.result _ _ (λ r h. rw (h.0, h.1 form) whole) c.below.ensures
 
 pub returns-in-None : goal.returns-in-None
 returns-in-None g c =

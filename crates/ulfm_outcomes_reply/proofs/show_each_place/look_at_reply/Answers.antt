@@ -1,5 +1,6 @@
-use Rattle.std.proofs.Common.{Some, string_bytes, subst}
+use Rattle.std.proofs.Common.{Some, subst}
 use Rattle.std.proofs.lemmas.Result.{IfOk-weaker}
+use Rattle.ulfm_command_line.specs.Body.{body_in}
 use Rattle.ulfm_command_line.specs.Stopped.{Asked}
 use Rattle.ulfm_outcomes_reply.specs.inside.Looking.{IsLookText}
 use Rattle.ulfm_outcomes_reply.proofs.show_each_place.look_at_reply.Goals as goal
@@ -7,4 +8,4 @@ use Rattle.ulfm_outcomes_reply.proofs.show_each_place.look_at_reply.Goals as goa
 pub returns : goal.returns
 returns g c =
     let look = c.args.look.now in
-    IfOk-weaker c.told_reply.result _ _ (λ r h. (h.0, subst (λ (a : Asked). IsLookText c.args.search.now.form c.args.search.now.options.drawn (Some look.place) a (Some look.told) (string_bytes r.text)) c.in_ok-made.ensures h.1)) c.told_reply.ensures
+    IfOk-weaker c.told_reply.result _ _ (λ r h. (h.0, subst (λ (a : Asked). IsLookText c.args.search.now.form c.args.search.now.options.drawn (Some look.place) a (Some look.told) (body_in c.args.search.now.form r.body)) c.in_ok-made.ensures h.1)) c.told_reply.ensures

@@ -1,9 +1,10 @@
-use Rattle.std.proofs.Common.{List, All, ap, string_bytes, subst, sym, ◌∙◌, arith}
+use Rattle.std.proofs.Common.{List, All, ap, subst, sym, ◌∙◌, arith}
 use Rattle.std.proofs.lemmas.Result.{IfOk-weaker}
 use Rattle.ulfm_job.specs.declared.clause.Clause.{Clause}
 use Rattle.ulfm_reader.specs.Goals.{goals_view}
 use Rattle.ulfm_job.specs.Place.{IsPlaceOf}
 use Rattle.ulfm_job.specs.declared.place.Place.{Place}
+use Rattle.ulfm_command_line.specs.Body.{body_in}
 use Rattle.ulfm_command_line.specs.Stopped.{asked_view}
 use Rattle.ulfm_outcomes_reply.specs.ShowEach.{no_room_to_show, unnamed_at_all}
 use Rattle.ulfm_outcomes_reply.specs.inside.Judging.{IsFirstLook}
@@ -12,12 +13,12 @@ use Rattle.ulfm_outcomes_reply.proofs.show_each_place.sought_reply.Goals as goal
 
 pub returns-then-len-stops-gt-MOST_STEPS : goal.returns-then-len-stops-gt-MOST_STEPS
 returns-then-len-stops-gt-MOST_STEPS g c = λ bytes read.
-    IfOk-weaker c.refusal.result _ _ (λ r h. rw (h.0, h.1) (no_room_to_show (asked_view c.args.asked.now) read (omega (arith, c.len.ensures.exact, c.if-len-stops-gt-MOST_STEPS.true)))) c.refusal.ensures
+    rw (c.refusal.ensures.status, c.refusal.ensures.body) (no_room_to_show (asked_view c.args.asked.now) read (omega (arith, c.len.ensures.exact, c.if-len-stops-gt-MOST_STEPS.true)))
 
 pub returns-in-Err : goal.returns-in-Err
 returns-in-Err g c = λ bytes read.
     let named = sym c.in_ok-answers.ensures ∙ ap goals_view c.in-Err.is in
-    IfOk-weaker c.no_goal.result _ _ (λ r h. rw (h.0, h.1) (unnamed_at_all (asked_view c.args.asked.now) c.in-Err.text.now read named)) c.no_goal.ensures
+    IfOk-weaker c.no_goal.result _ _ (λ r h. rw (h.0, h.1 c.args.search.now.form) (unnamed_at_all (asked_view c.args.asked.now) c.in-Err.text.now read named)) c.no_goal.ensures
 
 pub first_look-requires : goal.first_look-requires
 first_look-requires g c = subst (All (IsPlaceOf c.args.asked.now.job)) (sym c.as_slice.ensures.value) c.in_ok-places.ensures.inside
@@ -35,4 +36,4 @@ returns g c = λ bytes read.
     let named = sym c.in_ok-answers.ensures ∙ ap goals_view c.in-Ok.is in
     let of_clauses = subst (λ (clauses : List Clause). IsFirstLook asked.job clauses options.is_brief options.limit c.as_slice.result.now c.in_ok-look.look) c.as_slice-answers.ensures.value c.in_ok-look.ensures in
     let first = subst (λ (places : List Place). IsFirstLook asked.job c.in-Ok.answers.items options.is_brief options.limit places c.in_ok-look.look) (c.as_slice.ensures.value ∙ c.in_ok-places.ensures.exact) of_clauses in
-    IfOk-weaker c.look_reply.result _ _ (λ r h. rw (h.0) (show_each_as c.args.search.now.form options c.args.stops c.args.show.now bytes asked c.in-Ok.answers.items c.in_ok-look.look (string_bytes r.text) read named first h.1)) c.look_reply.ensures
+    IfOk-weaker c.look_reply.result _ _ (λ r h. rw (h.0) (show_each_as c.args.search.now.form options c.args.stops c.args.show.now bytes asked c.in-Ok.answers.items c.in_ok-look.look (body_in c.args.search.now.form r.body) read named first h.1)) c.look_reply.ensures

@@ -1,5 +1,6 @@
-use Rattle.std.proofs.Common.{string_bytes, subst}
+use Rattle.std.proofs.Common.{subst}
 use Rattle.std.proofs.lemmas.Result.{IfOk-weaker}
+use Rattle.ulfm_command_line.specs.Body.{body_in}
 use Rattle.ulfm_command_line.specs.Named.{IsNamed, IsSettled}
 use Rattle.ulfm_command_line.specs.Wish.{wish_view}
 use Rattle.ulfm_command_line.specs.declared.command.Wanted.{Wanted}
@@ -11,9 +12,9 @@ returns-in-Ok g c =
     let form = c.args.asked.now.form in
     let wish = wish_view c.args.asked.now.wish in
     let bytes = c.args.bytes.now in
-    let named : IsNamed c.args.text.now bytes c.in-Ok.place = subst (IsSettled form c.args.text.now bytes) c.in-Ok.is c.in_ok-settled.ensures in
+    let named : IsNamed c.args.text.now bytes c.in-Ok.place = subst (IsSettled c.args.text.now bytes) c.in-Ok.is c.in_ok-settled.ensures in
     IfOk-weaker c.settled_reply.result _ _ (λ r h.
-    settled c.in-Ok.place r.status (string_bytes r.text) named (subst (λ (w : Wanted). IsReplyBy form wish w bytes r.status (string_bytes r.text)) c.at-wanted.ensures.exact h)) c.settled_reply.ensures
+    settled c.in-Ok.place r.status (body_in form r.body) named (subst (λ (w : Wanted). IsReplyBy form wish w bytes r.status (body_in form r.body)) c.at-wanted.ensures.exact h)) c.settled_reply.ensures
 
 pub returns-in-Err : goal.returns-in-Err
-returns-in-Err g c = unsettled _ _ (subst (IsSettled c.args.asked.now.form c.args.text.now c.args.bytes.now) c.in-Err.is c.in_ok-settled.ensures)
+returns-in-Err g c = unsettled _ _ (subst (IsSettled c.args.text.now c.args.bytes.now) c.in-Err.is c.in_ok-settled.ensures c.args.asked.now.form)

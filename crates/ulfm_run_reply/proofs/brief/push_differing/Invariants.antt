@@ -1,7 +1,8 @@
-use Rattle.std.proofs.Common.{◌≡◌, ◌++◌, flat_map, string_bytes, take}
-use Rattle.ulfm_run_reply.specs.inside.Tallied.{rows_of}
-use Rattle.ulfm_run_reply.specs.Brief.{differing_line}
+use Rattle.std.proofs.Common.{◌≡◌, ◌++◌, flat_map, map, string_bytes, take}
+use Rattle.ulfm_run_reply.specs.inside.Tallied.{lines_seen}
+use Rattle.ulfm_run_reply.specs.Brief.{differing_lines}
 use Rattle.ulfm_run_reply.proofs.brief.push_differing.Given as goal
 
-abbrev pub invariant-loop-line : goal.invariant-loop-line
-invariant-loop-line l = string_bytes l.text ≡ string_bytes l.fn.text ++ flat_map (differing_line l.form l.times) (rows_of (take l.line-index l.lines))
+abbrev pub invariant-loop-spot : goal.invariant-loop-spot
+invariant-loop-spot l =
+    string_bytes l.text ≡ string_bytes l.fn.text ++ flat_map (differing_lines l.form l.asked.names.items l.asked.job l.times) (map lines_seen (take l.spot-index l.spots))

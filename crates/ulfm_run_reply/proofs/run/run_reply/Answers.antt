@@ -1,5 +1,4 @@
-use Rattle.std.proofs.Common.{◌≡◌, ◌∙◌, All, Some, ap, ap₂, map, subst, sym}
-use Rattle.std.proofs.lemmas.List.{length-map}
+use Rattle.std.proofs.Common.{◌≡◌, ◌∙◌, ℕ, All, Some, ap, ap₂, map, subst, sym}
 use Rattle.std.proofs.lemmas.Result.{IfOk-weaker}
 use Rattle.std.specs.List.{list_all, list_any}
 use Rattle.ulfm_job.specs.Job.{JobView}
@@ -8,42 +7,42 @@ use Rattle.ulfm_reader.specs.declared.reading.Reading.{Reading}
 use Rattle.ulfm_command_line.specs.Stopped.{IsAsked, asked_view}
 use Rattle.ulfm_run_reply.specs.Played.{AreOfRun, ran, repeated, not_run, given_turns}
 use Rattle.ulfm_forms.specs.Form.{trace_in}
-use Rattle.ulfm_run_reply.specs.Brief.{repeats_in}
+use Rattle.ulfm_run_reply.specs.Brief.{lines_there, repeats_in}
 use Rattle.ulfm_run_reply.specs.Tally.{tally}
 use Rattle.ulfm_run_reply.specs.Asking.{as_asked}
 use Rattle.ulfm_run_reply.specs.Unfinished.{has_unfinished, played_status}
 use Rattle.ulfm_run_reply.specs.inside.Shown.{IsShown}
-use Rattle.ulfm_run_reply.specs.inside.Tallied.{rows_of as rows_kept}
+use Rattle.ulfm_run_reply.specs.inside.Tallied.{spots_told, told_in}
 use Rattle.ulfm_run_reply.proofs.Failing.{run_failed, without_repeat}
-use Rattle.ulfm_run_reply.proofs.Totals.{kept_total-tally}
+use Rattle.ulfm_run_reply.proofs.Tallied.{repeats}
 use Rattle.ulfm_run_reply.proofs.run.run_reply.Goals as goal
 use Rattle.ulfm_run_reply.proofs.run.run_reply.Goals.{in-Ok-tally_of, in-Err-tally_of}
 
 pub returns-in-Err : goal.returns-in-Err
-returns-in-Err g c = not_run _ _ (subst (IsAsked c.args.form c.args.options.place c.args.bytes.now) c.in-Err.is c.in_ok-read.ensures)
-
-pub tally_reply-requires : goal.tally_reply-requires
-tally_reply-requires g c = let runs = c.in-Ok-tally_of.ensures.runs in kept_total-tally c.in-Ok-tally_of.tally.rows.items _ runs.5 ∙ length-map runs.0 _ ∙ runs.1
+returns-in-Err g c = not_run _ _ (subst (IsAsked c.args.options.place c.args.bytes.now) c.in-Err.is c.in_ok-read.ensures c.args.form)
 
 pub returns-in-Some : goal.returns-in-Some
 returns-in-Some g c =
     let given = c.given_turns-asked.ensures in
     let job : c.given_turns-asked.result.job ≡ given_turns c.args.options.turns c.in-Ok.asked.job = ap (λ (asked : Reading). asked.job) given in
-    let read = subst (IsAsked c.args.form c.args.options.place c.args.bytes.now) c.in-Ok.is c.in_ok-read.ensures in
+    let read = subst (IsAsked c.args.options.place c.args.bytes.now) c.in-Ok.is c.in_ok-read.ensures in
     elim c.match-tally_of.branch [
       | in-Ok-tally_of w ↦
           let runs = w.in-Ok-tally_of.ensures.runs in
+          let names = c.given_turns-asked.result.names.items in
           rw w.result-is (IfOk-weaker w.tally_reply.result _ _ (λ r h.
           rw (
             h.0 ∙ ap₂ (played_status c.args.options.is_strict) (runs.4 ∙ ap (λ (asked : Reading). list_all (as_asked (rows_of asked.never.items) asked.job) runs.0) given)
                 (runs.3 ∙ ap (λ (j : JobView). list_any (has_unfinished j) runs.0) job),
-            h.1 ∙ ap (λ (j : JobView). repeats_in c.args.form c.args.options.is_brief j c.in-Some.times (rows_kept w.in-Ok-tally_of.tally.rows.items)) job
-                ∙ ap₂ (repeats_in c.args.form c.args.options.is_brief (given_turns c.args.options.turns c.in-Ok.asked.job)) (sym runs.1) (runs.5 ∙ ap (λ (asked : Reading). tally (map (trace_in c.args.form asked.names.items asked.job) runs.0)) given),
+            h.1 ∙ ap₂ (told_in c.args.form c.args.options.is_brief names c.given_turns-asked.result.job c.in-Some.times) runs.5 runs.6
+                ∙ ap (λ (n : ℕ). told_in c.args.form c.args.options.is_brief names c.given_turns-asked.result.job n (tally (map (trace_in c.args.form names c.given_turns-asked.result.job) runs.0))
+                (map (lines_there c.args.form names c.given_turns-asked.result.job runs.0) (spots_told c.args.options.is_brief c.given_turns-asked.result.job))) (sym runs.1)
+                ∙ repeats c.args.form c.args.options.is_brief names c.given_turns-asked.result.job runs.0
+                ∙ ap (λ (asked : Reading). repeats_in c.args.form c.args.options.is_brief asked.names.items asked.job runs.0) given,
           )
           (repeated (asked_view c.in-Ok.asked) runs.0 (c.in-Some.is ∙ ap Some (sym runs.1)) read (subst (λ (j : JobView). All (AreOfRun j) runs.0) job runs.2))) w.tally_reply.ensures)
       | in-Err-tally_of w ↦
-          rw w.result-is (IfOk-weaker w.failed.result _ _ (λ r h.
-          rw (h.0, h.1) (run_failed c.args.form (asked_view c.in-Ok.asked) w.in-Err-tally_of.failure _ read (subst (λ (j : JobView). IsShown j w.in-Err-tally_of.failure) job w.in-Err-tally_of.ensures.shown))) w.failed.ensures)
+          rw (w.result-is, w.failed.ensures.status, w.failed.ensures.body) (run_failed c.args.form (asked_view c.in-Ok.asked) w.in-Err-tally_of.failure _ read (subst (λ (j : JobView). IsShown j w.in-Err-tally_of.failure) job w.in-Err-tally_of.ensures.shown))
     ]
 
 pub returns-in-Ok-ran : goal.returns-in-Ok-ran
@@ -52,13 +51,13 @@ returns-in-Ok-ran g c =
     let given = c.given_turns-asked.ensures in
     let job : c.given_turns-asked.result.job ≡ given_turns c.args.options.turns c.in-Ok.asked.job = ap (λ (asked : Reading). asked.job) given in
     let of_run : AreOfRun (given_turns c.args.options.turns c.in-Ok.asked.job) reports = subst (λ (j : JobView). AreOfRun j reports) job c.in-Ok-ran.ensures.ran in
-    let read = subst (IsAsked c.args.form c.args.options.place c.args.bytes.now) c.in-Ok.is c.in_ok-read.ensures in
+    let read = subst (IsAsked c.args.options.place c.args.bytes.now) c.in-Ok.is c.in_ok-read.ensures in
     IfOk-weaker c.trace_reply.result _ _ (λ r h. rw (h.0, h.1, c.as_slice.ensures.value, given) (ran (asked_view c.in-Ok.asked) reports (without_repeat c.args.options.repeat c.in_default.not-Some) read of_run)) c.trace_reply.ensures
 
 pub returns : goal.returns
 returns g c =
     let f = c.in-Err-ran.failure in
-    let read = subst (IsAsked c.args.form c.args.options.place c.args.bytes.now) c.in-Ok.is c.in_ok-read.ensures in
+    let read = subst (IsAsked c.args.options.place c.args.bytes.now) c.in-Ok.is c.in_ok-read.ensures in
     let job : c.given_turns-asked.result.job ≡ given_turns c.args.options.turns c.in-Ok.asked.job = ap (λ (asked : Reading). asked.job) c.given_turns-asked.ensures in
     let shown : IsShown (given_turns c.args.options.turns c.in-Ok.asked.job) f = subst (λ (j : JobView). IsShown j f) job c.in-Err-ran.ensures.shown in
-    IfOk-weaker c.failed-in-Err-ran.result _ _ (λ r h. rw (h.0, h.1) (run_failed c.args.form (asked_view c.in-Ok.asked) f _ read shown)) c.failed-in-Err-ran.ensures
+    rw (c.failed-in-Err-ran.ensures.status, c.failed-in-Err-ran.ensures.body) (run_failed c.args.form (asked_view c.in-Ok.asked) f _ read shown)

@@ -1,37 +1,49 @@
-use Rattle.std.proofs.Common.{◌≤◌, List, [], ◌∷◌, ◌++◌, ◌+◌, ◌&&◌, ◌||◌, ◌∙◌, All, arith, ap, length-append, refl, subst, sym}
+use Rattle.std.proofs.Common.{◌≤◌, [], ◌∷◌, ◌++◌, ◌+◌, ◌&&◌, ◌||◌, ◌∙◌, arith, ap, ap₂, length-append, map, refl, subst, sym}
 use Rattle.std.proofs.lemmas.List.Elements.{All-nil, All-push}
 use Rattle.ulfm_run_reply.specs.Played.{AreOfRun}
 use Rattle.ulfm_reader.specs.JobText.{rows_of as rows_asked}
 use Rattle.ulfm_forms.specs.Form.{trace_in}
+use Rattle.ulfm_run_reply.specs.Brief.{with_run}
 use Rattle.ulfm_run_reply.specs.Tally.{counted_once}
 use Rattle.ulfm_run_reply.specs.declared.tally.Counted.{Counted}
-use Rattle.ulfm_run_reply.specs.inside.Tallied.{rows_of}
+use Rattle.ulfm_run_reply.specs.inside.Tallied.{AreFew, rows_of, spots_told}
 use Rattle.ulfm_run_reply.specs.Asking.{as_asked}
 use Rattle.ulfm_run_reply.specs.Unfinished.{has_unfinished}
-use Rattle.ulfm_run_reply.proofs.Tallied.{one_more, some_more, all_more}
+use Rattle.ulfm_run_reply.proofs.Tallied.{one_more, some_more, all_more, lines_more}
 use Rattle.ulfm_run_reply.proofs.tally.tally_of.Goals as goal
 
 pub loop-done-init : goal.loop-done-init
-loop-done-init g c = (
-  omega arith,
-  subst (λ (rows : List Counted). All (λ (row : Counted). row.count ≤ 0) rows) (sym c.new.ensures.items) (All-nil (λ (row : Counted). row.count ≤ 0)),
-  ([], refl, All-nil (AreOfRun c.args.asked.now.job), refl, refl, ap rows_of c.new.ensures.items),
-)
+loop-done-init g c =
+    let fresh = c.in-Ok.ensures.fresh in (
+      omega arith,
+      subst (AreFew 0) (sym fresh.0) (All-nil (λ (row : Counted). row.count ≤ 0)),
+      c.in-Ok.ensures.few,
+      ([], refl, All-nil (AreOfRun c.args.asked.now.job), fresh.1, fresh.2, ap rows_of fresh.0, c.in-Ok.ensures.spots),
+    )
 
 pub loop-done-preserved : goal.loop-done-preserved
 loop-done-preserved g c =
-    let known = c.loop-done.invariant.2 in
-    let is_good = as_asked (rows_asked c.args.asked.now.never.items) c.args.asked.now.job in
+    let known = c.loop-done.invariant.3 in
+    let asked = c.args.asked.now in
+    let names = asked.names.items in
+    let told = trace_in c.args.form names asked.job in
+    let is_bad = has_unfinished asked.job in
+    let is_good = as_asked (rows_asked asked.never.items) asked.job in
     let runs = known.0 in
-    let ran = c.in_ok-run_once.ensures.ran in (
+    let reports = c.in_ok-reports.reports.items in
+    let counted = c.in-Ok-counted_run.ensures in
+    let value = c.as_slice.ensures.value in (
       omega (arith, c.loop-done-test.true),
-      c.in_ok-run_once.ensures.few,
+      counted.few,
+      counted.few_at,
       (
-        runs ++ ran.0 ∷ [],
-        length-append runs (ran.0 ∷ []) ∙ ap (λ n. n + 1) known.1,
-        All-push (AreOfRun c.args.asked.now.job) runs ran.0 known.2 ran.1,
-        ran.2 ∙ ap (λ b. b || has_unfinished c.args.asked.now.job ran.0) known.3 ∙ sym (some_more (has_unfinished c.args.asked.now.job) runs ran.0),
-        ran.3 ∙ ap (λ b. b && is_good ran.0) known.4 ∙ sym (all_more is_good runs ran.0),
-        ran.4 ∙ ap (λ rows. counted_once rows (trace_in c.args.form c.args.asked.now.names.items c.args.asked.now.job ran.0)) known.5 ∙ sym (one_more (trace_in c.args.form c.args.asked.now.names.items c.args.asked.now.job) runs ran.0),
+        runs ++ reports ∷ [],
+        length-append runs (reports ∷ []) ∙ ap (λ n. n + 1) known.1,
+        All-push (AreOfRun asked.job) runs reports known.2 c.in_ok-reports.ensures.ran,
+        counted.unfinished ∙ ap₂ (λ b rs. b || is_bad rs) known.3 value ∙ sym (some_more is_bad runs reports),
+        counted.met ∙ ap₂ (λ b rs. b && is_good rs) known.4 value ∙ sym (all_more is_good runs reports),
+        counted.traces ∙ ap₂ (λ rows rs. counted_once rows (told rs)) known.5 value ∙ sym (one_more told runs reports),
+        counted.lines ∙ ap₂ (λ places rs. map (with_run c.args.form names asked.job rs) places) known.6 value
+            ∙ lines_more c.args.form names asked.job runs reports (spots_told c.args.options.is_brief asked.job),
       ),
     )

@@ -4,8 +4,8 @@ use Rattle.ulfm_run_reply.specs.Played.{AreOfRun}
 use Rattle.ulfm_reader.specs.JobText.{rows_of as rows_asked}
 use Rattle.ulfm_answer.specs.Report.{Report}
 use Rattle.ulfm_forms.specs.Form.{trace_in}
-use Rattle.ulfm_run_reply.specs.declared.tally.Counted.{Counted}
-use Rattle.ulfm_run_reply.specs.inside.Tallied.{rows_of}
+use Rattle.ulfm_run_reply.specs.Brief.{lines_there}
+use Rattle.ulfm_run_reply.specs.inside.Tallied.{AreFew, AreFewAt, lines_seen, rows_of, spots_told}
 use Rattle.ulfm_run_reply.specs.Tally.{tally}
 use Rattle.ulfm_run_reply.specs.Asking.{as_asked}
 use Rattle.ulfm_run_reply.specs.Unfinished.{has_unfinished}
@@ -15,6 +15,7 @@ abbrev pub decreases-loop-done : goal.decreases-loop-done
 decreases-loop-done g l = l.times - l.done
 
 abbrev pub invariant-loop-done : goal.invariant-loop-done
-invariant-loop-done g l = (l.done ≤ l.times) × All (λ (row : Counted). row.count ≤ l.done) l.tally.rows.items
+invariant-loop-done g l = (l.done ≤ l.times) × AreFew l.done l.tally.rows.items × AreFewAt l.done l.tally.spots.items
     × ((runs : List (List Report)) × (length runs ≡ l.done) × All (AreOfRun l.asked.job) runs
-    × (l.tally.is_unfinished ≡ list_any (has_unfinished l.asked.job) runs) × (l.tally.is_met ≡ list_all (as_asked (rows_asked l.asked.never.items) l.asked.job) runs) × (rows_of l.tally.rows.items ≡ tally (map (trace_in l.form l.asked.names.items l.asked.job) runs)))
+    × (l.tally.is_unfinished ≡ list_any (has_unfinished l.asked.job) runs) × (l.tally.is_met ≡ list_all (as_asked (rows_asked l.asked.never.items) l.asked.job) runs) × (rows_of l.tally.rows.items ≡ tally (map (trace_in l.form l.asked.names.items l.asked.job) runs))
+    × (map lines_seen l.tally.spots.items ≡ map (lines_there l.form l.asked.names.items l.asked.job runs) (spots_told l.options.is_brief l.asked.job)))
