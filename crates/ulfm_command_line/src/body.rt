@@ -3,7 +3,7 @@ ghost use Rattle.std.specs.Prelude.{◌≡◌, IfOk, string_bytes};
 ghost use Rattle.ulfm_command_line.specs.Body.{body_in};
 
 use crate::failure::{Failure, failed_line};
-use crate::places_reply::places_in;
+use crate::place_lines::places_in;
 use crate::reply::{good_in, refused_in};
 use crate::unknown::{no_goal, no_name, no_place_in, unnamed_in};
 use std::alloc::{AllocError, Global};
