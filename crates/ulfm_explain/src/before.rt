@@ -4,12 +4,12 @@ use crate::cause::Cause;
 use crate::excerpt::Shown;
 use crate::findings::Findings;
 use crate::keys::{list_at, text_at};
-use crate::nearest::nearest_key;
+use crate::nearest::{nearest_key, nearest_name};
 use crate::never::tell;
 use crate::rules::{Key, row_rules};
 use crate::script::{is_label, name_of};
 use crate::steps::place_of;
-use std::alloc::AllocError;
+use std::alloc::{AllocError, Global};
 use toml::{Table, Value};
 use ulfm_reader::MOST_ROWS;
 
@@ -44,7 +44,7 @@ fn explain_row_table(findings: &mut Findings<'_>, row: &Table) -> Result<(), All
     match text_at(row, Key::Before) {
         Some(name) if !is_label(name) => {
             let shown = Shown::new(findings.alloc, name)?;
-            tell(findings, Cause::NotThere(shown))
+            tell(findings, Cause::NotThere(shown, None))
         }
         _ => Ok(()),
     }
@@ -64,8 +64,8 @@ pub fn explain_befores(
         if let Some(name) = missing_in(steps, before_of(step)) {
             let place = place_of(ranks, steps, in_file);
             let at = findings.place_of(Some(in_file), "expect");
-            let shown = Shown::new(findings.alloc, name)?;
-            findings.tell(at, Some(place), Cause::NotThere(shown))?;
+            let cause = not_there(findings.alloc, steps, name)?;
+            findings.tell(at, Some(place), cause)?;
         }
     }
     for row in rows_of(findings, table) {
@@ -74,8 +74,8 @@ pub fn explain_befores(
             None => None,
         };
         if let Some(name) = missing_in(steps, before) {
-            let shown = Shown::new(findings.alloc, name)?;
-            tell(findings, Cause::NotThere(shown))?;
+            let cause = not_there(findings.alloc, steps, name)?;
+            tell(findings, cause)?;
         }
     }
     Ok(())
@@ -84,6 +84,15 @@ pub fn explain_befores(
 /// The name before whose steps a step expects its answer.
 fn before_of(step: &Value) -> Option<&str> {
     text_at(step.as_table()?.get("expect")?.as_table()?, Key::Before)
+}
+
+/// That no step has a name, and the nearest that one has.
+fn not_there(alloc: Global, steps: &[Value], name: &str) -> Result<Cause, AllocError> {
+    let nearest = match nearest_name(alloc, steps, name)? {
+        Some(nearest) => Some(Shown::new(alloc, nearest)?),
+        None => None,
+    };
+    Ok(Cause::NotThere(Shown::new(alloc, name)?, nearest))
 }
 
 /// A text that may be a name, if no step has that.

@@ -5,6 +5,7 @@ use crate::excerpt::Shown;
 use crate::kind::Kind;
 use crate::line::{Line, Part};
 use crate::refusal_cause::Doom;
+use crate::row_fault::RowFault;
 use crate::rules::{Key, Rules};
 use std::fmt;
 use toml::de::Error;
@@ -60,8 +61,8 @@ pub enum Cause {
     NameTaken(Shown, usize),
     /// A name that no earlier step of its rank has.
     NotNamed(Key, Shown),
-    /// A name that no step has, where stops are to lie before the steps of that name.
-    NotThere(Shown),
+    /// A name that no step has, where stops are to lie before the steps of that name, and the nearest that one has.
+    NotThere(Shown, Option<Shown>),
     /// A number that is none of an earlier step of its rank.
     NotEarlier(i64),
     /// A list of so many, where 1 to 16 may be.
@@ -72,6 +73,8 @@ pub enum Cause {
     NoAnswer(Key, Shown, Op),
     /// Words with which no answer of a receive begins, but one of its wait.
     OfWait(Key, Shown),
+    /// A row of `never` of a wrong kind.
+    NoRow(RowFault),
     /// So many rows of `never`, where 1 to 1024 may be.
     Rows(usize),
     /// More rows of `never` than that, written out.
@@ -190,7 +193,12 @@ impl Cause {
                 Part::Key(*key),
                 Part::Text(text.as_str()),
             ),
-            Cause::NotThere(text) => Line::One(
+            Cause::NotThere(text, Some(nearest)) => Line::Two(
+                "key 'before' is '{}', and no step has this name; did you mean '{}'?",
+                Part::Text(text.as_str()),
+                Part::Text(nearest.as_str()),
+            ),
+            Cause::NotThere(text, None) => Line::One(
                 "key 'before' is '{}', and no step has this name",
                 Part::Text(text.as_str()),
             ),
@@ -223,6 +231,7 @@ impl Cause {
                 Part::Text(words.as_str()),
                 Part::Beginnings(Op::Recv, *key),
             ),
+            Cause::NoRow(fault) => fault.line(),
             Cause::Rows(count) => Line::Two(
                 "key 'never' has {} rows, and has to have 1 to {}",
                 Part::Count(*count),

@@ -6,6 +6,7 @@ use crate::explanation::StepPlace;
 use crate::findings::Findings;
 use crate::kind::Kind;
 use crate::nearest::nearest_key;
+use crate::row_fault::explain_row_kinds;
 use crate::rules::{Key, Rules};
 use crate::script::is_label;
 use std::alloc::AllocError;
@@ -83,8 +84,12 @@ impl Sheet<'_> {
         value: &Value,
     ) -> Result<(), AllocError> {
         let wanted = key.kind(self.ranks);
-        if let (Kind::Tables, Some(items)) = (wanted, value.as_array()) {
-            return explain_items(findings, items.as_slice());
+        match (wanted, value.as_array()) {
+            (Kind::Tables, Some(items)) => return explain_items(findings, items.as_slice()),
+            (Kind::Rows, Some(rows)) if rows.is_empty() || !are_texts(value) => {
+                return explain_row_kinds(findings, rows.as_slice());
+            }
+            _ => {}
         }
         if is_of_kind(value, wanted) {
             return Ok(());
@@ -182,7 +187,7 @@ pub fn list_in<'a>(value: &'a Value, key: &str) -> Option<&'a [Value]> {
     list_at(value.as_table()?, key)
 }
 
-/// Whether a value is of a kind, other than an array of tables.
+/// Whether a value is of a kind, other than an array of tables or of rows.
 fn is_of_kind(value: &Value, kind: Kind) -> bool {
     match kind {
         Kind::Integer(_, _)
@@ -195,27 +200,7 @@ fn is_of_kind(value: &Value, kind: Kind) -> bool {
         Kind::Conditions | Kind::Expected => value.is_table() || value.is_array(),
         Kind::Texts => are_texts(value),
         Kind::Words | Kind::Together => value.is_array(),
-        Kind::Rows => are_rows(value),
-        Kind::Tables => false,
-    }
-}
-
-/// Whether a value is an array of rows.
-fn are_rows(value: &Value) -> bool {
-    match value.as_array() {
-        Some(rows) => rows.iter().all(|row| is_row(row)),
-        None => false,
-    }
-}
-
-/// Whether a value is an array of texts, or a table with one and with a text `before`.
-fn is_row(value: &Value) -> bool {
-    let Some(table) = value.as_table() else {
-        return are_texts(value);
-    };
-    match table.get("row") {
-        Some(row) => are_texts(row) && text_at(table, Key::Before).is_some(),
-        None => false,
+        Kind::Tables | Kind::Row | Kind::Rows => false,
     }
 }
 

@@ -38,7 +38,9 @@ pub enum Kind {
     Called,
     /// An array of texts.
     Texts,
-    /// An array of arrays of texts, or of tables with one and with a name.
+    /// An array of texts, or a table with one and with a name.
+    Row,
+    /// An array of such.
     Rows,
 }
 
@@ -90,6 +92,9 @@ impl Kind {
             }
             Kind::Called => "the name of a step in quotes",
             Kind::Texts => "a list of texts in quotes",
+            Kind::Row => {
+                "a list of texts in quotes, or a table with such a list 'row' and with 'before'"
+            }
             Kind::Rows => {
                 "a list of lists of texts in quotes, or of tables with such a list 'row' and with 'before'"
             }

@@ -2,8 +2,10 @@
 
 use crate::mpi::{bare, says_key, says_op};
 use crate::rules::{Key, Rules};
+use crate::script::name_of;
 use std::alloc::{AllocError, Global};
 use strsim::osa_distance;
+use toml::Value;
 use ulfm_job::{OPS, Op};
 
 /// The most letters of a word that is compared, and the most edits to the nearest word.
@@ -67,6 +69,27 @@ pub fn nearest_op(alloc: Global, word: &str) -> Result<Option<Op>, AllocError> {
             if count < least {
                 least = count;
                 nearest = Some(op);
+            }
+        }
+    }
+    Ok(nearest)
+}
+
+/// The name of a step that is nearest to a word.
+pub fn nearest_name<'a>(
+    alloc: Global,
+    steps: &'a [Value],
+    word: &str,
+) -> Result<Option<&'a str>, AllocError> {
+    let mut nearest = None;
+    let mut least = usize::MAX;
+    for step in steps {
+        if let Some(name) = name_of(step) {
+            if let Some(count) = edits(alloc, word, name)? {
+                if count < least {
+                    least = count;
+                    nearest = Some(name);
+                }
             }
         }
     }

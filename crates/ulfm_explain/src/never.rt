@@ -10,6 +10,7 @@ use crate::rules::Key;
 use crate::script::{Script, op_of};
 use std::alloc::AllocError;
 use toml::{Table, Value};
+use ulfm_job::Op;
 use ulfm_job::limits::{FEWEST_OF_ROW, MOST_OF_ROW, MOST_WORDS};
 use ulfm_reader::MOST_ROWS;
 
@@ -28,12 +29,42 @@ pub fn explain_never(
     let Some(rows) = &findings.lines.rows else {
         return tell(findings, Cause::ManyRows);
     };
-    for (number, row) in rows.iter().enumerate() {
-        if let Some(texts) = texts_of(row) {
-            explain_row(findings, steps, number, texts)?;
+    explain_lengths(findings, filed)?;
+    let mut told = Vec::new(findings.alloc);
+    for row in rows {
+        for text in counted_texts(row) {
+            if let (Some(wrong), false) = (wrong_in(steps, row, text), findings.is_full()) {
+                explain_text(findings, filed, &mut told, text, wrong)?;
+            }
         }
     }
     Ok(())
+}
+
+/// Tells of rows that have too few texts, or too many.
+fn explain_lengths(findings: &mut Findings<'_>, filed: &[Value]) -> Result<(), AllocError> {
+    for (number, row) in filed.iter().enumerate() {
+        match texts_of(row) {
+            Some(texts) if !is_length(texts.len()) => {
+                tell(findings, Cause::RowLength(number, texts.len()))?;
+            }
+            _ => {}
+        }
+    }
+    Ok(())
+}
+
+/// Whether a row may have so many texts.
+fn is_length(texts: usize) -> bool {
+    FEWEST_OF_ROW <= texts && texts <= MOST_OF_ROW
+}
+
+/// The texts of a row, where it may have so many.
+fn counted_texts(row: &Value) -> &[Value] {
+    match texts_of(row) {
+        Some(texts) if is_length(texts.len()) => texts,
+        _ => &[],
+    }
 }
 
 /// The texts of a row.
@@ -50,36 +81,102 @@ pub(crate) fn tell(findings: &mut Findings<'_>, cause: Cause) -> Result<(), Allo
     findings.tell(at, None, cause)
 }
 
-/// Tells what is wrong with a row.
-fn explain_row(
-    findings: &mut Findings<'_>,
-    steps: &[Value],
-    number: usize,
-    texts: &[Value],
-) -> Result<(), AllocError> {
-    if texts.len() < FEWEST_OF_ROW || texts.len() > MOST_OF_ROW {
-        return tell(findings, Cause::RowLength(number, texts.len()));
-    }
-    for text in texts {
-        if let Some(text) = text.as_str() {
-            explain_text(findings, steps, text)?;
-        }
-    }
-    Ok(())
+/// What is wrong with a text of a row.
+#[derive(Clone, Copy)]
+enum Wrong {
+    NoPlace,
+    NoRanks,
+    NoStep,
+    Long(usize),
+    NoAnswer(Op),
 }
 
-/// Tells what is wrong with a text of a row.
-fn explain_text(
-    findings: &mut Findings<'_>,
-    steps: &[Value],
-    text: &str,
-) -> Result<(), AllocError> {
-    let shown = Shown::new(findings.alloc, text)?;
-    if text.starts_with("all.") || text.starts_with("any.") {
-        return tell(findings, Cause::NoRanks(shown));
+impl Wrong {
+    /// The same of a text that is shown so.
+    fn cause(self, shown: Shown) -> Cause {
+        match self {
+            Wrong::NoPlace => Cause::NoPlace(shown),
+            Wrong::NoRanks => Cause::NoRanks(shown),
+            Wrong::NoStep => Cause::NoStep(shown),
+            Wrong::Long(count) => Cause::LongWords(Key::Never, count),
+            Wrong::NoAnswer(op) => Cause::NoAnswer(Key::Never, shown, op),
+        }
     }
+}
+
+/// Tells what is wrong with a text of a row, by the text of the file from which it is written out: each of those once.
+fn explain_text<'a>(
+    findings: &mut Findings<'_>,
+    filed: &'a [Value],
+    told: &mut Vec<&'a str>,
+    text: &'a Value,
+    wrong: Wrong,
+) -> Result<(), AllocError> {
+    let Some(source) = source_of(filed, text) else {
+        return Ok(());
+    };
+    if told.iter().any(|earlier| *earlier == source) {
+        return Ok(());
+    }
+    told.push(source)?;
+    let shown = Shown::new(findings.alloc, source)?;
+    tell(findings, wrong.cause(shown))
+}
+
+/// The text of the file from which one is written out: it, or else one of all ranks or of any that says the same of a rank.
+fn source_of<'a>(filed: &'a [Value], text: &'a Value) -> Option<&'a str> {
+    let text = text.as_str()?;
+    let mut source = text;
+    for row in filed {
+        for own in texts_of(row).unwrap_or(&[]) {
+            if own.as_str() == Some(text) {
+                return Some(text);
+            }
+            if let (Some(said), Some(own)) = (said_over_ranks(own), own.as_str()) {
+                if text.split_once('.').map(|parts| parts.1) == Some(said) {
+                    source = own;
+                }
+            }
+        }
+    }
+    Some(source)
+}
+
+/// What a text over ranks says of each.
+fn said_over_ranks(text: &Value) -> Option<&str> {
+    let text = text.as_str()?;
+    match text.strip_prefix("all.") {
+        Some(said) => Some(said),
+        None => text.strip_prefix("any."),
+    }
+}
+
+/// Whether a text over ranks says no answer.
+fn lacks_answer(text: &Value) -> bool {
+    match said_over_ranks(text) {
+        Some(said) => !said.contains(' '),
+        None => false,
+    }
+}
+
+/// What is wrong with a text of a row that is written out. Where one over ranks says no answer, the others of its row say nothing wrong.
+fn wrong_in(steps: &[Value], row: &Value, text: &Value) -> Option<Wrong> {
+    if said_over_ranks(text).is_none() {
+        return wrong_of(steps, text.as_str()?);
+    }
+    if lacks_answer(text) {
+        Some(Wrong::NoPlace)
+    } else if texts_of(row)?.iter().any(|other| lacks_answer(other)) {
+        None
+    } else {
+        Some(Wrong::NoRanks)
+    }
+}
+
+/// What is wrong with a text of one rank.
+fn wrong_of(steps: &[Value], text: &str) -> Option<Wrong> {
     let Some(claim) = claim_of(text) else {
-        return tell(findings, Cause::NoPlace(shown));
+        return Some(Wrong::NoPlace);
     };
     let rank = claim.rank;
     let step = match claim.number(steps) {
@@ -87,15 +184,11 @@ fn explain_text(
         None => None,
     };
     let Some(step) = step else {
-        return tell(findings, Cause::NoStep(shown));
+        return Some(Wrong::NoStep);
     };
     match op_of(step) {
-        Some(_) if claim.words.len() > MOST_WORDS => {
-            tell(findings, Cause::LongWords(Key::Never, claim.words.len()))
-        }
-        Some(op) if !may_begin(op, Key::Never, claim.words) => {
-            tell(findings, Cause::NoAnswer(Key::Never, shown, op))
-        }
-        _ => Ok(()),
+        Some(_) if claim.words.len() > MOST_WORDS => Some(Wrong::Long(claim.words.len())),
+        Some(op) if !may_begin(op, Key::Never, claim.words) => Some(Wrong::NoAnswer(op)),
+        _ => None,
     }
 }

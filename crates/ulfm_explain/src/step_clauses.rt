@@ -249,7 +249,7 @@ impl Asker<'_> {
         if let Some(name) = text_at(table, Key::Before) {
             if !is_label(name) {
                 let shown = Shown::new(findings.alloc, name)?;
-                self.tell(findings, Key::Expect, Cause::NotThere(shown))?;
+                self.tell(findings, Key::Expect, Cause::NotThere(shown, None))?;
             }
         }
         match table.get("is") {
