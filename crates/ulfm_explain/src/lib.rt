@@ -2,7 +2,7 @@
 //!
 //!     for explanation in explain(alloc, bytes)? { .. }
 //!     write_verdict(alloc, has_colour, &reply, &mut errors);
-//!     write_notes(alloc, wanted, bytes, &reply, &mut errors);
+//!     write_notes(alloc, wanted, stop, bytes, &reply, &mut errors);
 //!     write_fault(alloc, usage, &mut errors);
 //!
 //! It promises one thing: [`explain`], which tells why a job is refused, and [`warnings`], which tells what of a good one will be refused, give ten
@@ -19,6 +19,7 @@
 //! - `lines.rt`: steps written out, beside their places in the file; `script.rt`: those of one rank; `numbered_step.rt`, `excerpt.rt`: how they are named
 //! - `nearest.rt`, `mpi.rt`: what a misspelt word, or a word of MPI's, stands for
 //! - `notes.rt`: the three calls that write; `remark_lines.rt`: lines of steps and of rows; `headed_lines.rt`: lines below their count
+//! - `unheld.rt`: what isn't asked where the words stop ranks
 //! - `goal.rt`: why a goal of `--show` names no answer; `only_names.rt`, `stop_names.rt`: why a part of `--only`, or of `--stop`, names no step
 //! - `misplaced.rt`: why a job hasn't a place
 //!
@@ -62,6 +63,7 @@ mod step_clauses;
 mod steps;
 mod stop_names;
 mod sure_refusals;
+mod unheld;
 mod walk;
 mod warning;
 

@@ -5,6 +5,7 @@ use crate::misplaced::misplaced_line;
 use crate::only_names::name_line;
 use crate::remark_lines::{remarks_told, verdict_line};
 use crate::stop_names::unnamed_line;
+use crate::unheld::unheld_in;
 use crate::{Explanation, explain, warnings};
 use std::alloc::{AllocError, Global};
 use std::io::Write;
@@ -28,15 +29,16 @@ const MANY_STATES: &str =
 const FEW_TURNS: &str =
     "threads poll fast, so the job's turns may be too few for a run: add --turns 1000000\n";
 
-/// Says what a reply to these bytes doesn't. Where it can't be said, nothing is.
+/// Says what a reply to these bytes doesn't. Where ranks stop is told by this text, if it names steps. Where it can't be said, nothing is.
 pub fn write_notes<E: Write>(
     alloc: Global,
     wanted: Wanted,
+    stop: Option<&str>,
     bytes: &[u8],
     reply: &Reply,
     errors: &mut E,
 ) {
-    if let Ok(notes) = notes_on(alloc, wanted, bytes, reply) {
+    if let Ok(notes) = notes_on(alloc, wanted, stop, bytes, reply) {
         let _is_written = write_whole(errors, notes.as_bytes());
     }
 }
@@ -106,6 +108,7 @@ fn fault_line(alloc: Global, usage: &str) -> Result<String, AllocError> {
 fn notes_on(
     alloc: Global,
     wanted: Wanted,
+    stop: Option<&str>,
     bytes: &[u8],
     reply: &Reply,
 ) -> Result<String, AllocError> {
@@ -113,13 +116,16 @@ fn notes_on(
         Body::NoGoal(goal) => goal_line(alloc, wanted, bytes, goal.as_str()),
         Body::NoName(name) => name_line(alloc, wanted, bytes, name.as_str()),
         Body::Unnamed(text) => unnamed_line(alloc, bytes, text.as_str()),
-        Body::NoPlace(place) => misplaced_line(alloc, bytes, *place),
+        Body::NoPlace(place) => misplaced_line(alloc, bytes, *place, stop),
         Body::Refused(_) if bytes.trim_ascii().is_empty() => String::from_str(alloc, EMPTY),
         Body::Refused(fault) => refused_notes(alloc, bytes, *fault),
         Body::Good(..) => lines_of(alloc, "warning: ", &warnings(alloc, bytes)?),
         _ if reply.status == PAST_LIMIT => String::from_str(alloc, MANY_STATES),
         _ => match &reply.remarks {
-            Some(remarks) => remark_notes(alloc, wanted, remarks.as_slice()),
+            Some(remarks) => {
+                let unheld = unheld_in(alloc, wanted, bytes)?;
+                remark_notes(alloc, wanted, remarks.as_slice(), unheld.as_slice())
+            }
             None => Ok(String::new(alloc)),
         },
     }
@@ -143,9 +149,15 @@ fn lines_of(alloc: Global, word: &str, found: &[Explanation]) -> Result<String, 
     Ok(notes)
 }
 
-/// What is told by values, and what to do about steps that hang in a run with the turns of its job.
-fn remark_notes(alloc: Global, wanted: Wanted, remarks: &[Remark]) -> Result<String, AllocError> {
-    let mut notes = remarks_told(alloc, remarks)?;
+/// What is told by values, what isn't asked at the one place that was looked at, and what to do about steps that hang in a run with the turns of
+/// its job.
+fn remark_notes(
+    alloc: Global,
+    wanted: Wanted,
+    remarks: &[Remark],
+    unheld: &[Remark],
+) -> Result<String, AllocError> {
+    let mut notes = remarks_told(alloc, remarks, unheld)?;
     let is_usual_run = matches!(wanted, Wanted::Run(RunOptions { turns: None, .. }));
     if is_usual_run
         && remarks

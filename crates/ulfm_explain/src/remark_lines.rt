@@ -21,14 +21,18 @@ const MISTAKEN: &str = "answers that are nearly always a mistake of the script";
 const SKIPPED: &str = "steps that every schedule skips, so that their conditions never hold";
 
 const UNHELD: &str =
-    "what is asked at no place, since at none all stops lie before the steps of its name";
+    "what is asked at no place that was looked at, since at none all stops lie before the steps of its name";
 
-/// The lines on these, each once, kind by kind below its head.
-pub(crate) fn remarks_told(alloc: Global, remarks: &[Remark]) -> Result<String, AllocError> {
+/// The lines on these and on more, each once, kind by kind below its head.
+pub(crate) fn remarks_told(
+    alloc: Global,
+    remarks: &[Remark],
+    more: &[Remark],
+) -> Result<String, AllocError> {
     let mut notes = String::new(alloc);
     for head in &HEADS {
         let mut told = Counted::new(alloc);
-        for remark in remarks {
+        for remark in remarks.iter().chain(more.iter()) {
             if head_of(remark) == Some(*head) {
                 let line = line_of(alloc, remark)?;
                 told.add(line.as_str())?;

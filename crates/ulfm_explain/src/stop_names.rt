@@ -10,12 +10,16 @@ use ulfm_reader::{ReadJob, Reading, named};
 const WRITTEN: &str =
     "a place is a rank, a dot and the number or the name of a step, as 0.2 or 0.commit, or two of them, as 0.2+1.commit";
 
+/// What is said of more than two ranks.
+const MANY: &str = "a place has two ranks at most";
+
 /// The line on a text that comes to no place of the job of these bytes.
 pub(crate) fn unnamed_line(alloc: Global, bytes: &[u8], text: &str) -> Result<String, AllocError> {
     let Ok(asked) = Reading::read(alloc, bytes) else {
         return Ok(String::new(alloc));
     };
     let reason = match text.split_once('+') {
+        Some((_, second)) if second.contains('+') => Some(String::from_str(alloc, MANY)?),
         Some((first, second)) => reason_of_two(alloc, &asked, first, second)?,
         None => reason(alloc, &asked, text)?,
     };

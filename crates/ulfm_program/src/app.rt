@@ -162,7 +162,8 @@ fn write_remarks<E: Write>(
     if reply.status == PAST_LIMIT {
         far.tell(alloc, errors);
     }
-    write_notes(alloc, settled(alloc, asked, bytes), bytes, reply, errors);
+    let wanted = settled(alloc, asked, bytes);
+    write_notes(alloc, wanted, asked.wish.stop, bytes, reply, errors);
 }
 
 /// Writes that memory ran out, in this form, and answers the status of that, or of output that failed.
