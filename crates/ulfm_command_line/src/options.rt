@@ -88,7 +88,9 @@ pub fn strict_flag<'a>(alloc: Global) -> Arg<'a>
 {
     Arg::new(alloc, "strict")
         .long("strict")
-        .help("Ends with status 6 in place of 0 where a step is unfinished, or never ends")
+        .help(
+            "Ends with status 6 in place of 0 where a trace has an unfinished step, or a list one that never ends",
+        )
         .action(ArgAction::SetTrue)
 }
 
