@@ -1,11 +1,12 @@
 -- The steps whose lines a list has, and the list of those.
-use Rattle.std.specs.Prelude.{ℕ, ◌==◌, ◌&&◌, ◌||◌, not, Bool, true, false, List, [], ◌∷◌, ◌++◌, Option, Some, None, codes, filter, is_some}
+use Rattle.std.specs.Prelude.{ℕ, ◌==◌, ◌&&◌, ◌||◌, not, Bool, true, false, List, [], ◌∷◌, ◌++◌, Option, Some, None, codes, filter, is_some, if◌then◌else◌}
 use Rattle.std.specs.Fmt.{decimal}
 use Rattle.std.specs.List.{find, flat_map, list_any, slice_split}
 use Rattle.std.specs.Str.{bytes_eq, trim}
 use Rattle.ulfm_outcomes_list.specs.Listed.{StepView, all_steps, list_found}
 use Rattle.ulfm_outcomes_list.specs.ListJson.{printed}
 use Rattle.ulfm_outcomes_list.specs.declared.judgement.Judgement.{Judgement}
+use Rattle.ulfm_job.specs.Text.{place_of_text}
 use Rattle.ulfm_job.specs.declared.step.Step.{Step}
 use Rattle.ulfm_job.specs.declared.step.Step.TheVariants.{Note}
 use Rattle.ulfm_forms.specs.declared.form.Form.{Form}
@@ -22,10 +23,14 @@ abbrev pub parts_of : Option (List ℕ) → List (List ℕ)
 parts_of None = []
 parts_of (Some text) = slice_split (λ b. b == 44) text
 
+-- a text, where it is no place by the number of a step: digits alone are a number
+abbrev pub unnumbered : List ℕ → List (List ℕ)
+unnumbered text = if is_some (place_of_text text) then [] else text ∷ []
+
 -- the texts that a name makes, if there is one: it, alone and behind its rank
 abbrev pub named_labels : ℕ → Option (List ℕ) → List (List ℕ)
 named_labels rank None = []
-named_labels rank (Some name) = name ∷ (decimal rank ++ codes "." ++ name) ∷ []
+named_labels rank (Some name) = name ∷ unnumbered (decimal rank ++ codes "." ++ name)
 
 -- the texts that name a step: its rank and its number, and those of its name
 abbrev pub labels : List Name → StepView → List (List ℕ)

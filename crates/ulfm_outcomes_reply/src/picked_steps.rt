@@ -9,12 +9,12 @@ ghost use Rattle.ulfm_command_line.specs.Body.{body_in};
 ghost use Rattle.ulfm_command_line.specs.Stopped.{asked_view};
 ghost use Rattle.ulfm_command_line.specs.Unknown.{no_name};
 ghost use Rattle.ulfm_command_line.specs.Wish.{choice_view};
-ghost use Rattle.ulfm_outcomes_reply.specs.Chosen.{are_called, chosen, is_all, is_called, is_chosen, is_note, is_part, labels, named_labels, parts_of, unknown_part};
+ghost use Rattle.ulfm_outcomes_reply.specs.Chosen.{are_called, chosen, is_all, is_called, is_chosen, is_note, is_part, labels, named_labels, parts_of, unknown_part, unnumbered};
 
 use crate::search::Search;
 use std::alloc::{AllocError, Global};
 use ulfm_command_line::{Body, Choice, JOB_REFUSED, Reply};
-use ulfm_job::Step;
+use ulfm_job::{Place, Step};
 use ulfm_outcomes_list::{JobStep, StepList, push_list, steps_of};
 use ulfm_reader::{Name, Reading, name_at};
 
@@ -184,9 +184,19 @@ fn push_named(texts: &mut Vec<String>, rank: u8, name: Option<&str>) -> Result<(
     let alloc = *texts.allocator();
     if let Some(name) = name {
         texts.push(String::from_str(alloc, name)?)?;
-        texts.push(format!(in alloc; "{rank}.{name}")?)?;
+        push_unnumbered(texts, format!(in alloc; "{rank}.{name}")?)?;
     }
     Ok(())
+}
+
+/// Puts a text behind others, where it is no place by the number of a step: digits alone are a number.
+fn push_unnumbered(texts: &mut Vec<String>, text: String) -> Result<(), AllocError>
+    ensures { OnOk result (map string_bytes texts.new.items ≡ map string_bytes texts.old.items ++ unnumbered (string_bytes text)) }
+{
+    if Place::parse(text.as_str()).is_some() {
+        return Ok(());
+    }
+    Ok(texts.push(text)?)
 }
 
 /// Whether one of these texts is one of the parts.
