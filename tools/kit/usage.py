@@ -138,7 +138,7 @@ def missing(of, used, files):
         message = "the following required arguments were not provided:" + "".join(f"\n  {it}" for it in needed)
         return refused(message, of.usage_of(used or of.required, bool(files)))
     # (these ask for nothing where they stand so)
-    if "threads" in used and "stops" not in used or {"stop", "stops"} <= {*used}:
+    if {"threads", "html"} & {*used} and "stops" not in used or {"stop", "stops"} <= {*used} or "html" in used and not files:
         return None
     if not files or any(map(os.path.lexists, files)):
         return None

@@ -1,5 +1,5 @@
 -- What the words of a command line ask for.
-use Rattle.std.specs.Prelude.{◌≡◌, ◌<◌, ◌≤◌, ◌⊎◌, ⊤, ℕ, Bool, List, [], ◌∷◌, Option, Some, None, is_some, not, option_map, codes, false, IfSome, unwrap_or, if◌then◌else◌}
+use Rattle.std.specs.Prelude.{◌≡◌, ◌<◌, ◌≤◌, ◌⊎◌, ◌&&◌, ◌||◌, ⊤, ℕ, Bool, List, [], ◌∷◌, Option, Some, None, is_some, not, option_map, codes, false, IfSome, unwrap_or, if◌then◌else◌}
 use Rattle.std.specs.Option.{option_and_then, option_map_or, option_or}
 use Rattle.std.specs.Str.{bytes_eq}
 use Rattle.std.specs.Str.Parse.{digits_value, without_leading_plus}
@@ -113,9 +113,16 @@ threads_in rows = number_given most_threads (first_of (codes "threads") rows)
 abbrev pub is_given : Text → List Row → Bool
 is_given name rows = is_some (first_of name rows)
 
--- the options of places go together: `--stops` without `--stop`, and `--threads` with `--stops`
+-- a page is asked for of a file alone
+abbrev pub is_page_of_file : List Row → Bool
+is_page_of_file rows = not (is_given (codes "html") rows) || is_given (codes "file") rows
+
+-- the options of places go together: `--stops` without `--stop`, `--threads` and `--html` with `--stops`, and `--html` with a file
 abbrev pub are_together : List Row → Bool
-are_together rows = if is_given (codes "stops") rows then not (is_given (codes "stop") rows) else not (is_given (codes "threads") rows)
+are_together rows =
+    if is_given (codes "stops") rows
+    then not (is_given (codes "stop") rows) && is_page_of_file rows
+    else not (is_given (codes "threads") rows) && not (is_given (codes "html") rows)
 
 -- what the options of `outcomes` ask for, with a place of stops
 abbrev pub list_options : List Row → Place → ListOptions

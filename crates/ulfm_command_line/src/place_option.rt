@@ -1,7 +1,7 @@
 //! Where ranks stop, by the options of a command.
 ghost use Rattle.std.specs.Prelude.{◌≡◌, ◌<◌, ◌≤◌, option_map, IfSome};
 ghost use Rattle.clap.specs.Words.{found_of, rows_of};
-ghost use Rattle.ulfm_command_line.specs.CommandLine.{AreStops, AreThreads, are_together, is_given, number_given, place_given, place_in, place_written, stops_in, stops_wanted, threads_in};
+ghost use Rattle.ulfm_command_line.specs.CommandLine.{AreStops, AreThreads, are_together, is_given, is_page_of_file, number_given, place_given, place_in, place_written, stops_in, stops_wanted, threads_in};
 
 use crate::command::value_of;
 use crate::number::number_given;
@@ -80,19 +80,26 @@ fn small_given(text: Option<&str>, most: u32) -> Option<u8>
     }
 }
 
-/// Whether the options of places go together: `--stops` without `--stop`, and `--threads` with `--stops`.
+/// Whether the options of places go together: `--stops` without `--stop`, `--threads` and `--html` with `--stops`, and `--html` with a file.
 pub(crate) fn are_together(options: &ArgMatches<'_>) -> bool
     ensures { result ≡ are_together (rows_of (found_of options.now)) }
 {
     if is_given(options, "stops") {
-        !is_given(options, "stop")
+        !is_given(options, "stop") && is_page_of_file(options)
     } else {
-        !is_given(options, "threads")
+        !is_given(options, "threads") && !is_given(options, "html")
     }
 }
 
+/// Whether a page is asked for of a file alone.
+fn is_page_of_file(options: &ArgMatches<'_>) -> bool
+    ensures { result ≡ is_page_of_file (rows_of (found_of options.now)) }
+{
+    !is_given(options, "html") || is_given(options, "file")
+}
+
 /// Whether an option was given, by its name.
-fn is_given(options: &ArgMatches<'_>, name: &str) -> bool
+pub(crate) fn is_given(options: &ArgMatches<'_>, name: &str) -> bool
     ensures { result ≡ is_given name.now (rows_of (found_of options.now)) }
 {
     value_of(options, name).is_some()

@@ -4,6 +4,7 @@ ghost use Rattle.clap.specs.Words.{kind_of};
 
 use crate::command::value_of;
 use crate::place_names::may_name;
+use crate::place_option::is_given;
 use clap::error::ErrorKind;
 use clap::{ArgMatches, Command, Error};
 use std::alloc::{AllocError, Global};
@@ -32,21 +33,29 @@ fn unmeant_text(alloc: Global, options: &ArgMatches<'_>) -> Result<String, Alloc
                 "invalid value '{text}' for '--stop <PLACE>'\n  [a rank, a dot and the number or the name of a step, as 0.2, with a star to die inside it, as 1.5*; two of them, as 0.2+1.3; or -]"
             );
         }
-        if value_of(options, "stops").is_some() {
-            return String::from_str(
-                alloc,
-                "the argument '--stop <PLACE>' cannot be used with '--stops <N>'",
-            );
-        }
     }
-    if value_of(options, "threads").is_some() {
-        return String::from_str(
-            alloc,
-            "the argument '--threads <N>' is for '--stops <N>' alone",
-        );
+    if let Some(text) = apart(options) {
+        return String::from_str(alloc, text);
     }
     let value = value_of(options, "carrier").unwrap_or("");
     format!(in alloc;
         "invalid value '{value}' for '--carrier <CARRIER>'\n  [possible values: lanes, shared]"
     )
+}
+
+/// What is said of options of places that don't go together.
+fn apart(options: &ArgMatches<'_>) -> Option<&'static str> {
+    match (is_given(options, "stops"), is_given(options, "html")) {
+        (true, _) if is_given(options, "stop") => {
+            Some("the argument '--stop <PLACE>' cannot be used with '--stops <N>'")
+        }
+        (true, true) => Some(
+            "the argument '--html <PAGE>' is for a job in a file, and no FILE is named behind it",
+        ),
+        (false, true) => Some("the argument '--html <PAGE>' is for '--stops <N>' alone"),
+        (false, false) if is_given(options, "threads") => {
+            Some("the argument '--threads <N>' is for '--stops <N>' alone")
+        }
+        _ => None,
+    }
 }

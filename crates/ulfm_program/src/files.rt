@@ -9,7 +9,7 @@ ghost use Rattle.ulfm_command_line.specs.Wish.{wish_asked, wish_view};
 
 use crate::app::{follow, run_on, write_starved};
 use crate::engine::Engine;
-use crate::page_file::{tell_unpaged, write_page};
+use crate::page_file::write_page;
 use std::alloc::Global;
 use std::convert::AsStr;
 use std::fmt;
@@ -60,7 +60,6 @@ where
     match asked_for(engine.alloc, words) {
         Ok(asked) => {
             if asked.files.is_empty() {
-                tell_unpaged(&asked, errors);
                 follow(engine, &asked, input, output, errors)
             } else {
                 run_files(engine, &asked, output, errors)

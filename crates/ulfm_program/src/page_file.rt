@@ -12,22 +12,14 @@ use ulfm_outcomes_reply::Search;
 use ulfm_outcomes_spec::Finder;
 use ulfm_reader::{read_front, write_whole};
 
-/// What is told where the words don't ask for lists of places of one job in a file.
-const UNPAGED: &str =
-    "ulfm: --html is for 'outcomes --stops' of one job, in a file that is named\n";
+/// What is told where the words name several jobs.
+const UNPAGED: &str = "ulfm: --html is for one job, so no page is written\n";
 
 /// What is told where the page would take the place of the job.
 const ITSELF: &str = "ulfm: --html names the job's own file, so no page is written\n";
 
 /// What is told where the page can't be made or written.
 const UNWRITTEN: &str = "ulfm: the page can't be written\n";
-
-/// Tells that no page is written, where the words ask for one and name no file.
-pub(crate) fn tell_unpaged<E: Write>(asked: &Asked<'_>, errors: &mut E) {
-    if asked.page.is_some() {
-        let _is_written = write_whole(errors, UNPAGED.as_bytes());
-    }
-}
 
 /// Writes the page of the job in a file, whose answer had this status, if the words ask for one. Where it can't be written, standard error says so.
 pub(crate) fn write_page<T: Files, F: Finder, E: Write>(
@@ -41,7 +33,7 @@ pub(crate) fn write_page<T: Files, F: Finder, E: Write>(
         return;
     };
     let Some((options, stops)) = lists_of(asked) else {
-        tell_unpaged(asked, errors);
+        let _is_written = write_whole(errors, UNPAGED.as_bytes());
         return;
     };
     if page == file {
