@@ -18,7 +18,7 @@ REFUSED = [
     Opening(r"Else ", "Else it is refused.", "Otherwise it is refused."),
 ]
 # Pages that are records.
-LEFT_OUT = {"DECISIONS.md", "MEASURED.md", "CHANGELOG.md"}
+LEFT_OUT = {"MEASURED.md", "CHANGELOG.md"}
 HEAD_OF_TABLE = re.compile(r"^\|.*\n(?=\|[-|]+\n)", re.MULTILINE)
 LINE_AS_IT_IS = re.compile(r"^(    |#).*$", re.MULTILINE)
 PARTS = re.compile(r"\n\s*\n|\n(?= *(?:[-*]|\d+\.) )|\|")
