@@ -46,7 +46,7 @@ class Call:
         self.names = [name for _, name, _ in parameters]
 
     def large(self):
-        """The same call with large counts."""
+        """This call with large counts."""
         def widened(kind, name, is_list):
             if name in COUNTS or (name in LISTS and name.endswith("counts")):
                 kind = re.sub(r"\bint\b", "MPI_Count", kind)

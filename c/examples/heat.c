@@ -141,7 +141,7 @@ static int make_round(double *heat) {
     return code;
 }
 
-/* The same by one rank, for comparison. */
+/* The heat as one rank alone computes it, for comparison. */
 static double heat_alone(void) {
     double now[CELLS + 2] = {100}, after[CELLS + 2] = {100}, sum = 0;
     for (int k = 0; k < STEPS; k++) {

@@ -141,7 +141,7 @@ def solve(revokes, rank):
 
 
 def heat_alone():
-    """The same by one rank, for comparison."""
+    """The heat as one rank alone computes it, for comparison."""
     rod = [100.0] + [0.0] * (CELLS + 1)
     for _ in range(STEPS):
         rod = [100.0] + [(rod[k - 1] + rod[k + 1]) / 2 for k in range(1, CELLS + 1)] + [0.0]

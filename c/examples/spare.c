@@ -127,7 +127,7 @@ static int make_round(long long *sum) {
     return code;
 }
 
-/* The same by one rank, for comparison. */
+/* The sum as one rank alone computes it, for comparison. */
 static long long sum_alone(void) {
     long long values[MOST], olds[MOST], sum = 0;
     for (int k = 0; k < parts; k++) values[k] = k + 1;

@@ -181,8 +181,8 @@ uint32_t ulfm_cancel(ulfm_slot *slot, uint64_t request, ulfm_status *status, uin
    have failed). */
 uint32_t ulfm_iprobe(ulfm_slot *slot, uint32_t comm, uint32_t source, uint32_t tag, ulfm_status *status);
 
-/* The same, and takes the message aside: `ulfm_mrecv` alone gets it, revoked or not (MPI 4.0, 3.8.2, `MPI_Improbe`). *message: its
-   number. 16, 1 (comm past 62), 3, 10, 1, 6, 2, 5, 12; 17. */
+/* Looks for a message as `ulfm_iprobe` does, and takes it aside: `ulfm_mrecv` alone gets it, revoked or not (MPI 4.0, 3.8.2, `MPI_Improbe`). 0: there
+   is one, *message is its number, and *status tells of it. 17: there is none. 16, 1 (comm past 62), 3, 10, 1, 6, 2, 5, 12. */
 uint32_t ulfm_improbe(ulfm_slot *slot, uint32_t comm, uint32_t source, uint32_t tag, uint64_t *message, ulfm_status *status);
 
 /* Receives a message into `size` bytes, and releases it (MPI 4.0, 3.8.3, `MPI_Mrecv`). 0: as by `ulfm_test`; status->error is ULFM_TRUNCATED

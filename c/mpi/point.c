@@ -18,7 +18,7 @@ static int check(const void *buf, int count, MPI_Datatype type, int peer, int ta
     return MPI_SUCCESS;
 }
 
-/* The same, where the bytes aren't wanted. */
+/* Why a message can't be sent or received, or MPI_SUCCESS. */
 int um_check_message(const void *buf, int count, MPI_Datatype type, int peer, int tag, const struct comm *comm, bool is_receive) {
     size_t bytes;
     return check(buf, count, type, peer, tag, comm, is_receive, &bytes);

@@ -45,7 +45,7 @@ static int make_blocks(const struct blocks *blocks, MPI_Datatype *made) {
     return code;
 }
 
-/* The same blocks, `stride` bytes from one to the next. */
+/* Blocks of one length and type, `stride` bytes or extents from one to the next. */
 static int make_vector(MPI_Count count, MPI_Count length, MPI_Count stride, bool is_bytes, MPI_Datatype type, MPI_Datatype *made) {
     struct type *of = um_type_at(type), *row, *whole;
     ptrdiff_t step = (ptrdiff_t)stride;

@@ -164,7 +164,7 @@ class Maker:
         return job_text(self.ranks, self.capacity, self.steps[:MOST_STEPS])
 
     def text_of_reacting(self, chance):
-        """The same job with names, conditions and expectations."""
+        """A made-up job with names, conditions and expectations."""
         self.text()
         self.steps = reacting.reacting(chance, self.steps[:MOST_STEPS])
         return job_text(self.ranks, self.capacity, self.steps)

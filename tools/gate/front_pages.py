@@ -1,9 +1,9 @@
 """The front pages of crates: the comment at the head of each src/lib.rt, which says what a crate promises, and what it doesn't.
 
-A front page is at most so long, says what is 'Not here', and names each file of the crate, or its folder. Each name between backticks stands in code or specs, where comments don't count, or is
-a file. Each file that it names is one of the crate, or of the crate behind it. Definitions stand in the file behind them: `Flows` in Flow.antt of
-ulfm_laws, where a page has '(`Flows`, Flow.antt of `ulfm_laws`)'. Names in brackets behind a call, as in '`push` (`taken`, `pushed`):', are clauses
-of the crate.
+A front page has at most 64 lines, says what is 'Not here', and names each file of the crate, or its folder. Each name between backticks stands in
+code or specs, where comments don't count, or is a file. A file belongs to the crate, or to the crate that is named after it. A definition stands in
+the file that is named after it: `Flows` in Flow.antt of ulfm_report_laws, if the page has '(`Flows`, Flow.antt of `ulfm_report_laws`)'. Names in
+brackets after a call, as in '`push` (`taken`, `pushed`):', are clauses of the crate.
 """
 import re
 
@@ -46,7 +46,7 @@ def looked_at_files(crates, crate, text):
 
 
 def looked_at_clauses(folder, text):
-    """The same of the clauses that it names."""
+    """Whether each clause that a front page names is there, and what is said where it isn't."""
     code = "\n".join(file.read_text() for file in folder.glob("src/**/*.rt"))
     clauses = {*re.findall(r"^\s+(?:requires|ensures) (\w+)", code, re.MULTILINE)}
     for names in CLAUSES.findall(text):
@@ -63,7 +63,7 @@ def looked_at_sources(sources, text):
 
 
 def looked_at_names(root, folder, words, text):
-    """The same of the other names of a front page."""
+    """Whether each other name of a front page is there, and what is said where it isn't."""
     for name in sorted(set(NAME.findall(text))):
         is_file = (root / name).exists() or (folder / name).exists() or (folder / "src" / name).exists()
         is_known = name.endswith(".rt") or name.startswith("MPI") or name.split("::")[-1].lstrip("-") in words
