@@ -1,4 +1,5 @@
-"""Openings of sentences that pages don't have: there the subject comes first, and a condition begins with 'if'."""
+"""Openings of sentences that pages don't have: there the subject comes first, and a condition begins with 'if'. And openings of comments that can't
+be read alone, since they lean on the line above."""
 import re
 from collections import namedtuple
 
@@ -16,6 +17,10 @@ REFUSED = [
     Opening(r"By `", "By `--stop` a rank ends.", "With `--stop` a rank ends."),
     Opening(r"Behind ", "Behind a step stands its answer.", "A step is followed by its answer."),
     Opening(r"Else ", "Else it is refused.", "Otherwise it is refused."),
+    Opening(r"Dear ", "Dear is a large value.", "A large value is slow to prove."),
+    Opening(r"Mostly ", "Mostly a second or two.", "It mostly takes a second or two."),
+    Opening(r"So (is|are) (written|printed|told) ", "So are written three jobs.", "Three jobs are written so."),
+    Opening(r"The same (as|by|for|if|of|where|with) ", "The same of a list.", "It says what it does for a list."),
 ]
 # Pages that are records.
 LEFT_OUT = {"MEASURED.md", "CHANGELOG.md"}
@@ -23,6 +28,9 @@ HEAD_OF_TABLE = re.compile(r"^\|.*\n(?=\|[-|]+\n)", re.MULTILINE)
 LINE_AS_IT_IS = re.compile(r"^(    |#).*$", re.MULTILINE)
 PARTS = re.compile(r"\n\s*\n|\n(?= *(?:[-*]|\d+\.) )|\|")
 BULLET = re.compile(r"^([-*]|\d+\.)\s+")
+# A comment of C, or of a function in Python, and one that is refused.
+LEANING = re.compile(r"(?:/\* |\"\"\")(The same\b.*)")
+LEANS = "The same of texts."
 END = re.compile(r"(?<=[.:;?!])\s+(?=[A-Z`])")
 
 
@@ -39,3 +47,8 @@ def refused(page):
     for sentence in sentences(page):
         if not sentence.endswith("?") and any(re.match(it.begins, sentence) for it in REFUSED):
             yield sentence
+
+
+def leaning(code):
+    """The comments of a file of C or Python that can't be read alone."""
+    return LEANING.findall(code)
