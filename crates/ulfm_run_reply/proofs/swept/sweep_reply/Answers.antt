@@ -1,4 +1,6 @@
+use Rattle.std.proofs.Common.{◌≡◌}
 use Rattle.std.proofs.lemmas.Result.{IfOk-weaker}
+use Rattle.ulfm_command_line.specs.declared.body.Body.TheVariants.{Refused}
 use Rattle.ulfm_run_reply.specs.Sweep.{swept}
 use Rattle.ulfm_run_reply.proofs.Unswept.{not_both, sweep_refused, sweep_unmade}
 use Rattle.ulfm_run_reply.proofs.swept.sweep_reply.Goals as goal
@@ -10,4 +12,7 @@ pub returns-in-Ok-sweep : goal.returns-in-Ok-sweep
 returns-in-Ok-sweep c = IfOk-weaker c.lines_reply.result _ _ (λ r h. rw (h.0, h.1, c.as_slice.ensures.value) (swept c.in-Ok.job c.in-Ok-sweep.lines.items c.in-Ok.ensures (λ many. not_both _ _ _ c.in-Ok-sweep.is (c.sweep.ensures.full many)) c.in-Ok-sweep.ensures.places c.in-Ok-sweep.ensures.swept)) c.lines_reply.ensures
 
 pub returns-in-Err-Job : goal.returns-in-Err-Job
-returns-in-Err-Job c = rw (c.refusal-in-Err-Job.ensures.status, c.refusal-in-Err-Job.ensures.body) (sweep_unmade c.in-Ok.job c.in-Err-Job.fault _ _ _ c.in-Ok.ensures c.in-Err-Job.is c.in-Err-Job.field-0-is c.sweep.ensures.full c.in-Err-Job.ensures.memory)
+returns-in-Err-Job c =
+    let refused = c.refusal-in-Err-Job.ensures in
+    let body : c.refusal-in-Err-Job.result.body ≡ Refused c.in-Err-Job.fault = rw c.in-Err-Job.field-0-is at refused.body in
+    rw (refused.status, body) (sweep_unmade c.in-Ok.job c.in-Err-Job.fault _ _ _ c.in-Ok.ensures c.in-Err-Job.is c.in-Err-Job.field-0-is c.sweep.ensures.full c.in-Err-Job.ensures.memory)
