@@ -20,8 +20,8 @@ void um_forget_looks(struct player *player) {
     player->look_count = 0;
 }
 
-/* The place of a look among those that were made, or of none. */
-static uint64_t *place_of_look(struct player *player, uint64_t look) {
+/* Where a look stands in the table of those that were made, or none does. */
+static uint64_t *cell_of_look(struct player *player, uint64_t look) {
     int k = (int)(look % LOOKS);
     while (player->looks[k] && player->looks[k] != look) k = (k + 1) % LOOKS;
     return &player->looks[k];
@@ -30,15 +30,15 @@ static uint64_t *place_of_look(struct player *player, uint64_t look) {
 /* Whether the call that a rank stands before is a look that it made before, with nothing new since. */
 bool um_looks_again(struct player *player) {
     if (player->marks_at_look != um_count_of_marks()) um_forget_looks(player);
-    return player->look && (player->look_count > LOOKS / 2 || *place_of_look(player, player->look));
+    return player->look && (player->look_count > LOOKS / 2 || *cell_of_look(player, player->look));
 }
 
 static void remember_look(struct player *player) {
     if (player->marks_at_look != um_count_of_marks()) um_forget_looks(player);
     player->marks_at_look = um_count_of_marks();
-    uint64_t *place = place_of_look(player, player->look);
-    if (*place || player->look_count > LOOKS / 2) return;
-    *place = player->look;
+    uint64_t *cell = cell_of_look(player, player->look);
+    if (*cell || player->look_count > LOOKS / 2) return;
+    *cell = player->look;
     player->look_count++;
 }
 
