@@ -15,6 +15,9 @@ static int tag_of(const struct comm *comm) {
     return comm->plane * NUMBERS + (int)number;
 }
 
+/* Whether a message is of a collective that has a number of its own, or of a duplicate that doesn't block: on the first duplicate of a chain. */
+bool um_is_of_single(int context, int tag) { return context % 4 == 1 && tag % NUMBERS >= SINGLE; }
+
 /* Begins a collective, with the next number. One that was shrunk has no hidden context either where it was revoked before it was adopted here. */
 int um_begin_collective(struct comm *comm) {
     if (!comm) return MPI_ERR_COMM;

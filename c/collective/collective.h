@@ -11,6 +11,7 @@
     *(handle) = MPI_REQUEST_NULL
 
 /* collect.c */
+bool um_is_of_single(int context, int tag);
 int um_begin_collective(struct comm *comm);
 int um_refuse_collective(struct comm *comm, int code);
 int um_collect_send(struct comm *comm, int to, const void *bytes, size_t length);

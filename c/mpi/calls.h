@@ -100,6 +100,7 @@ void um_clear_keyvals(void);
 int um_look_at_exchange(struct request *exchange);
 
 /* idup.c */
+bool um_is_copying(uint64_t name);
 uint32_t um_missing_from_copy(const struct request *request);
 void um_free_copy(struct request *request);
 

@@ -36,46 +36,6 @@ void um_free_marks(void) {
     }
 }
 
-static bool has_requests(uint32_t context) {
-    for (int k = 0; k < um_me->mpi.request_count; k++)
-        if (um_me->mpi.requests[k] && um_me->mpi.requests[k]->context == context) return true;
-    return false;
-}
-
-/* The planes of a chain that this rank has not had yet, or freed, where nothing is open or revoked. */
-static unsigned free_planes(const struct chain *chain) {
-    unsigned all = 0;
-    for (int k = 0; k < PLANES; k++) {
-        uint32_t context = chain->plane[k].context, revoked = 0;
-        if (k >= chain->planes) all |= 1u << k;
-        else if (!chain->plane[k].is_free || has_requests(context)) continue;
-        else if (ulfm_is_revoked(um_me->slot, context, &revoked) == ULFM_OK && !revoked) all |= 1u << k;
-    }
-    return all;
-}
-
-/* What this rank wishes. */
-void um_wish_for(const struct chain *chain, struct wish *own) {
-    *own = (struct wish){.free = free_planes(chain), .old = (1u << chain->planes) - 1};
-    for (int k = 0; k < chain->planes; k++) own->begun[k] = chain->plane[k].begun;
-}
-
-/* What comes of the wishes of all, but for the marks. */
-void um_decide(const struct comm *team, const struct wish *all, struct decided *decided) {
-    unsigned common = all[0].free;
-    *decided = (struct decided){0};
-    for (int k = 0; k < team->size; k++) {
-        common &= all[k].free;
-        decided->terms.colors[k] = all[k].color;
-        decided->terms.keys[k] = all[k].key;
-    }
-    decided->plane = common ? __builtin_ctz(common) : PLANES;
-    for (int k = 0; k < team->size && decided->plane < PLANES; k++) {
-        if (all[k].begun[decided->plane] > decided->terms.begun) decided->terms.begun = all[k].begun[decided->plane];
-        decided->is_old = decided->is_old || (all[k].old >> decided->plane & 1);
-    }
-}
-
 /* Takes away what was sent on a plane before and never received. */
 void um_drop_messages(const struct chain *chain, int plane) {
     if (plane >= chain->planes) return;
@@ -100,15 +60,11 @@ int um_agree_on_plane(struct comm *team, int *plane, struct terms *terms) {
     struct wish own, all[MAX_RANKS];
     struct decided decided = {0};
     char verdict[VERDICT + sizeof decided];
-    um_wait_for_copies(team->chain);
     um_wish_for(team->chain, &own);
     own.color = terms->colors[0];
     own.key = terms->keys[0];
     int code = um_gather_all(team, &own, sizeof own, all);
-    if (team->position == 0 && code == MPI_SUCCESS) {
-        um_decide(team, all, &decided);
-        decided.terms.marks = um_new_marks();
-    }
+    if (team->position == 0 && code == MPI_SUCCESS) um_decide(team, all, um_name_of_copy(team, team->begun), &decided);
     memcpy(verdict + VERDICT, &decided, sizeof decided);
     code = um_spread_verdict(team, code, verdict, sizeof decided);
     memcpy(&decided, verdict + VERDICT, sizeof decided);
@@ -142,7 +98,7 @@ int um_make_on_plane(struct comm *of, int plane, const struct group *group, cons
 int um_release_comm(struct comm *of, MPI_Comm *handle) {
     int code = um_delete_attributes(of);
     if (code != MPI_SUCCESS) return code;
-    bool is_used = has_requests(of->context) || um_has_messages();
+    bool is_used = um_has_requests(of->context) || um_has_messages();
     if (is_used && !um_grow(&um_me->mpi.old_comms, um_me->mpi.old_comm_count, sizeof *um_me->mpi.old_comms)) return MPI_ERR_NO_MEM;
     if (is_used) um_me->mpi.old_comms[um_me->mpi.old_comm_count++] = of;
     um_me->mpi.comms[(uintptr_t)*handle - 1] = 0;

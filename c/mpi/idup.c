@@ -1,56 +1,75 @@
-/* Duplicates that don't block (MPI 4.0, 7.4.2). Each member tells each other one what it wishes, and decides the same. Where the plane was used before,
-   each takes away what is left on it, and tells the others so. Those of one chain are made one after the other, since each takes a plane. */
+/* Duplicates that don't block (MPI 4.0, 7.4.2). Each member tells position 0 what it wishes, in the call that begins one, and position 0 tells all what came
+   of it. Where the plane was used before, each takes away what is left on it, and they meet so once more. As many as wanted may be made at the same time,
+   in another order at each member: their messages have the number that the duplicate has among the collectives of its parent. */
 #include "collective/collective.h"
 #include "mpi/dup.h"
 #include "mpi/graph.h"
-#include "progress/progress.h"
 #include "recovery/recovery.h"
+#include "search/search.h"
 #include <stdlib.h>
+
+/* What position 0 tells. */
+struct told {
+    int code;
+    struct decided decided;
+};
 
 /* A duplicate that is being made. */
 struct copy {
     MPI_Comm *made;
+    uint64_t name;
     unsigned number;       /* of its messages, as of a collective that is started */
-    unsigned turn;         /* how many of the chain go before it */
     int code;              /* of the copy functions of attributes */
     struct comm like;      /* what the program gave the old one, when the call was made */
     struct request *round; /* what it waits for now */
-    bool is_emptied;
-    bool is_looked_at; /* what it does makes progress, and so looks at it once more */
-    struct decided decided;
-    struct wish own, all[MAX_RANKS];
+    int rounds;            /* that were begun: a second one where the plane has to be emptied */
+    bool is_looked_at;     /* what it does makes progress, and so looks at it once more */
+    struct wish all[MAX_RANKS];
+    struct told told;
 };
 
-/* Tells all others so many bytes, and posts what each of them tells. */
-static int begin_round(struct comm *of, struct copy *copy, const void *own, void *all, size_t length) {
+/* Tells position 0 so many bytes, and posts what that one tells of it; there posts what each other one tells. */
+static int begin_round(struct comm *of, struct copy *copy, const void *own, size_t length) {
+    unsigned before = of->repeats; /* progress in a collective that is started leads here too */
     of->repeats = copy->number;
+    copy->rounds++;
     int code = um_start_collective(of, &copy->round);
-    if (code == MPI_SUCCESS && !copy->round->over) {
-        for (int k = 0; k < of->size; k++) um_send_bytes(copy->round, k, own, length);
-        for (int k = 0; k < of->size; k++) um_post_bytes(copy->round, k, (char *)all + length * (size_t)k, length, 0);
+    bool is_open = code == MPI_SUCCESS && !copy->round->over;
+    if (is_open && of->position) {
+        um_send_bytes(copy->round, 0, own, length);
+        um_post_bytes(copy->round, 0, &copy->told, sizeof copy->told, 0);
     }
-    of->repeats = 0;
+    for (int k = 1; is_open && !of->position && k < of->size; k++) um_post_bytes(copy->round, k, &copy->all[k], length, 0);
+    of->repeats = before;
     return code;
 }
 
-/* All have told what they wish. */
-static int agree(struct comm *of, struct copy *copy) {
-    copy->all[of->position] = copy->own;
-    um_decide(of, copy->all, &copy->decided);
-    copy->decided.terms.marks = copy->all[0].marks;
-    if (!copy->decided.terms.marks) return MPI_ERR_NO_MEM;
-    copy->is_emptied = !copy->decided.is_old;
-    if (copy->is_emptied) return MPI_SUCCESS;
-    copy->is_emptied = true;
-    um_drop_messages(of->chain, copy->decided.plane);
-    return begin_round(of, copy, 0, copy->all, 0);
+/* Position 0 tells the others what came of a round, also of one that failed: else they would wait for it. */
+static void tell(struct comm *of, struct copy *copy) {
+    unsigned before = of->repeats;
+    of->repeats = copy->number;
+    for (int k = 1; k < of->size; k++) (void)um_collect_send(of, k, &copy->told, sizeof copy->told);
+    of->repeats = before;
+}
+
+/* What came of a round that is over. */
+static int end_round(struct comm *of, struct copy *copy) {
+    int code = copy->round->code;
+    um_free_request(copy->round);
+    copy->round = 0;
+    if (of->position) return code != MPI_SUCCESS ? code : copy->told.code;
+    if (code == MPI_SUCCESS && copy->rounds == 1) um_decide(of, copy->all, copy->name, &copy->told.decided);
+    if (code == MPI_SUCCESS && !copy->told.decided.terms.marks) code = MPI_ERR_NO_MEM;
+    copy->told.code = code;
+    tell(of, copy);
+    return code;
 }
 
 /* The new one has what the program gave the old one. */
 static int make(struct comm *of, struct copy *copy) {
     struct group group;
     um_group_of(of, &group);
-    int code = um_make_on_plane(of, copy->decided.plane, &group, &copy->decided.terms, copy->made);
+    int code = um_make_on_plane(of, copy->told.decided.plane, &group, &copy->told.decided.terms, copy->made);
     if (code != MPI_SUCCESS) return code;
     struct comm *made = um_comm_at(*copy->made);
     made->cart = copy->like.cart;
@@ -68,49 +87,44 @@ static void forget(struct copy *copy) {
     copy->like = (struct comm){0};
 }
 
-static void end(struct request *request, int code) {
+/* What comes after a round that is over: another one, or the end. */
+static int go_on(struct comm *of, struct copy *copy) {
+    int code = end_round(of, copy);
+    if (code == MPI_SUCCESS && copy->told.decided.is_old && copy->rounds == 1) {
+        um_drop_messages(of->chain, copy->told.decided.plane);
+        return begin_round(of, copy, 0, 0);
+    }
+    return code == MPI_SUCCESS && copy->code == MPI_SUCCESS ? make(of, copy) : code;
+}
+
+static void advance(struct request *request) {
     struct copy *copy = request->more;
-    request->comm->chain->copied++;
+    int code = MPI_SUCCESS;
+    while (code == MPI_SUCCESS && copy->round) {
+        um_look_at(copy->round);
+        if (!copy->round->over) return;
+        code = go_on(request->comm, copy);
+    }
     forget(copy);
     um_end_request(request, code != MPI_SUCCESS ? code : copy->code);
 }
 
-/* What comes after a round that is over. True where that is another one. */
-static bool go_on(struct request *request, int *code) {
-    struct copy *copy = request->more;
-    *code = copy->round->code;
-    um_free_request(copy->round);
-    copy->round = 0;
-    if (*code == MPI_SUCCESS && !copy->is_emptied) *code = agree(request->comm, copy);
-    if (copy->round) return true;
-    if (*code == MPI_SUCCESS && copy->code == MPI_SUCCESS) *code = make(request->comm, copy);
-    return false;
-}
-
-/* Its turn has come. */
-static void advance(struct request *request) {
-    struct copy *copy = request->more;
-    struct comm *of = request->comm;
-    int code = MPI_SUCCESS;
-    if (!copy->round) {
-        um_wish_for(of->chain, &copy->own);
-        if (of->position == 0) copy->own.marks = um_new_marks();
-        code = begin_round(of, copy, &copy->own, copy->all, sizeof copy->own);
-    }
-    while (code == MPI_SUCCESS) {
-        um_look_at(copy->round);
-        if (!copy->round->over) return;
-        if (!go_on(request, &code)) break;
-    }
-    end(request, code);
-}
-
 static void look_at_copy(struct request *request) {
     struct copy *copy = request->more;
-    if (request->over || copy->is_looked_at || copy->turn != request->comm->chain->copied) return;
+    if (request->over || copy->is_looked_at) return;
     copy->is_looked_at = true;
     advance(request);
     copy->is_looked_at = false;
+}
+
+/* Whether a duplicate of this name is being made here; 0: of any. */
+bool um_is_copying(uint64_t name) {
+    for (int k = 0; k < um_me->mpi.request_count; k++) {
+        const struct request *request = um_me->mpi.requests[k];
+        const struct copy *copy = request && request->look == look_at_copy && !request->over ? request->more : 0;
+        if (copy && (!name || copy->name == name)) return true;
+    }
+    return false;
 }
 
 /* What a request has of a duplicate that isn't over goes with it. */
@@ -124,28 +138,27 @@ uint32_t um_missing_from_copy(const struct request *request) {
     return request->look == look_at_copy && !request->over && copy->round ? um_awaited_by(copy->round) : 0;
 }
 
-static bool are_copied(void *of, bool is_settled) {
-    const struct chain *chain = of;
-    (void)is_settled;
-    um_look_at_recoveries();
-    return chain->copies == chain->copied;
-}
-
-/* A communicator that is made by a call that blocks has its turn behind them. */
-void um_wait_for_copies(struct chain *chain) {
-    if (chain->copies != chain->copied) um_wait_until(are_copied, chain, false);
+/* Says what this rank wishes, and what the program gave the old one. */
+static void begin(struct comm *of, struct request *request, MPI_Comm *made) {
+    struct copy *copy = request->more;
+    *copy = (struct copy){.made = made, .number = ++of->begun, .is_looked_at = true, .like.handler = of->handler};
+    copy->name = um_name_of_copy(of, copy->number);
+    um_wish_for(of->chain, &copy->all[of->position]);
+    copy->like.cart = um_copy_cart(of->cart);
+    copy->code = um_copy_graph(of, &copy->like);
+    if (copy->code == MPI_SUCCESS) copy->code = um_copy_attributes(of, &copy->like);
+    *made = MPI_COMM_NULL;
+    if (um_footprints && of->size > 1) um_note_copy();
+    int code = begin_round(of, copy, &copy->all[of->position], sizeof *copy->all);
+    copy->is_looked_at = false;
+    if (code != MPI_SUCCESS) um_end_request(request, code);
 }
 
 static int idup(struct comm *of, MPI_Comm *made, MPI_Request *handle) {
     struct request *request;
     int code = um_new_recovery(of, look_at_copy, sizeof(struct copy), &request);
     if (code != MPI_SUCCESS) return um_give_recovery(of, um_refuse_collective(of, code), 0, handle);
-    struct copy *copy = request->more;
-    *copy = (struct copy){.made = made, .number = ++of->begun, .turn = of->chain->copies++, .like.handler = of->handler};
-    copy->like.cart = um_copy_cart(of->cart);
-    copy->code = um_copy_graph(of, &copy->like);
-    if (copy->code == MPI_SUCCESS) copy->code = um_copy_attributes(of, &copy->like);
-    *made = MPI_COMM_NULL;
+    begin(of, request, made);
     return um_give_recovery(of, MPI_SUCCESS, request, handle);
 }
 

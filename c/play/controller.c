@@ -33,10 +33,10 @@ void um_look_in_passing(struct request *request) {
     if (!was_in_wait && um_footprints) um_keep_silent(um_me->number);
 }
 
-/* Looks at what is open, where something came since the last time. */
+/* Looks at what is open, where something came since the last time. A duplicate that is made sends as soon as it can: that nothing came counts there. */
 void um_look_as_played(void) {
     const struct player *own = &um_players[um_me->number];
-    if (own->taken != own->taken_before) um_look_in_passing(0);
+    if (own->taken != own->taken_before || um_is_copying(0)) um_look_in_passing(0);
 }
 
 /* The rank waits until something comes, or a mark changes. */

@@ -26,11 +26,10 @@ enum {
 
 /* The contexts of one group that were made by duplication: the first one, its duplicate (for collectives), that one's, and so on. */
 struct chain {
-    uint32_t hidden;         /* the first duplicate, NO_CONTEXT_LEFT where there is none */
-    int made;                /* how many contexts it has: made ahead, since one that is revoked can't be duplicated */
-    int planes;              /* how many of them a program has had */
-    int users;               /* the communicators here that point to it */
-    unsigned copies, copied; /* the duplicates that don't block: how many began, and how many are over */
+    uint32_t hidden; /* the first duplicate, NO_CONTEXT_LEFT where there is none */
+    int made;        /* how many contexts it has: made ahead, since one that is revoked can't be duplicated */
+    int planes;      /* how many of them a program has had */
+    int users;       /* the communicators here that point to it */
     struct {
         uint32_t context;
         bool is_free;   /* the program freed its communicator */

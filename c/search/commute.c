@@ -1,5 +1,6 @@
 /* Which events commute: neither changes what the other one sees or does, nor whether it can be. Events of different ranks do, but for two decisions of
-   one shrink or agreement that differ, and the match of a send that waits with its sender's looks at that. */
+   one shrink or agreement that differ, two of planes for one rank, and the match of a send that waits with its sender's looks at that. */
+#include "collective/collective.h"
 #include "search/search.h"
 
 enum {
@@ -13,6 +14,7 @@ enum { OF_ANYBODY = -3, OF_NOBODY = -2, BEFORE = -2 };
 static struct learnt {
     int use[MAX_RANKS][CONTEXTS], tag[MAX_RANKS][CONTEXTS];
     bool polls_in_passing; /* shrinks and agreements whose requests are looked at */
+    bool copies, is_new;   /* duplicates that don't block; that isn't known yet */
 } * learnt;
 
 bool um_begin_commute(void) { return (learnt = um_shared_memory(sizeof *learnt)) != 0; }
@@ -128,6 +130,13 @@ static bool is_after_message(const struct footprint *a, int at, const struct foo
     return learnt->use[a->rank][a->comm] == MANY_ANY && uses_messages(b);
 }
 
+/* What a duplicate that doesn't block waits for at a rank, which then sends, and another item, by which the rank goes on or sends something else. */
+static bool are_of_copy(const struct footprint *a, const struct footprint *b) {
+    bool is_same = is_message(a) && is_message(b) && a->comm == b->comm && a->tag == b->tag;
+    if (!learnt->copies || is_same || a->kind != TAKES || b->kind != TAKES) return false;
+    return (is_message(a) && um_is_of_single(a->comm, a->tag)) || (is_message(b) && um_is_of_single(b->comm, b->tag));
+}
+
 static bool are_entry_and_poll(const struct footprint *a, const struct footprint *b) {
     return a->topic == b->topic && ((is_entry(a) && is_poll(b)) || (is_entry(b) && is_poll(a)));
 }
@@ -140,18 +149,19 @@ static bool are_match_and_look(const struct footprint *a, const struct footprint
 }
 
 /* Whether an event may not commute with one of another rank. */
-bool um_is_across(const struct footprint *e) { return is_poll(e) || e->matches || e->kind == LOOKS_AT_SEND || e->sends; }
+bool um_is_across(const struct footprint *e) { return is_poll(e) || e->matches || e->kind == LOOKS_AT_SEND || e->sends || e->gives; }
 
 /* Whether a, of the number `at`, and a later event of another process don't commute. */
 bool um_is_dependent(const struct footprint *a, int at, const struct footprint *b) {
     bool have_found = a->flags & b->flags & FOUND;
     if (a->kind == LOSES || b->kind == LOSES) return false; /* these are no races: see keep_nodes */
     if ((a->matches | b->matches) && are_match_and_look(a, b)) return true;
+    if (a->gives & b->gives) return true;
     if (a->rank != b->rank) return is_poll(a) && is_poll(b) && a->topic == b->topic && have_found && a->proposal != b->proposal;
     if (is_silent_before(a, b) || (a->flags & UNWAITED && is_message(b) && b->flags & WAITED_FOR)) return true;
     if (a->comm == b->comm && is_revoker(a) && is_revoker(b) && (is_revocation(a) || is_revocation(b))) return (a->flags | b->flags) & REVOKED_FIRST;
     return is_before_revocation(a, b) || is_after_revocation(a, at, b) || is_before_failure(a, b) || is_after_failure(a, at, b) ||
-           is_before_message(a, b) || is_after_message(a, at, b) || are_entry_and_poll(a, b);
+           is_before_message(a, b) || is_after_message(a, at, b) || are_entry_and_poll(a, b) || are_of_copy(a, b);
 }
 
 /* Whether both are of one ring: an item is taken, and what is behind is lost. */
@@ -177,10 +187,16 @@ static bool differs(const struct footprint *e, const struct footprint *other, in
     return is_same && (!(other->flags & OF_ANY) || other->tag != tag || other->kind == PROBES);
 }
 
+/* A duplicate that doesn't block is begun. */
+void um_note_copy(void) {
+    if (!learnt->copies) learnt->copies = learnt->is_new = true;
+}
+
 /* Learns which receives name no source, and whether polls are made in passing, from the events that were run. Whether it learnt something: then the search
    begins anew. */
 bool um_learn(int count) {
-    bool has_learnt = false;
+    bool has_learnt = learnt->is_new;
+    learnt->is_new = false;
     for (int j = 0; j < count; j++) {
         const struct footprint *e = &um_footprints[j];
         if (is_poll(e) && !e->waits && !learnt->polls_in_passing) learnt->polls_in_passing = has_learnt = true;

@@ -49,6 +49,7 @@ struct footprint {
     bool waits;                    /* a look in a wait */
     bool is_over_anyway;           /* .. which a revocation had ended too */
     uint8_t matches, sends;        /* bits of ranks: whose sends that wait it matched; to whom such sends were looked at in vain */
+    uint8_t gives;                 /* bits of ranks: to whom it gave a plane (mpi/plane.c) */
     int16_t pushed, by, found;     /* the events that pushed its item, that ended its request, by which the message came that its probe found */
     int16_t after;                 /* the event that ended the wait before it, where no look did */
     int32_t tag, made_in;          /* made_in: the number of the call of MPI */
@@ -129,6 +130,7 @@ void um_keep_silent(int rank);
 int16_t um_end_of_wait(int rank);
 void um_note_unwaited(void);
 void um_note_match(struct parcel *parcel);
+void um_note_given(uint32_t members);
 void um_end_sent(int to, uint32_t code, int at);
 
 /* ends.c */
@@ -146,6 +148,7 @@ bool um_is_needed(const struct footprint *a, const struct footprint *b);
 int um_family(int comm);
 bool um_is_across(const struct footprint *e);
 bool um_learn(int count);
+void um_note_copy(void);
 bool um_begin_commute(void);
 
 #endif

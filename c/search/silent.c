@@ -70,6 +70,11 @@ void um_note_match(struct parcel *parcel) {
     present()->matches |= (uint8_t)(1u << parcel->from);
 }
 
+/* The rank gave others a plane: which one, depends on what these were given before. */
+void um_note_given(uint32_t members) {
+    if (present()->rank == um_me->number) present()->gives |= (uint8_t)members;
+}
+
 /* The sender looked at such a send to a rank; `at`: the event in which it was matched. */
 void um_end_sent(int to, uint32_t code, int at) {
     struct footprint *own = present();
