@@ -126,20 +126,29 @@ fn explain_text<'a>(
 /// The text of the file from which one is written out: it, or else one of all ranks or of any that says the same of a rank.
 fn source_of<'a>(filed: &'a [Value], text: &'a Value) -> Option<&'a str> {
     let text = text.as_str()?;
-    let mut source = text;
+    if filed.iter().any(|row| has_text(row, text)) {
+        return Some(text);
+    }
+    Some(over_ranks(filed, text).unwrap_or(text))
+}
+
+/// Whether a row has this text.
+fn has_text(row: &Value, text: &str) -> bool {
+    let texts = texts_of(row).unwrap_or(&[]);
+    texts.iter().any(|own| own.as_str() == Some(text))
+}
+
+/// The first text over ranks that says of a rank what this one says.
+fn over_ranks<'a>(filed: &'a [Value], text: &str) -> Option<&'a str> {
+    let (_, said) = text.split_once('.')?;
     for row in filed {
         for own in texts_of(row).unwrap_or(&[]) {
-            if own.as_str() == Some(text) {
-                return Some(text);
-            }
-            if let (Some(said), Some(own)) = (said_over_ranks(own), own.as_str()) {
-                if text.split_once('.').map(|parts| parts.1) == Some(said) {
-                    source = own;
-                }
+            if said_over_ranks(own) == Some(said) {
+                return own.as_str();
             }
         }
     }
-    Some(source)
+    None
 }
 
 /// What a text over ranks says of each.
