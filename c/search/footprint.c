@@ -202,8 +202,10 @@ void um_end_post(uint32_t source, uint64_t id, uint32_t code) {
             made.by = waiting[rank][at].came;
             um_footprints[made.by].ended = (uint32_t)id + 1;
             remove_waiting(rank, at);
-        } else if (from != ANYBODY && failed_at[rank][from])
-            um_footprints[failed_at[rank][from] - 1].ended_on |= 1ull << um_family(made.comm); /* it ended this one beforehand */
+        } else if (from != ANYBODY && failed_at[rank][from]) {
+            made.by = (int16_t)(failed_at[rank][from] - 1); /* it ended this one beforehand */
+            um_footprints[made.by].ended_on |= 1ull << um_family(made.comm);
+        }
         made.is_open = false;
     }
     if (um_grow(&receives[rank], receive_count[rank], sizeof made)) receives[rank][receive_count[rank]++] = made;

@@ -63,6 +63,7 @@ RUNS = [
     ("crossed", 3, "", "failure", 137, r"\Afaults: 0\n\Z", ""),
     ("crossed", 3, "--every-stop --seed 4 --jobs 1", "stops", 0, r"\nbuffered sends: (\d+) of \1 places right\n", r"\A\Z"),
     ("crossed", 2, "--every-schedule --stops 0 --checks 200 --jobs 1", "parents", 0, r"\A.*\n.*\n1 of 1 places right in each schedule; all schedules at 1 of them, .*\n\Z", r"\A\Z"),
+    ("crossed", 2, "--every-schedule --stops 0 --stop 0@5 --no-loss --checks 400 --jobs 1", "stops", 0, r"\A.*\n.*\n1 of 1 places right in each schedule; all schedules at 1 of them, .*\n\Z", r"\A\Z"),
     ("own", 8, "", "x -vab -s3 one --size=4 --verb two", 0, r"\A(v\(\) a\(\) b\(\) s\(3\) s\(4\) v\(\) \[x\] \[one\] \[two\] 3 3 5 896784309 0\.266444\n){8}\Z", ""),
     ("handler", 4, "--stop 2@4", "", 0, r"\A3 ranks, class 101\n\Z", ""),
     ("handler", 4, "--stop 2@MPI_Allreduce:3", "", 0, r"\A3 ranks, class 10[13]\n\Z", ""),
