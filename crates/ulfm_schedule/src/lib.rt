@@ -19,7 +19,7 @@
 //! - `schedule.rt`, `moved.rt`, `cargo.rt`, `parcel.rt`, `course.rt`: a schedule and its parts; `numbers.rt`: its messages by number
 //! - `replaying.rt`, `under_way.rt`, `given_up.rt`: the schedule of a replay
 //! - `need.rt`, `awaiting.rt`: what a step waits for, and of whom; `bearing.rt`, `bearer.rt`: who would bring it
-//! - `wait.rt`, `missed.rt`, `held.rt`, `remark.rt`: an open step as it is told; `wording.rt`: its words
+//! - `wait.rt`, `missed.rt`, `held.rt`, `remark.rt`: an open step as it is told; `wait_words.rt`: its words
 //!
 //! Not here: the moves of a world's events (`ulfm_replay`). No contract says anything of the numbers of messages, of what moves send, nor of
 //! [`replayed`]. Pictures, which show them, are held byte for byte by `tools/gate/check-pictures`.
@@ -42,7 +42,7 @@ mod replaying;
 mod schedule;
 mod under_way;
 mod wait;
-mod wording;
+mod wait_words;
 
 pub use awaiting::{awaited, position_by};
 pub use bearer::{Bearer, Fate};
@@ -57,4 +57,4 @@ pub use remark::Remark;
 pub use replaying::replayed;
 pub use schedule::{Schedule, push_schedule};
 pub use wait::Wait;
-pub use wording::{push_bringing, push_named, push_needed, push_wait};
+pub use wait_words::{push_bringing, push_named, push_needed, push_wait};
