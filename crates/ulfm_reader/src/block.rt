@@ -4,8 +4,9 @@ ghost use Rattle.std.specs.Option.{option_copied};
 ghost use Rattle.toml.specs.View.{table_view, view};
 ghost use Rattle.ulfm_reader.specs.Blocks.{block_in, block_of, block_view, goal_in, keys_of, leads_on, leads_to, times_in, times_of};
 
+use crate::fields::value_at;
 use crate::iteration::is_text;
-use crate::members::{list_at, text_at, text_in, value_at};
+use crate::members::{list_at, text_at, text_in};
 use toml::{Table, Value};
 
 /// The most iterations of a block.

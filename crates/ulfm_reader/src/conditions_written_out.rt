@@ -4,8 +4,9 @@ ghost use Rattle.toml.specs.View.{table_view, view};
 ghost use Rattle.ulfm_reader.specs.Iterations.{refer_condition, refer_if, referred_all, referred_condition, referred_if, referred_table};
 ghost use Rattle.ulfm_reader.specs.Members.{list_at};
 
+use crate::fields::value_at;
 use crate::iteration::refer;
-use crate::members::{list_at, put_if_some, value_at};
+use crate::members::{list_at, put_if_some};
 use std::alloc::{AllocError, Global};
 use toml::{Table, Value};
 

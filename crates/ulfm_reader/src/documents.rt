@@ -4,8 +4,9 @@ ghost use Rattle.toml.specs.View.{table_view, view};
 ghost use Rattle.ulfm_reader.specs.Documents.{lines_in, ranks_in, ranks_or_eight, rows_in, with_lines, with_rows, written_job};
 ghost use Rattle.ulfm_reader.specs.Lines.{line_view};
 
+use crate::fields::value_at;
 use crate::line::{Line, steps_of};
-use crate::members::{list_at, put, value_at};
+use crate::members::{list_at, put};
 use crate::rows_written_out::rows_out;
 use crate::steps_written_out::written_out;
 use crate::unwritten::Unwritten;

@@ -10,9 +10,10 @@ ghost use Rattle.ulfm_reader.specs.Line.{line_view};
 ghost use Rattle.ulfm_reader.specs.Ranks.{rank_of};
 
 use crate::answers::{fine_answers_at, has_own};
+use crate::fields::value_at;
 use crate::iteration::{is_rank, is_text};
 use crate::line::Line;
-use crate::members::{put, text_at, text_in, value_at};
+use crate::members::{put, text_at, text_in};
 use crate::ranks::rank_of;
 use crate::together::asks_with;
 use std::alloc::{AllocError, Global};

@@ -1,10 +1,10 @@
 //! The keys of a table, with other values.
 ghost use Rattle.std.specs.Prelude.{◌≡◌, map, option_map, OnOk};
 ghost use Rattle.std.specs.Option.{option_copied};
-ghost use Rattle.toml.specs.Data.{get_member};
 ghost use Rattle.toml.specs.View.{view, table_view};
 ghost use Rattle.ulfm_reader.specs.Members.{list_at, list_in, put, put_if_some, text_at, text_in};
 
+use crate::fields::value_at;
 use std::alloc::{AllocError, Global};
 use toml::{Table, Value};
 
@@ -30,13 +30,6 @@ pub fn put_if_some(
         Some(value) => put(alloc, table, key, value),
         None => Ok(()),
     }
-}
-
-/// The value at a key.
-pub fn value_at<'a>(table: &'a Table, key: &str) -> Option<&'a Value>
-    ensures { option_map (λ v. view v.now) result ≡ get_member key.now (table_view table.now) }
-{
-    table.get(key)
 }
 
 /// The list that an array is.

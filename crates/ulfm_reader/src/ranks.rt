@@ -6,7 +6,8 @@ ghost use Rattle.toml.specs.View.{view, table_view};
 ghost use Rattle.ulfm_reader.specs.Members.{in_table};
 ghost use Rattle.ulfm_reader.specs.Ranks.{for_rank, further, further_at, natural, neighbour, numbers, placed, rank_of, several, shared_by, with_neighbour};
 
-use crate::members::{put, value_at};
+use crate::fields::value_at;
+use crate::members::put;
 use std::alloc::{AllocError, Global};
 use toml::{Table, Value};
 

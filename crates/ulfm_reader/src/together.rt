@@ -4,7 +4,8 @@ ghost use Rattle.toml.specs.View.{table_view, view};
 ghost use Rattle.ulfm_reader.specs.Members.{list_at};
 ghost use Rattle.ulfm_reader.specs.Together.{all_with, alternative_with, asks_with, condition_with, conditions_with, joined, together};
 
-use crate::members::{list_at, put, put_if_some, value_at};
+use crate::fields::value_at;
+use crate::members::{list_at, put, put_if_some};
 use std::alloc::{AllocError, Global};
 use toml::{Table, Value};
 
