@@ -169,14 +169,15 @@ impl<'a> Picture<'a> {
 
 /// A step of a rank in plain words. A bare number looks like that of a rank, so what it is stands before it.
 fn plain_call(alloc: Global, rank: u8, step: &Step) -> Result<String, AllocError> {
+    let op = step.op().name();
     match step {
-        Step::Wait { req } => format!(in alloc; "wait for {rank}.{req}"),
-        Step::Mrecv { req, .. } => format!(in alloc; "mrecv of {rank}.{req}"),
-        Step::Cancel { req } => format!(in alloc; "cancel {rank}.{req}"),
-        Step::Ack { count, comm } => { format!(in alloc; "ack count {count} comm {}", comm.number) }
-        Step::Agree { flag, comm } => {
-            format!(in alloc; "agree flag {flag} comm {}", comm.number)
+        Step::Wait { req } => format!(in alloc; "{op} for {rank}.{req}"),
+        Step::Mrecv { req, .. } => format!(in alloc; "{op} of {rank}.{req}"),
+        Step::Cancel { req } => format!(in alloc; "{op} {rank}.{req}"),
+        Step::Ack { count, comm } => {
+            format!(in alloc; "{op} count {count} comm {}", comm.number)
         }
+        Step::Agree { flag, comm } => { format!(in alloc; "{op} flag {flag} comm {}", comm.number) }
         _ => format!(in alloc; "{step}"),
     }
 }

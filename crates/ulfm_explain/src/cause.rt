@@ -225,11 +225,16 @@ impl Cause {
                 Part::Op(*op),
                 Part::Beginnings(*op, *key),
             ),
-            Cause::OfWait(key, words) => Line::Three(
-                "key '{}' has '{}', and no answer of 'recv' begins so, but one of its 'wait': ask that step; the answers of 'recv' begin with {}",
-                Part::Key(*key),
-                Part::Text(words.as_str()),
-                Part::Beginnings(Op::Recv, *key),
+            Cause::OfWait(key, words) => Line::Six(
+                "key '{}' has '{}', and no answer of '{}' begins so, but one of its '{}': ask that step; the answers of '{}' begin with {}",
+                [
+                    Part::Key(*key),
+                    Part::Text(words.as_str()),
+                    Part::Op(Op::Recv),
+                    Part::Op(Op::Wait),
+                    Part::Op(Op::Recv),
+                    Part::Beginnings(Op::Recv, *key),
+                ],
             ),
             Cause::NoRow(fault) => fault.line(),
             Cause::Rows(count) => Line::Two(
