@@ -30,7 +30,10 @@ PARTS = re.compile(r"\n\s*\n|\n(?= *(?:[-*]|\d+\.) )|\|")
 BULLET = re.compile(r"^([-*]|\d+\.)\s+")
 # A comment of C, or of a function in Python, and one that is refused.
 LEANING = re.compile(r"(?:/\* |\"\"\")(The same\b.*)")
+# A comment of Rattle. A copy may be the same value once more.
+LEANING_IN_RATTLE = re.compile(r"^ *//[/!] (The same(?:,| (?:as|at|by|for|if|in|of|on|to|where|with)\b).*)", re.MULTILINE)
 LEANS = "The same of texts."
+COPIES = "The same job once more."
 END = re.compile(r"(?<=[.:;?!])\s+(?=[A-Z`])")
 
 
@@ -52,3 +55,8 @@ def refused(page):
 def leaning(code):
     """The comments of a file of C or Python that can't be read alone."""
     return LEANING.findall(code)
+
+
+def leaning_in_rattle(code):
+    """The comments of a file of Rattle that can't be read alone."""
+    return LEANING_IN_RATTLE.findall(code)

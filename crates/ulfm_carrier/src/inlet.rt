@@ -48,7 +48,7 @@ impl Inlet {
         !self.ring.is_empty()
     }
 
-    /// The same of a ring whose other end is this one: all that was pushed was taken, or is found.
+    /// Whether an item is found in a ring whose other end is this one: all that was pushed was taken, or is found.
     pub(crate) fn has_item_beside(&mut self, out: &mut Producer<Carried>) -> bool
         requires pair { IsPair out.old self.old.ring }
         requires live { self.old.gathered ≡ None }

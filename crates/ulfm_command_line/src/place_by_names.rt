@@ -30,14 +30,14 @@ pub fn settled_place(
     }
 }
 
-/// The same by what was read.
+/// The place that a text comes to in a job that was read, or the reply that it comes to none.
 fn settled(alloc: Global, text: &str, read: Reading) -> Result<Result<Place, Reply>, AllocError>
     ensures { (bytes : List ℕ) → reading_of_bytes bytes ≡ Ok (reading_as (asked_view read)) → IfOk result (IsSettled text.now bytes) }
 {
     settled_by(alloc, text, read.names.as_slice())
 }
 
-/// The same by the names of steps.
+/// The place that a text comes to by the names of steps, or the reply that it comes to none.
 fn settled_by(alloc: Global, text: &str, names: &[Name]) -> Result<Result<Place, Reply>, AllocError>
     ensures { (bytes : List ℕ) (read : Asked) → reading_of_bytes bytes ≡ Ok (reading_as read) → read.names ≡ names.now → IfOk result (IsSettled text.now bytes) }
 {
@@ -60,7 +60,7 @@ fn unnamed(alloc: Global, text: &str) -> Result<Reply, AllocError>
 }
 
 impl Wanted {
-    /// The same with the stops of a place.
+    /// What is wanted, with the stops of a place.
     pub fn at(self, place: Place) -> Wanted
         ensures exact { result ≡ wanted_at place self }
         ensures ranges { HasRanges self → HasRanges result }

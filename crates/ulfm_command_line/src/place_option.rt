@@ -17,7 +17,7 @@ pub(crate) fn place_in(options: &ArgMatches<'_>) -> Option<Place>
     place_given(value_of(options, "stop"))
 }
 
-/// The same by the text of the option.
+/// Where the text of `--stop` stops ranks by the numbers of steps: nowhere if it is left out. Nothing where it can't be a place.
 fn place_given(text: Option<&str>) -> Option<Place>
     ensures { result ≡ place_given (option_map (λ s. s.now) text.entry) }
 {

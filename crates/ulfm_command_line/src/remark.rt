@@ -39,7 +39,7 @@ pub enum Remark {
     Mistaken(StepTold, &'static str, Vec<Place>),
     /// What a step expects only before the steps of this name holds at no place that was looked at.
     UnheldStep(StepTold, Label),
-    /// The same of the row of `never` of this number.
+    /// What the row of `never` of this number has only before the steps of this name holds at no place that was looked at.
     UnheldRow(usize, Label),
 }
 
@@ -67,7 +67,7 @@ impl StepTold {
         })
     }
 
-    /// The same step by the number that it has in the file.
+    /// This step by the number that it has in the file.
     pub fn numbered(self, at: usize) -> StepTold {
         StepTold {
             at,

@@ -16,7 +16,7 @@ pub(crate) fn tipped(alloc: Global, text: &str) -> Result<String, AllocError> {
     }
 }
 
-/// The same, by what stands before the name in the tip, and what stands from it on.
+/// What is said without the tip, by what stands before the name in it, and what stands from it on.
 fn without_tip(alloc: Global, text: &str, before: &str, rest: &str) -> Result<String, AllocError> {
     match rest.split_once('\n') {
         Some((tip, behind)) if !tip.ends_with(OF_FILE) => {

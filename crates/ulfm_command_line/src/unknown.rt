@@ -26,7 +26,7 @@ fn no_place_text(alloc: Global, place: Place) -> Result<String, AllocError>
     format!(in alloc; "{NO_PLACE}{place}\n")
 }
 
-/// The same as an object.
+/// The object for a place that a job hasn't.
 fn no_place_json(alloc: Global, place: Place) -> Result<String, AllocError>
     ensures { IfOk result (λ text. string_bytes text ≡ no_place_json place) }
 {
@@ -50,7 +50,7 @@ fn unnamed_text(alloc: Global, text: &str) -> Result<String, AllocError>
     format!(in alloc; "place refused: {text}\n")
 }
 
-/// The same as an object.
+/// The object for a text that names no place of a job.
 fn unnamed_json(alloc: Global, text: &str) -> Result<String, AllocError>
     ensures { IfOk result (λ line. string_bytes line ≡ unnamed_json text.now) }
 {

@@ -88,7 +88,7 @@ impl<'a> Findings<'a> {
         }
     }
 
-    /// The same where there is a step.
+    /// The place in the file of a step, if there is a step.
     fn filed_if_some(&self, step: Option<usize>) -> Option<usize> {
         match step {
             Some(number) => Some(self.filed_number(number)),

@@ -182,7 +182,7 @@ pub fn list_at<'a>(table: &'a Table, key: &str) -> Option<&'a [Value]> {
     Some(values.as_slice())
 }
 
-/// The same of a value, if it is a table.
+/// The list at a key of a value, if it is a table that has one.
 pub fn list_in<'a>(value: &'a Value, key: &str) -> Option<&'a [Value]> {
     list_at(value.as_table()?, key)
 }

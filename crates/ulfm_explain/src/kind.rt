@@ -8,13 +8,13 @@ use ulfm_job::limits::{MOST_LABEL, MOST_NAME};
 pub enum Kind {
     /// An integer from the first to the second.
     Integer(i64, i64),
-    /// The same, and where the key is left out, any.
+    /// An integer from the first to the second; if the key is left out, any.
     OrAny(i64, i64),
     /// An integer from the first to the second, a list of them, or a text that stands for all.
     Ranks(i64, i64),
     /// An integer from the first to the second, or a text that names a rank by the rank of the step.
     Peer(i64, i64),
-    /// The same, and where the key is left out, any.
+    /// An integer from the first to the second, or a text that names a rank by the rank of the step; if the key is left out, any.
     PeerOrAny(i64, i64),
     /// A text.
     Text,
@@ -32,7 +32,7 @@ pub enum Kind {
     Together,
     /// An array of 1 to 16 texts.
     Words,
-    /// The same, or a table with one and with a name.
+    /// An array of 1 to 16 texts, or a table with such an array and with a name.
     Expected,
     /// A text that is the name of a step.
     Called,

@@ -29,7 +29,7 @@ const OF_OPS: &[(&str, Op)] = &[
     ("print", Op::Note),
 ];
 
-/// The same of keys.
+/// A word of MPI, of ULFM or of programs that use them, and the key that a job has for it.
 const OF_KEYS: &[(&str, Key)] = &[
     ("dest", Key::To),
     ("destination", Key::To),

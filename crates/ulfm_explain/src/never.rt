@@ -92,7 +92,7 @@ enum Wrong {
 }
 
 impl Wrong {
-    /// The same of a text that is shown so.
+    /// Why a text of a row, which is shown so, names no answer.
     fn cause(self, shown: Shown) -> Cause {
         match self {
             Wrong::NoPlace => Cause::NoPlace(shown),

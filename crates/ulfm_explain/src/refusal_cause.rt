@@ -21,7 +21,7 @@ pub enum Doom {
     Revoked(i64, usize),
     /// A communicator of which none can be made any more, by this op.
     NoContext(i64, Op),
-    /// The same op on the same communicator as the earlier step of this number.
+    /// An op on a communicator on which the earlier step of this number has it already.
     Again(i64, Op, usize),
     /// A `req` that names a step that its rank doesn't have.
     NoSuchStep(i64),

@@ -80,7 +80,7 @@ fn reason_at(
     }
 }
 
-/// The same where the job has the rank.
+/// Why a rank of the job has no such step, where it hasn't.
 fn unnamed_at(
     alloc: Global,
     asked: &Reading,

@@ -25,7 +25,7 @@ pub fn places(alloc: Global, job: &Job, stops: u8) -> Result<Vec<Place>, OutOfMe
     all_places(alloc, job, stops)
 }
 
-/// The same, by what it makes them of.
+/// All places of a job with at most so many stops, by the definition that makes them.
 fn all_places(alloc: Global, job: &Job, stops: u8) -> Result<Vec<Place>, OutOfMemory>
     ensures { IfOk result (λ places. places.items ≡ places_of stops job.now) }
 {

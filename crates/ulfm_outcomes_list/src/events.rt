@@ -81,7 +81,7 @@ pub(crate) fn push_step_head(
     push_head(text, names, r, k, asked.job.step(r, k))
 }
 
-/// The same with an answer, but for the end of the object.
+/// Begins the object of the step `k` of the rank `r` with its answer, but for the end of the object.
 pub(crate) fn push_step_answered(
     text: &mut String,
     asked: &Reading,

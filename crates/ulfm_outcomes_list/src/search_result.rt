@@ -139,7 +139,7 @@ fn push_unmet_words(text: &mut String, at: Option<Place>, unmet: Unmet) -> Resul
     push_at_words(text, at)
 }
 
-/// The same as the first key of an object.
+/// That a step isn't answered as it expects, as the first key of an object.
 fn push_unmet_json(text: &mut String, unmet: Unmet) -> Result<(), AllocError>
     ensures { OnOk result (string_bytes text.new ≡ string_bytes text.old ++ unmet_json unmet) }
 {

@@ -73,7 +73,7 @@ where
     }
 }
 
-/// The same where it has the steps that are named.
+/// The reply to what was asked for, where the job has the steps that are named.
 fn listed_reply<R, F, L>(
     rt: &R,
     search: &Search<'_, F>,

@@ -81,7 +81,7 @@ pub(crate) fn judgement_alone<F>(
     Ok(Judgement::good(hangs, asks(asked)))
 }
 
-/// The same of the lists of places.
+/// What the lists of places come to below which nothing is told.
 pub(crate) fn judgement_of_all<F>(
     search: &Search<'_, F>,
     asked: &Reading,
@@ -127,7 +127,7 @@ fn hangs_at<F>(
     Ok(some_hangs(is_strict, asked, stops.as_slice(), steps, place, found))
 }
 
-/// The same where these stops are.
+/// Whether some of these steps of the file hangs where these stops are.
 fn some_hangs(
     is_strict: bool,
     asked: &Reading,

@@ -86,7 +86,7 @@ fn named_reply<F: Finder, W: Watch>(
     }
 }
 
-/// The same where it has the steps that are named.
+/// The reply to what was asked for, where the job has the steps that are named.
 fn explored_reply<F: Finder, W: Watch>(
     search: &Search<'_, F>,
     asked: &Reading,
@@ -143,7 +143,7 @@ fn judged<F: Finder, W: Watch>(
     }
 }
 
-/// The same where nothing is drawn.
+/// A whole list, and below it what its job doesn't want, where nothing is drawn.
 fn undrawn<F: Finder, W: Watch>(
     search: &Search<'_, F>,
     asked: &Reading,

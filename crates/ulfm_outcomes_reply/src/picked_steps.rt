@@ -206,7 +206,7 @@ fn are_called(parts: &[&str], texts: &[String]) -> bool
     some_called(parts, texts)
 }
 
-/// The same, part by part.
+/// Whether one of these parts is one of the texts.
 fn some_called(parts: &[&str], texts: &[String]) -> bool
     ensures { result ≡ list_any (λ part. is_called (map string_bytes texts.now) part.now) parts.now }
 {
@@ -220,7 +220,7 @@ fn is_called(texts: &[String], part: &str) -> bool
     has_text(texts, part)
 }
 
-/// The same, text by text.
+/// Whether one of these texts is a part.
 fn has_text(texts: &[String], part: &str) -> bool
     ensures { result ≡ list_any (λ text. is_part part.now (string_bytes text)) texts.now }
 {
@@ -241,7 +241,7 @@ fn first_unknown<'a>(parts: &[&'a str], texts: &[String]) -> Option<&'a str>
     first_without(parts, texts)
 }
 
-/// The same, part by part.
+/// The first of these parts that no text is.
 fn first_without<'a>(parts: &[&'a str], texts: &[String]) -> Option<&'a str>
     ensures { option_map (λ p. p.now) result ≡ option_map (λ p. p.now) (find (λ part. not (is_called (map string_bytes texts.now) part.now)) parts.now) }
 {

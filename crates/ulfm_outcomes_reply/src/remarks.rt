@@ -50,7 +50,7 @@ pub fn remarks_on(
     }
 }
 
-/// The same of a schedule.
+/// What is told of a schedule: which of its answers aren't as their steps expect, and which rows it has whole.
 fn found_in(
     alloc: Global,
     asked: &Reading,

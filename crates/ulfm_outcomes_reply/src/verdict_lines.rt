@@ -40,7 +40,7 @@ pub(crate) fn list_remarks<F: Finder, W: Watch>(
     Some(remarks)
 }
 
-/// The same of the lists of places.
+/// What is told of the lists of places below which nothing stands, as `list_remarks` tells it of one list.
 pub(crate) fn lists_remarks<F: Finder, L: Onlooker>(
     search: &Search<'_, F>,
     asked: &Reading,

@@ -52,7 +52,7 @@ fn fine_answers(alloc: Global, line: &Line) -> Result<Vec<Value>, AllocError>
     Ok(found)
 }
 
-/// The same of the line with this number.
+/// The answers with which the line of this number leads nowhere.
 pub fn fine_answers_at(alloc: Global, lines: &[Line], at: u16) -> Result<Vec<Value>, AllocError>
     ensures { IfOk result (λ found. map view found.items ≡ map string (fine_answers (slice_get (map line_view lines.now) at))) }
 {

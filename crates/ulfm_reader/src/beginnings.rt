@@ -64,7 +64,7 @@ pub fn begins(text: &[u8], words: &[u8]) -> bool
     ends_word(left)
 }
 
-/// The same of texts.
+/// Whether a text begins, by whole words, with these words, both as texts of the program.
 pub fn begins_with(text: &str, words: &str) -> bool
     ensures { result ≡ begins text.now words.now }
 {
@@ -136,7 +136,7 @@ pub fn may_expect(step: &Step, words: &str) -> bool
     may_tell(step.op(), words)
 }
 
-/// The same for a condition, which may also ask whether the step was skipped or is unfinished.
+/// Whether a condition on the step may ask for these words: as `may_expect`, or whether the step was skipped or is unfinished.
 pub fn may_ask(step: &Step, words: &str) -> bool
     ensures { result ≡ may_ask (order_of step.now) words.now }
 {
@@ -146,7 +146,7 @@ pub fn may_ask(step: &Step, words: &str) -> bool
     may_expect(step, words)
 }
 
-/// The same for an answer that must not go with others: the step may also be skipped.
+/// Whether a row of `never` may name the step with these words: as `may_expect`, or whether the step was skipped.
 pub fn may_answer(step: &Step, words: &str) -> bool
     ensures { result ≡ may_answer (order_of step.now) words.now }
 {

@@ -28,7 +28,7 @@ pub fn ranks_in(table: &Table) -> u8
     }
 }
 
-/// The same by the number that it says.
+/// The number of ranks that a job says it has; eight if no job can have so many.
 fn ranks_or_eight(ranks: i64) -> u8
     ensures exact { result ≡ ranks_or_eight (Some ranks) }
     ensures some { 0 < result }

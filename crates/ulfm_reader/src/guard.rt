@@ -36,7 +36,7 @@ fn goal_of<'a>(items: &'a [Value], line: &Line) -> Option<&'a str>
     }
 }
 
-/// The same of the line with this number.
+/// The name to which an error leads in the line of this number.
 fn goal_at<'a>(items: &'a [Value], lines: &[Line], at: u16) -> Option<&'a str>
     ensures { option_copied result ≡ goal_at (map view items.now) (map line_view lines.now) at }
 {
@@ -109,7 +109,7 @@ fn rank_in(step: &Value) -> Option<i64>
     }
 }
 
-/// The same where they guard the line itself.
+/// The guards of a rank's steps behind this line, if these guard the line itself.
 fn guards_past(
     items: &[Value],
     lines: &[Line],
@@ -141,7 +141,7 @@ fn guards_by(
     }
 }
 
-/// The same with the line of this number.
+/// The guards of a rank's steps, with the line of this number more, which may be the rank's.
 fn guards_with(
     items: &[Value],
     lines: &[Line],
@@ -211,7 +211,7 @@ fn asked(alloc: Global, lines: &[Line], guard: Guard) -> Result<Value, AllocErro
     condition(alloc, guard.number, answers)
 }
 
-/// The same of each guard.
+/// The conditions that these guards ask for, one of each.
 fn asked_of_each(alloc: Global, lines: &[Line], guards: &[Guard]) -> Result<Vec<Value>, AllocError>
     ensures { IfOk result (λ found. map view found.items ≡ map (asked (map line_view lines.now)) guards.now) }
 {
@@ -239,7 +239,7 @@ fn guard_by(
     put(alloc, table, "if", conditions)
 }
 
-/// The same of a step behind so many lines, where it has a rank.
+/// Puts the conditions of its guards into a step behind so many lines, if it has a rank.
 fn guard_for(
     alloc: Global,
     items: &[Value],

@@ -31,7 +31,7 @@ fn further(ranks: u8, text: &str) -> Option<u8>
     }
 }
 
-/// The same of the text at a key.
+/// How many ranks further on the rank is that the text at a key names, among so many.
 fn further_at(ranks: u8, key: &str, table: &Table) -> Option<u8>
     requires { 0 < ranks }
     ensures { result ≡ further_at ranks key.now (table_view table.now) }
@@ -117,7 +117,7 @@ pub fn placed(alloc: Global, ranks: u8, step: &Value) -> Result<Value, AllocErro
     }
 }
 
-/// The same as one of another rank.
+/// The step of another rank with the numbers of the ranks that it names.
 pub fn for_rank(alloc: Global, ranks: u8, step: &Value, rank: i64) -> Result<Value, AllocError>
     requires { 0 < ranks }
     ensures { IfOk result (λ r. view r ≡ in_table (λ ms. for_rank ranks ms rank) (view step.now)) }

@@ -72,7 +72,7 @@ fn alternative_with(alloc: Global, more: &[Value], own: Table) -> Result<Value, 
     Ok(Value::Table(own))
 }
 
-/// The same of what may be no table.
+/// A condition that holds where these tables hold too; what is no table stays.
 fn condition_with(alloc: Global, more: &[Value], own: &Value) -> Result<Value, AllocError>
     ensures { IfOk result (λ r. view r ≡ condition_with (map view more.now) (view own.now)) }
 {
@@ -82,7 +82,7 @@ fn condition_with(alloc: Global, more: &[Value], own: &Value) -> Result<Value, A
     }
 }
 
-/// The same of each of a list.
+/// The conditions of a list, each of which holds where these tables hold too.
 fn each_with(alloc: Global, more: &[Value], values: &[Value]) -> Result<Vec<Value>, AllocError>
     ensures { IfOk result (λ found. map view found.items ≡ map (condition_with (map view more.now)) (map view values.now)) }
 {

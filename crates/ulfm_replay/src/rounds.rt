@@ -39,7 +39,7 @@ pub fn replay(alloc: Global, job: &Job) -> Result<Vec<RankReport>, RunFault>
     }
 }
 
-/// The same, with the moves of its ranks in the order that they had.
+/// The replay of a job as `replay` has it, with the moves of its ranks in the order that they had.
 ///
 /// # Errors
 ///

@@ -31,7 +31,7 @@ pub(crate) fn line_at(
     }
 }
 
-/// The same of the rank's report.
+/// The line of a rank's step in its report, or without a step of how the rank ended.
 fn line_of(
     alloc: Global,
     form: Form,
@@ -76,7 +76,7 @@ pub(crate) fn step_line(
     Ok(text)
 }
 
-/// The same as an object.
+/// Adds the object of a rank's step with this answer.
 fn push_object(
     text: &mut String,
     asked: &Reading,

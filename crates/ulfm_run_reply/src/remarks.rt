@@ -14,7 +14,7 @@ pub fn remarks_on(alloc: Global, asked: &Reading, reports: &[RankReport]) -> Opt
     found_in(alloc, asked, reports).ok()
 }
 
-/// The same, if there is memory for it.
+/// What is told of the reports of a job's ranks, or that a growth was refused.
 fn found_in(
     alloc: Global,
     asked: &Reading,

@@ -219,7 +219,7 @@ fn first_apart(
     Ok(None)
 }
 
-/// The same, of a matcher and plain lists that hold nothing yet.
+/// Draws a list of calls to a matcher and plain lists that hold nothing yet: the first call that they answer otherwise.
 fn first_apart_of_new(alloc: Global, draws: &mut Pcg32) -> Result<Option<u32>, OutOfMemory> {
     let mut matcher = Matcher::new(alloc);
     let mut plain = Plain::new(alloc);
@@ -260,7 +260,7 @@ fn first_apart_of_many(
     Ok(None)
 }
 
-/// The same, of a matcher and plain lists that hold nothing yet.
+/// Draws many letters and receives for a matcher and plain lists that hold nothing yet: the first that they answer otherwise.
 fn first_apart_of_many_new(
     alloc: Global,
     draws: &mut Pcg32,

@@ -126,7 +126,7 @@ fn waits_in(
     Ok(is_longer && matches!(made.step(0, number), Some(Step::Wait { req }) if *req == names))
 }
 
-/// The same of that job, by the place's text.
+/// Whether the wait of rank 0 has this number, and names this receive, where ranks stop at the place of this text.
 fn waits_at(alloc: Global, place: &str, number: usize, names: u16) -> Result<bool, Fail> {
     let Some(place) = Place::parse(place) else {
         return Ok(false);

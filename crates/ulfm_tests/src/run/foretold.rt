@@ -194,7 +194,7 @@ where
     Ok(untrue_reports(&run))
 }
 
-/// The same of a job by its text.
+/// How many reports of a run of the job of a text show that the ranks took such items before they were sent, 0 where none do.
 fn refused<R>(rt: &R, alloc: Global, text: &str, kind: Kind, ranks: u8) -> Result<usize, Fail>
 where
     R: Threads + Wait + Sync,

@@ -144,7 +144,7 @@ where
     Ok(fits(&report, capacity) as u32)
 }
 
-/// The same of two runs of `CROWDED` with a stop before a step of a rank: over lanes, and over shared inboxes.
+/// How many of two runs of `CROWDED` with a stop before a step of a rank rings of so many places allow: over lanes, and over shared inboxes.
 fn fits_with_stop<R>(rt: &R, alloc: Global, rank: u8, at: u16, capacity: u8) -> Result<u32, Fail>
 where
     R: Threads + Wait + Sync,

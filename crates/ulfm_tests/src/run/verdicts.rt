@@ -211,7 +211,7 @@ where
     Ok(untrue_reports(&run))
 }
 
-/// The same of a job by its text.
+/// How many reports of a run over lanes, of the job of a text, show that an invention was adopted, 0 where none do.
 fn caught<R>(rt: &R, alloc: Global, text: &str, invention: Invention) -> Result<usize, Fail>
 where
     R: Threads + Wait + Sync,
