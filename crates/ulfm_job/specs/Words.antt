@@ -1,6 +1,7 @@
 -- The words in which steps are printed.
 use Rattle.std.specs.Prelude.{ℕ, List, ◌++◌, Option, Some, None, codes}
 use Rattle.std.specs.Fmt.{decimal}
+use Rattle.ulfm_base.specs.declared.context.Context.{Context}
 use Rattle.ulfm_base.specs.declared.tag.Tag.{Tag}
 use Rattle.ulfm_job.specs.declared.step.Step.{Step}
 use Rattle.ulfm_job.specs.declared.step.Step.TheVariants.{Send, Recv, Wait, Probe, Mrecv, Cancel, Failed, Ack, Revoke, Dup, Shrink, Agree, Note, Stop}
@@ -15,9 +16,13 @@ abbrev pub tag_text : Option Tag → List ℕ
 tag_text None = codes "any"
 tag_text (Some tag) = decimal tag.number
 
+-- the words of a send
+abbrev pub send_text : ℕ → Tag → Context → List ℕ
+send_text to tag comm = codes "send " ++ decimal to ++ codes " tag " ++ decimal tag.number ++ codes " comm " ++ decimal comm.number
+
 -- the words of a step
 abbrev pub step_text : Step → List ℕ
-step_text (Send to tag body comm) = codes "send " ++ decimal to ++ codes " tag " ++ decimal tag.number ++ codes " comm " ++ decimal comm.number
+step_text (Send to tag body comm) = send_text to tag comm
 step_text (Recv source tag room comm) = codes "recv " ++ source_text source ++ codes " tag " ++ tag_text tag ++ codes " comm " ++ decimal comm.number
 step_text (Wait req) = codes "wait " ++ decimal req
 step_text (Probe source tag comm) = codes "probe " ++ source_text source ++ codes " tag " ++ tag_text tag ++ codes " comm " ++ decimal comm.number

@@ -4,6 +4,7 @@ ghost use Rattle.ulfm_job.specs.Words.{step_text};
 
 use crate::step::Step;
 use crate::text::Text;
+use crate::words::BodilessSend;
 use std::fmt;
 use std::marker::Model;
 use ulfm_base::{Context, Noted, OutOfMemory, Tag};
@@ -123,7 +124,8 @@ impl fmt::Display for NotedStep {
     fn fmt<W: fmt::Write>(&self, f: &mut fmt::Formatter<W>) -> fmt::Result {
         match &self.kept {
             Kept::Send { to, tag, comm, .. } => {
-                write!(f, "send {to} tag {} comm {}", tag.number, comm.number)
+                let (to, tag, comm) = (*to, *tag, *comm);
+                write!(f, "{}", BodilessSend { to, tag, comm })
             }
             Kept::Other(step) => write!(f, "{step}"),
         }

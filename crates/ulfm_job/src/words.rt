@@ -1,10 +1,10 @@
 //! The words in which steps are printed.
 ghost use Rattle.std.specs.Prelude.{Some};
-ghost use Rattle.ulfm_job.specs.Words.{source_text, tag_text, step_text};
+ghost use Rattle.ulfm_job.specs.Words.{send_text, source_text, step_text, tag_text};
 
 use crate::step::Step;
 use std::fmt;
-use ulfm_base::Tag;
+use ulfm_base::{Context, Tag};
 
 /// A source, or `any` where it is left open.
 #[derive(Clone, Copy)]
@@ -36,6 +36,24 @@ impl fmt::Display for AnyTag {
     }
 }
 
+/// A send without its body.
+#[derive(Clone, Copy)]
+pub(crate) struct BodilessSend {
+    pub to: u8,
+    pub tag: Tag,
+    pub comm: Context,
+}
+
+/// The words of a send, as `send 1 tag 5 comm 0`.
+impl fmt::Display for BodilessSend {
+    ghost output = { λ send. Some (send_text send.to send.tag send.comm) };
+
+    fn fmt<W: fmt::Write>(&self, f: &mut fmt::Formatter<W>) -> fmt::Result {
+        let tag = self.tag.number;
+        write!(f, "send {} tag {tag} comm {}", self.to, self.comm.number)
+    }
+}
+
 /// The words of a step, as `recv any tag 5 comm 0`.
 impl fmt::Display for Step {
     ghost output = { λ step. Some (step_text step) };
@@ -43,7 +61,8 @@ impl fmt::Display for Step {
     fn fmt<W: fmt::Write>(&self, f: &mut fmt::Formatter<W>) -> fmt::Result {
         match self {
             Step::Send { to, tag, comm, .. } => {
-                write!(f, "send {to} tag {} comm {}", tag.number, comm.number)
+                let (to, tag, comm) = (*to, *tag, *comm);
+                write!(f, "{}", BodilessSend { to, tag, comm })
             }
             Step::Recv {
                 from,
