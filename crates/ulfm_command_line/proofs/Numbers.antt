@@ -1,14 +1,11 @@
 -- The number that an option was given, as it is read.
 use Rattle.std.proofs.Common.{◌≡◌, ◌<◌, ◌≤◌, ◌^◌, ℕ, Bool, true, false, List, Some, None, arith, sym, ap, refl, ◌∙◌, if◌then◌else◌}
-use Rattle.std.specs.Str.Parse.{IsNumeral, digits_value, without_leading_plus}
+use Rattle.std.specs.Str.Parse.{digits_value, without_leading_plus}
 use Rattle.clap.specs.ValueTests.{accepts}
 use Rattle.clap.specs.declared.builder.value_parser.ValueParser.TheVariants.{Unsigned}
 use Rattle.clap.proofs.ValueTestLemmas.{Accepts-accepts, accepts-Accepts}
+use Rattle.ulfm_job.proofs.ReadNumbers.{IsWord}
 use Rattle.ulfm_command_line.specs.CommandLine.{number_given}
-
--- the text is a number that `u32` holds
-abbrev pub IsWord : List ℕ → Type 0
-IsWord text = IsNumeral 10 (without_leading_plus text) × (digits_value 10 (without_leading_plus text) < 2 ^ 32)
 
 -- a number in the range is what was given
 pub in_range : (most n : ℕ) (text : List ℕ) → IsWord text × (n ≡ digits_value 10 (without_leading_plus text)) → 0 < n → n ≤ most → Some n ≡ number_given most (Some text)

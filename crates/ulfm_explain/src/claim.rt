@@ -2,6 +2,7 @@
 
 use crate::script::Script;
 use toml::Value;
+use ulfm_job::is_number;
 
 /// What a text of a row names, as it is written: a rank, one of its steps, and how its answer begins.
 #[derive(Clone, Copy)]
@@ -13,7 +14,7 @@ pub struct Claim<'a> {
 
 /// The number of a text of digits alone.
 fn number_of(text: &str) -> Option<i64> {
-    if text.bytes().all(|byte| byte.is_ascii_digit()) {
+    if is_number(text) {
         text.parse().ok()
     } else {
         None

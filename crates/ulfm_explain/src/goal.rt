@@ -4,7 +4,7 @@ use crate::answers_at;
 use crate::misplaced::place_of;
 use std::alloc::{AllocError, Global};
 use ulfm_command_line::{Wanted, asked_at};
-use ulfm_job::Place;
+use ulfm_job::{Place, is_number, number_in};
 use ulfm_reader::{Reading, name_at};
 
 /// How an answer is named.
@@ -54,11 +54,14 @@ fn reason_at(
     words: &str,
 ) -> Result<String, AllocError> {
     let ranks = asked.job.ranks();
-    match rank.parse::<u8>() {
-        Ok(number) if number < ranks => match at_of(asked, number, step) {
-            Some(at) => no_answer(alloc, asked, file, number, at, words),
-            None => no_step(alloc, asked, number, step),
-        },
+    match number_in(rank, u32::from(u8::MAX)) {
+        Some(number) if number < u32::from(ranks) => {
+            let number = number as u8;
+            match at_of(asked, number, step) {
+                Some(at) => no_answer(alloc, asked, file, number, at, words),
+                None => no_step(alloc, asked, number, step),
+            }
+        }
         _ => {
             format!(in alloc;
                 "the job has no rank {rank}; its ranks are 0 to {}",
@@ -68,16 +71,11 @@ fn reason_at(
     }
 }
 
-/// Whether a text is digits alone, of which there are some.
-pub(crate) fn is_number(text: &str) -> bool {
-    !text.is_empty() && text.bytes().all(|byte| byte.is_ascii_digit())
-}
-
 /// The number of a rank's step, by its number or its name.
 fn at_of(asked: &Reading, rank: u8, step: &str) -> Option<usize> {
     let steps = asked.job.script_len(rank);
     if is_number(step) {
-        let at: usize = step.parse().ok()?;
+        let at = number_in(step, u32::MAX)? as usize;
         return if at < steps { Some(at) } else { None };
     }
     (0..steps).find(|at| name_at(&asked.names, rank, *at) == Some(step))

@@ -1,9 +1,9 @@
 //! Why the names of steps in `--stop` come to no place of the job: for people, and none of it is promised.
 
-use crate::goal::{is_number, no_step};
+use crate::goal::no_step;
 use crate::only_names::nearest_of;
 use std::alloc::{AllocError, Global};
-use ulfm_job::Place;
+use ulfm_job::{Place, is_number, number_in};
 use ulfm_reader::{ReadJob, Reading, named};
 
 /// How a place is written.
@@ -70,8 +70,10 @@ fn reason_at(
     step: &str,
 ) -> Result<Option<String>, AllocError> {
     let ranks = asked.job.ranks();
-    match rank.parse::<u8>() {
-        Ok(number) if number < ranks => unnamed_at(alloc, asked, number, step),
+    match number_in(rank, u32::from(u8::MAX)) {
+        Some(number) if number < u32::from(ranks) => {
+            unnamed_at(alloc, asked, number as u8, step)
+        }
         _ => {
             let last = ranks.saturating_sub(1);
             let line = format!(in alloc; "the job has no rank {rank}; its ranks are 0 to {last}")?;

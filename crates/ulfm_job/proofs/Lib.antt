@@ -6,6 +6,7 @@ pub mod Rounds
 pub mod Beside
 pub mod Listed
 pub mod Inside
+pub mod ReadNumbers
 pub mod Numbers
 pub mod Starred
 pub mod Written

@@ -1,35 +1,30 @@
--- Numbers as they are written, and as they are read.
-use Rattle.std.proofs.Common.{rules, ◌≡◌, ℕ, ◌+◌, ◌<◌, ◌≤◌, ◌==◌, ◌^◌, List, [], ◌∷◌, length, get_or, leb, Bool, true, false, ◌&&◌, ◌||◌, not, Option, Some, None, Ok, Err, zero, suc, if◌then◌else◌, refl, sym, ap, ◌∙◌, arith}
+-- Numbers as they are written.
+use Rattle.std.proofs.Common.{◌≡◌, ℕ, ◌+◌, ◌<◌, ◌==◌, ◌^◌, List, [], ◌∷◌, length, get_or, ltb, leb, Bool, true, false, ◌&&◌, ◌||◌, not, Option, Some, None, zero, suc, if◌then◌else◌, refl, sym, ap, ◌∙◌, arith}
 use Rattle.std.proofs.lemmas.Bool.{and_parts, leb-true}
 use Rattle.std.proofs.lemmas.Bool.Decides.{Decides-eqb, nat_tests}
 use Rattle.std.proofs.lemmas.Fmt.{decimal-digits_value, decimal_digit, decimal_nonempty, digits_decimal, first_decimal}
 use Rattle.std.proofs.lemmas.Slice.Eq.{bytes_eq-Decides}
-use Rattle.std.proofs.lemmas.Str.Parse.{IsNumeralModel, numerals_by_value, parse_digits}
 use Rattle.std.specs.Char.{is_ascii_digit}
 use Rattle.std.specs.Fmt.{decimal}
 use Rattle.std.proofs.lemmas.List.{drop_all}
 use Rattle.std.specs.List.{after_first, before_first, list_all, position_or_len}
 use Rattle.std.specs.Str.{bytes_eq}
-use Rattle.std.specs.Str.Parse.{IsNumeral, digits_value, without_leading_plus}
+use Rattle.std.specs.Str.Parse.{digits_value}
+use Rattle.ulfm_job.proofs.ReadNumbers.{AreDigits, own}
+use Rattle.ulfm_job.specs.Digits.{is_number, number_in}
 use Rattle.ulfm_job.specs.Text.{is_starred, number_of_text, stop_by, stop_of_text, unstarred}
-use Rattle.ulfm_job.specs.inside.Digits.{is_number}
-
-abbrev AreDigits : List ℕ → Type 0
-AreDigits ds = list_all is_ascii_digit ds ≡ true
-
-own : IsNumeralModel AreDigits (digits_value 10)
-own = numerals_by_value AreDigits (search rules)
+use Rattle.ulfm_job.specs.inside.Shortest.{is_shortest}
 
 -- what a number is made of
-digits_in : (text : List ℕ) → is_number text ≡ true → AreDigits text
+digits_in : (text : List ℕ) → is_shortest text ≡ true → AreDigits text
 digits_in [] is = absurd cc
 digits_in (c ∷ text) is = (and_parts (is_ascii_digit c && list_all is_ascii_digit text) (not (c == 48) || length text == 0) is).0
 
-some_in : (text : List ℕ) → is_number text ≡ true → 0 < length text
+some_in : (text : List ℕ) → is_shortest text ≡ true → 0 < length text
 some_in [] is = absurd cc
 some_in (c ∷ text) is = omega arith
 
-lead_in : (text : List ℕ) → is_number text ≡ true → get_or text 0 0 ≡ 48 → length text ≡ 1
+lead_in : (text : List ℕ) → is_shortest text ≡ true → get_or text 0 0 ≡ 48 → length text ≡ 1
 lead_in [] is e = absurd cc
 lead_in (c ∷ text) is e = by (c == 48) (length text == 0) ((Decides-eqb c 48).1 e) refl (and_parts (is_ascii_digit c && list_all is_ascii_digit text) (not (c == 48) || length text == 0) is).1
   where
@@ -39,7 +34,7 @@ lead_in (c ∷ text) is e = by (c == 48) (length text == 0) ((Decides-eqb c 48).
     by false b is_zero e h = absurd cc
 
 -- digits without a zero before others are a number
-number-digits : (text : List ℕ) → AreDigits text → 0 < length text → (get_or text 0 0 ≡ 48 → length text ≡ 1) → is_number text ≡ true
+number-digits : (text : List ℕ) → AreDigits text → 0 < length text → (get_or text 0 0 ≡ 48 → length text ≡ 1) → is_shortest text ≡ true
 number-digits [] all some lead = absurd (omega (arith, some))
 number-digits (c ∷ text) all some lead = by (list_all is_ascii_digit (c ∷ text)) (c == 48) all refl
   where
@@ -48,51 +43,42 @@ number-digits (c ∷ text) all some lead = by (list_all is_ascii_digit (c ∷ te
     by true true all e = let one = lead ((Decides-eqb c 48).0 e) in let none : length text ≡ 0 = omega (arith, one) in (Decides-eqb (length text) 0).1 none
     by false b all e = absurd cc
 
-number-decimal : (n : ℕ) → n < 2 ^ 64 → is_number (decimal n) ≡ true
+number-decimal : (n : ℕ) → n < 2 ^ 64 → is_shortest (decimal n) ≡ true
 number-decimal n small = number-digits (decimal n) (digits_decimal own n small) (decimal_nonempty n small) (lead n small)
   where
     lead : (n : ℕ) → n < 2 ^ 64 → get_or (decimal n) 0 0 ≡ 48 → length (decimal n) ≡ 1
     lead zero small e = ap length (decimal_digit 0 (omega arith))
     lead (suc n) small e = let high = first_decimal (suc n) (omega arith) small in absurd (omega (arith, high, e))
 
-decimal-number : (text : List ℕ) → is_number text ≡ true → digits_value 10 text < 2 ^ 64 → decimal (digits_value 10 text) ≡ text
+decimal-number : (text : List ℕ) → is_shortest text ≡ true → digits_value 10 text < 2 ^ 64 → decimal (digits_value 10 text) ≡ text
 decimal-number text is small = decimal-digits_value own text (digits_in text is) (some_in text is) (lead_in text is) small
 
 -- a text that isn't one gives none
-pub not_number : (most : ℕ) (text : List ℕ) → most < 2 ^ 64 → is_number text ≡ false → None ≡ number_of_text most text
+pub not_number : (most : ℕ) (text : List ℕ) → most < 2 ^ 64 → is_shortest text ≡ false → None ≡ number_of_text most text
 not_number most text small not_one = by (leb (digits_value 10 text) most) (bytes_eq text (decimal (digits_value 10 text))) refl refl
   where
     by : (a b : Bool) → leb (digits_value 10 text) most ≡ a → bytes_eq text (decimal (digits_value 10 text)) ≡ b → None ≡ (if a && b then Some (digits_value 10 text) else None)
     by true true fits same =
         let is : text ≡ decimal (digits_value 10 text) = (bytes_eq-Decides text (decimal (digits_value 10 text))).0 same in
         let le = leb-true _ _ fits in
-        let one : is_number text ≡ true = ap is_number is ∙ number-decimal (digits_value 10 text) (omega (arith, le, small)) in
+        let one : is_shortest text ≡ true = ap is_shortest is ∙ number-decimal (digits_value 10 text) (omega (arith, le, small)) in
         absurd cc
     by true false fits differs = refl
     by false b large e = refl
 
--- what `parse` reads as a number of 16 bits
-abbrev IsShort : List ℕ → Type 0
-IsShort text = IsNumeral 10 (without_leading_plus text) × (digits_value 10 (without_leading_plus text) < 2 ^ 16)
-
--- a number that fits
-pub number_read : (most n : ℕ) (text : List ℕ) → is_number text ≡ true → IsShort text × (n ≡ digits_value 10 (without_leading_plus text)) → n ≤ most → Some n ≡ number_of_text most text
-number_read most n text is h le =
-    let read = parse_digits own {E = Unit {0}} 16 text (Ok n) h (digits_in text is) in
-    let fits : leb (digits_value 10 text) most ≡ true = let e = read.1 in grind (arith, nat_tests) in
-    let small : digits_value 10 text < 2 ^ 64 = omega (arith, read.0.1) in
-    let same : bytes_eq text (decimal (digits_value 10 text)) ≡ true = (bytes_eq-Decides text (decimal (digits_value 10 text))).1 (sym (decimal-number text is small)) in
-    rw (fits, same, read.1) refl
-
--- one past 16 bits
-pub number_long : (most : ℕ) (text : List ℕ) → most < 2 ^ 16 → is_number text ≡ true → (IsShort text → ⊥) → None ≡ number_of_text most text
-number_long most text small is h =
-    let read = parse_digits own {E = Unit {0}} 16 text (Err tt) h (digits_in text is) in
-    by (leb (digits_value 10 text) most) refl read
+-- such a text is digits alone, and its number is written in these digits
+pub number_shortest : (most : ℕ) (text : List ℕ) → most < 2 ^ 64 → is_shortest text ≡ true → number_in most text ≡ number_of_text most text
+number_shortest most text small is = by (leb (digits_value 10 text) most) refl
   where
-    by : (b : Bool) → leb (digits_value 10 text) most ≡ b → ((0 < length text) × (digits_value 10 text < 2 ^ 16) → ⊥) → None ≡ (if b && bytes_eq text (decimal (digits_value 10 text)) then Some (digits_value 10 text) else None)
-    by true fits read = absurd (read (some_in text is, omega (arith, leb-true _ _ fits, small)))
-    by false large read = refl
+    any : is_number text ≡ true
+    any = let some : ltb 0 (length text) ≡ true = let s = some_in text is in grind (arith, nat_tests) in rw (some, digits_in text is) refl
+
+    by : (b : Bool) → leb (digits_value 10 text) most ≡ b → number_in most text ≡ number_of_text most text
+    by true fits =
+        let le = leb-true _ _ fits in
+        let same : bytes_eq text (decimal (digits_value 10 text)) ≡ true = (bytes_eq-Decides text (decimal (digits_value 10 text))).1 (sym (decimal-number text is (omega (arith, le, small)))) in
+        rw (any, fits, same) refl
+    by false large = rw (any, large) refl
 
 -- a text without a dot is no stop
 pub no_dot : (text : List ℕ) → position_or_len (λ c. c == 46) text ≡ length text → None ≡ stop_of_text text

@@ -6,4 +6,5 @@ pub mod Words
 pub mod Place
 pub mod Places
 pub mod Text
+pub mod Digits
 pub mod inside

@@ -1,4 +1,4 @@
 -- What invariants, private functions and proofs cite of jobs.
 pub mod Noted
 pub mod Label
-pub mod Digits
+pub mod Shortest

@@ -29,12 +29,13 @@
 //! Files:
 //!
 //! - `job.rt`, `limits.rt`, `fault.rt`: a job, its limits, and why one is refused; `copied.rt`: a job once more
-//! - `op.rt`: the ops, by their names, and how their answers begin, in one table (Ops.antt)
+//! - `op.rt`: the ops, by their names, their keys, and how their answers begin, in one table (Ops.antt)
 //! - `step.rt`: a step; `words.rt`: its words; `copying.rt`: it once more; `noted_step.rt`: as a report keeps it; `label.rt`, `text.rt`, `texts.rt`:
 //!   its texts
 //! - `condition.rt`, `clause.rt`: what is asked of answers; `left_step.rt`, `joint.rt`: steps that may be given up, and those that ranks decide
 //!   together
-//! - `place.rt`, `stop.rt`: where ranks stop; `place_text.rt`: a place as it is read; `job_places.rt`: [`places`], all of a job; `job_stops.rt`: its own stops
+//! - `place.rt`, `stop.rt`: where ranks stop; `place_text.rt`: a place as it is read; `digits.rt`: a number as it is read (Digits.antt);
+//!   `job_places.rt`: [`places`], all of a job; `job_stops.rt`: its own stops
 //! - `script_with_stop.rt`, `shifted_numbers.rt`: a script with one more stop, and the numbers of its steps then
 //!
 //! Not here: whether a job gets stuck, or what its steps are answered.
@@ -44,6 +45,7 @@ mod clause;
 mod condition;
 mod copied;
 mod copying;
+mod digits;
 mod fault;
 mod job;
 mod job_places;
@@ -67,6 +69,7 @@ mod words;
 pub use clause::Clause;
 pub use condition::Condition;
 pub use copied::expecting;
+pub use digits::{is_number, number_in};
 pub use fault::{Fault, JobFault};
 pub use job::Job;
 pub use job_places::places;

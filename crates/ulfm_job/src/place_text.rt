@@ -1,10 +1,9 @@
 //! Places as they are read.
-ghost use Rattle.std.specs.Prelude.{◌≡◌, ◌≤◌, true, IfSome};
-ghost use Rattle.std.specs.Char.{is_ascii_digit};
-ghost use Rattle.std.specs.List.{list_all};
+ghost use Rattle.std.specs.Prelude.{◌≡◌, ◌≤◌, IfSome};
 ghost use Rattle.ulfm_job.specs.Text.{is_starred, number_of_text, place_of_text, stop_by, stop_of_parts, stop_of_text, unstarred};
-ghost use Rattle.ulfm_job.specs.inside.Digits.{is_number};
+ghost use Rattle.ulfm_job.specs.inside.Shortest.{is_shortest};
 
+use crate::digits::{are_digits, number_in};
 use crate::place::Place;
 use crate::stop::Stop;
 
@@ -85,28 +84,18 @@ fn number_of_text(text: &str, most: u16) -> Option<u16>
     ensures exact { result ≡ number_of_text most text.now }
     ensures range { IfSome result (λ n. n ≤ most) }
 {
-    if is_number(text) {
-        number_in(text, most)
-    } else {
-        None
+    if !is_shortest(text) {
+        return None;
+    }
+    match number_in(text, u32::from(most)) {
+        Some(number) => Some(number as u16),
+        None => None,
     }
 }
 
-/// The number of these digits, at most so much.
-fn number_in(text: &str, most: u16) -> Option<u16>
-    requires { is_number text.now ≡ true }
-    ensures exact { result ≡ number_of_text most text.now }
-    ensures range { IfSome result (λ n. n ≤ most) }
-{
-    match text.parse::<u16>() {
-        Ok(number) => { if number <= most { Some(number) } else { None } }
-        Err(_) => None,
-    }
-}
-
-/// Whether a text is a number: digits alone, with no 0 before others.
-fn is_number(text: &str) -> bool
-    ensures { result ≡ is_number text.now }
+/// Whether a text is a number with no 0 before its other digits.
+fn is_shortest(text: &str) -> bool
+    ensures { result ≡ is_shortest text.now }
 {
     match text.as_bytes() {
         [] => false,
@@ -114,11 +103,4 @@ fn is_number(text: &str) -> bool
             first.is_ascii_digit() && are_digits(rest) && (*first != b'0' || rest.is_empty())
         }
     }
-}
-
-/// Whether each of these bytes is a digit.
-fn are_digits(bytes: &[u8]) -> bool
-    ensures { result ≡ list_all is_ascii_digit bytes.now }
-{
-    bytes.iter().all(|byte| byte.is_ascii_digit())
 }

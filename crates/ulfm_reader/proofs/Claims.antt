@@ -1,13 +1,8 @@
 -- The texts of rows, taken apart, and rows one after the other.
-use Rattle.std.proofs.Common.{◌≡◌, ℕ, ◌+◌, ◌<◌, ◌≤◌, ◌==◌, ◌^◌, List, [], ◌∷◌, ◌++◌, length, map, get_or, drop, ltb, leb, cond, Bool, true, false, ◌&&◌, Option, Some, None, option_map, slice_get, slice_index_or, zero, suc, Bor, Result, Ok, Err, Vec, Global, refl, sym, ap, ◌∙◌, arith}
-use Rattle.std.proofs.lemmas.Bool.{and_parts, leb-true, ltb-true}
+use Rattle.std.proofs.Common.{◌≡◌, ℕ, ◌+◌, ◌<◌, ◌≤◌, ◌==◌, List, [], ◌∷◌, ◌++◌, length, map, get_or, drop, ltb, leb, cond, Bool, true, false, ◌&&◌, Option, Some, None, option_map, slice_get, slice_index_or, zero, suc, Bor, Result, Ok, Err, Vec, Global, refl, sym, ap, ◌∙◌, arith}
 use Rattle.std.proofs.lemmas.List.{drop_all, map_push}
-use Rattle.std.proofs.lemmas.Str.Parse.{IsNumeralModel, numerals_by_value, parse_digits, tells_all_ascii_digits}
 use Rattle.std.specs.Prelude.{codes}
 use Rattle.std.specs.List.{before_first, after_first, position_or_len}
-use Rattle.std.specs.Char.{is_ascii_digit}
-use Rattle.std.specs.Str.{all_ascii_digits}
-use Rattle.std.specs.Str.Parse.{IsNumeral, digits_value, without_leading_plus}
 use Rattle.toml.specs.Data.{Data, as_array, as_str}
 use Rattle.toml.proofs.Views.{items_view-drop}
 use Rattle.ulfm_reader.proofs.Blocks.{items_of-view}
@@ -20,7 +15,7 @@ use Rattle.ulfm_job.specs.declared.fault.Fault.TheVariants.{BadKey, OutOfRange}
 use Rattle.ulfm_reader.proofs.Common.{Clause, JobFault, Name, Order, Step, Value, view, order_of, items_view, list_all, nat_tests, ◌>>=◌}
 use Rattle.ulfm_reader.specs.JobText.{in_job, rows_of}
 use Rattle.ulfm_reader.specs.Provisos.{items_by}
-use Rattle.ulfm_reader.specs.Never.{all_items, are_texts, claim_at, claims_onto, is_number, is_row, is_text, never_items_in, never_out, number_in, order_at, parted, row_in, rows_onto}
+use Rattle.ulfm_reader.specs.Never.{all_items, are_texts, claim_at, claims_onto, is_row, is_text, never_items_in, never_out, order_at, parted, row_in, rows_onto}
 
 -- a text in two parts
 pub two_parts : (c : ℕ) (text front rest : List ℕ) → position_or_len (λ b. b == c) text < length text → front ≡ before_first (λ b. b == c) text → rest ≡ after_first (λ b. b == c) text → Ok (front, rest) ≡ parted c text
@@ -28,40 +23,6 @@ two_parts c text front rest lt f r = let test : ltb (position_or_len (λ b. b ==
 
 pub one_part : (c : ℕ) (text : List ℕ) → position_or_len (λ b. b == c) text ≡ length text → Err OutOfRange ≡ parted c text
 one_part c text e = let test : ltb (position_or_len (λ b. b == c) text) (length text) ≡ false = grind (arith, nat_tests) in rw test refl
-
-all-digits : (ds : List ℕ) → list_all is_ascii_digit ds ≡ all_ascii_digits ds
-all-digits [] = refl
-all-digits (c ∷ cs) = ap (λ b. is_ascii_digit c && b) (all-digits cs)
-
-own : IsNumeralModel (λ ds. all_ascii_digits ds ≡ true) (digits_value 10)
-own = numerals_by_value _ tells_all_ascii_digits
-
--- what a number is made of
-digits_in : (text : List ℕ) → is_number text ≡ true → (ltb 0 (length text) ≡ true) × (all_ascii_digits text ≡ true)
-digits_in text is = let parts = and_parts (ltb 0 (length text)) (list_all is_ascii_digit text) is in (parts.0, sym (all-digits text) ∙ parts.1)
-
--- what `parse` reads as a byte
-abbrev IsByte : List ℕ → Type 0
-IsByte text = IsNumeral 10 (without_leading_plus text) × (digits_value 10 (without_leading_plus text) < 2 ^ 8)
-
--- a number that fits
-pub number-read : (text : List ℕ) (n : ℕ) → is_number text ≡ true → IsByte text × (n ≡ digits_value 10 (without_leading_plus text)) → Ok n ≡ number_in text
-number-read text n is h =
-    let digits = digits_in text is in
-    let k = parse_digits own {E = Unit {0}} 8 text (Ok n) h digits.1 in
-    let small : leb (digits_value 10 text) 255 ≡ true = let fits = k.0.1 in grind (arith, nat_tests) in
-    rw (is, small, k.1) refl
-
--- one that is too large
-pub number-large : (text : List ℕ) → is_number text ≡ true → (IsByte text → ⊥) → Err OutOfRange ≡ number_in text
-number-large text is h = large (leb (digits_value 10 text) 255) refl
-  where
-    large : (b : Bool) → leb (digits_value 10 text) 255 ≡ b → Err OutOfRange ≡ number_in text
-    large true fits =
-        let digits = digits_in text is in
-        let k = parse_digits own {E = Unit {0}} 8 text (Err tt) h digits.1 in
-        absurd (k (ltb-true _ _ digits.0, omega (arith, leb-true _ _ fits)))
-    large false big = rw (is, big) refl
 
 -- the fault of a first part is that of the whole
 pub in_job-err : {A B : Type 0} (r : Result A Fault) (f : A → Result B Fault) (e : JobFault) → in_job r ≡ Err e → in_job (r >>= f) ≡ Err e

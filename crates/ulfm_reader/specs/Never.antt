@@ -1,14 +1,13 @@
 -- Answers that must not go together, by the key `never`, by cases in the order of the checks.
 use Rattle.std.specs.Prelude.{ℕ, ◌==◌, nat_lt, nat_le, Bool, true, false, ◌&&◌, List, [], ◌∷◌, ◌++◌, length, Option, Some, None, is_some, Result, Ok, Err, slice_get, slice_index_or, if◌then◌else◌, codes}
-use Rattle.std.specs.List.{before_first, after_first, list_all, position_or_len}
+use Rattle.std.specs.List.{before_first, after_first, position_or_len}
 use Rattle.std.specs.Option.{ok_or}
-use Rattle.std.specs.Char.{is_ascii_digit}
-use Rattle.std.specs.Str.Parse.{digits_value}
 use Rattle.toml.specs.Data.{Data, Items, no_items, item, Members, get_member, as_array, as_str, as_table}
 use Rattle.toml.specs.View.{items_of}
 use Rattle.ulfm_reader.specs.Lines.{Line}
 use Rattle.ulfm_reader.specs.Members.{listed, text_at}
 use Rattle.ulfm_reader.specs.Rows.{rows_out}
+use Rattle.ulfm_job.specs.Digits.{is_number, number_in}
 use Rattle.ulfm_job.specs.declared.clause.Clause.{Clause}
 use Rattle.ulfm_job.specs.declared.fault.Fault.{Fault}
 use Rattle.ulfm_job.specs.declared.fault.Fault.TheVariants.{BadKey, OutOfRange}
@@ -23,17 +22,13 @@ use Rattle.ulfm_reader.specs.Reacting.{clause, named, words_in}
 abbrev pub parted : ℕ → List ℕ → Result (List ℕ × List ℕ) Fault
 parted c text = if nat_lt (position_or_len (λ b. b == c) text) (length text) then Ok (before_first (λ b. b == c) text, after_first (λ b. b == c) text) else Err OutOfRange
 
--- digits alone, of which there are some
-abbrev pub is_number : List ℕ → Bool
-is_number text = nat_lt 0 (length text) && list_all is_ascii_digit text
-
--- the number of such a text, 0 to 255
-abbrev pub number_in : List ℕ → Result ℕ Fault
-number_in text = if is_number text && nat_le (digits_value 10 text) 255 then Ok (digits_value 10 text) else Err OutOfRange
+-- the number of a text of digits alone, 0 to 255
+abbrev pub byte_in : List ℕ → Result ℕ Fault
+byte_in text = ok_or (number_in 255 text) OutOfRange
 
 -- the number of a step of a rank, by its number or its name: digits alone are a number
 abbrev pub step_in : List Name → ℕ → List ℕ → Result ℕ Fault
-step_in names rank text = if is_number text then number_in text else ok_or (named names rank text) OutOfRange
+step_in names rank text = if is_number text then byte_in text else ok_or (named names rank text) OutOfRange
 
 -- a step of a rank, where there is one
 abbrev pub order_at : List (List Order) → ℕ → ℕ → Option Order
@@ -43,7 +38,7 @@ order_at scripts rank step = slice_get (slice_index_or scripts rank []) step
 unfoldable pub place_in : List Name → List ℕ → Result (ℕ × ℕ) Fault
 place_in names text = do
   parts ← parted 46 text
-  rank ← number_in parts.0
+  rank ← byte_in parts.0
   step ← step_in names rank parts.1
   Ok (rank, step)
 

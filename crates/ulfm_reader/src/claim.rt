@@ -1,12 +1,10 @@
 //! An answer by its rank, its step, and the words with which it begins.
 ghost use Rattle.std.specs.Prelude.{◌≡◌, ◌<◌, [], option_map, slice_get, slice_index_or};
-ghost use Rattle.std.specs.Char.{is_ascii_digit};
-ghost use Rattle.std.specs.List.{list_all};
 ghost use Rattle.toml.specs.Data.{as_str};
 ghost use Rattle.toml.specs.View.{view};
 ghost use Rattle.ulfm_job.specs.Job.{lists_of};
 ghost use Rattle.ulfm_reader.specs.Goals.{goal_in, trace_words};
-ghost use Rattle.ulfm_reader.specs.Never.{claim_at, claim_in, claimed, is_number, number_in, order_at, parted, place_in, step_in};
+ghost use Rattle.ulfm_reader.specs.Never.{byte_in, claim_at, claim_in, claimed, order_at, parted, place_in, step_in};
 ghost use Rattle.ulfm_reader.specs.Plan.{order_of, plan_of};
 ghost use Rattle.ulfm_reader.specs.inside.Reading.{claim_view, draft_view, map_ok};
 
@@ -14,7 +12,7 @@ use crate::beginnings::may_answer;
 use crate::draft::Draft;
 use crate::name::{Name, named};
 use toml::Value;
-use ulfm_job::{Fault, Job, Step};
+use ulfm_job::{Fault, Job, Step, is_number, number_in};
 
 /// That the answer of a step of a rank begins with these words, by whole words.
 #[derive(Clone, Copy)]
@@ -35,30 +33,13 @@ fn parted(text: &str, at: char) -> Result<(&str, &str), Fault>
     }
 }
 
-/// Whether each of these bytes is a digit.
-fn are_digits(bytes: &[u8]) -> bool
-    ensures { result ≡ list_all is_ascii_digit bytes.now }
-{
-    bytes.iter().all(|byte| byte.is_ascii_digit())
-}
-
-/// Whether a text is a number: digits alone, of which there are some.
-fn is_number(text: &str) -> bool
-    ensures { result ≡ is_number text.now }
-{
-    !text.is_empty() && are_digits(text.as_bytes())
-}
-
 /// The number of a text of digits alone, 0 to 255.
-fn number_in(text: &str) -> Result<u8, Fault>
-    ensures { result ≡ number_in text.now }
+fn byte_in(text: &str) -> Result<u8, Fault>
+    ensures { result ≡ byte_in text.now }
 {
-    if !is_number(text) {
-        return Err(Fault::OutOfRange);
-    }
-    match text.parse::<u8>() {
-        Ok(number) => Ok(number),
-        Err(_) => Err(Fault::OutOfRange),
+    match number_in(text, 255) {
+        Some(number) => Ok(number as u8),
+        None => Err(Fault::OutOfRange),
     }
 }
 
@@ -67,7 +48,7 @@ fn step_in(names: &[Name], rank: u8, text: &str) -> Result<u16, Fault>
     ensures { result ≡ step_in names.now rank text.now }
 {
     if is_number(text) {
-        return Ok(u16::from(number_in(text)?));
+        return Ok(u16::from(byte_in(text)?));
     }
     named(names, rank, text).ok_or(Fault::OutOfRange)
 }
@@ -109,7 +90,7 @@ fn place_in(names: &[Name], text: &str) -> Result<(u8, u16), Fault>
     ensures { result ≡ place_in names.now text.now }
 {
     let (rank, step) = parted(text, '.')?;
-    let rank = number_in(rank)?;
+    let rank = byte_in(rank)?;
     let step = step_in(names, rank, step)?;
     Ok((rank, step))
 }
