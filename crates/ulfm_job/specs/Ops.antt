@@ -1,4 +1,4 @@
--- The ops of steps: their names, and how their answers begin.
+-- The ops of steps: their names, their keys, and how their answers begin.
 use Rattle.std.specs.Prelude.{ℕ, Bool, true, false, List, [], ◌∷◌, Option, Some, None, codes, if◌then◌else◌}
 use Rattle.std.specs.Str.{bytes_eq}
 use Rattle.ulfm_job.specs.declared.op.Op.{Op}
@@ -41,6 +41,27 @@ op_named name =
     else if bytes_eq name (codes "note") then Some Note
     else if bytes_eq name (codes "stop") then Some Stop
     else None
+
+-- the keys of any step, and more
+abbrev pub step_keys : List (List ℕ) → List (List ℕ)
+step_keys more = codes "op" ∷ codes "rank" ∷ codes "name" ∷ codes "if" ∷ codes "expect" ∷ more
+
+-- the keys that a step of this op may have
+abbrev pub op_keys : Op → List (List ℕ)
+op_keys Send = step_keys (codes "to" ∷ codes "tag" ∷ codes "body" ∷ codes "comm" ∷ [])
+op_keys Recv = step_keys (codes "from" ∷ codes "tag" ∷ codes "room" ∷ codes "comm" ∷ [])
+op_keys Wait = step_keys (codes "req" ∷ [])
+op_keys Probe = step_keys (codes "from" ∷ codes "tag" ∷ codes "comm" ∷ [])
+op_keys Mrecv = step_keys (codes "req" ∷ codes "room" ∷ [])
+op_keys Cancel = step_keys (codes "req" ∷ [])
+op_keys Failed = step_keys (codes "comm" ∷ [])
+op_keys Ack = step_keys (codes "count" ∷ codes "comm" ∷ [])
+op_keys Revoke = step_keys (codes "comm" ∷ [])
+op_keys Dup = step_keys (codes "comm" ∷ [])
+op_keys Shrink = step_keys (codes "comm" ∷ [])
+op_keys Agree = step_keys (codes "flag" ∷ codes "comm" ∷ [])
+op_keys Note = step_keys (codes "text" ∷ [])
+op_keys Stop = step_keys []
 
 -- the op of a step
 abbrev pub op_of : Step → Op

@@ -1,4 +1,4 @@
-//! The ops of steps: their names, and how their answers begin, each once.
+//! The ops of steps: their names, their keys, and how their answers begin, each once.
 
 /// What a step asks for, without its keys: the variant of [`Step`](crate::Step) with this name.
 #[derive(Clone, Copy, Debug, PartialEq, Eq)]
@@ -39,7 +39,7 @@ pub const OPS: [Op; 14] = [
 
 impl Op {
     ghost use Rattle.std.specs.Prelude.{◌≡◌, map};
-    ghost use Rattle.ulfm_job.specs.Ops.{op_name, op_named, op_answers, good_answers, may_stay_open, is_never_refused};
+    ghost use Rattle.ulfm_job.specs.Ops.{op_name, op_named, op_keys, op_answers, good_answers, may_stay_open, is_never_refused};
 
     /// Its name in a job.
     pub fn name(self) -> &'static str
@@ -83,6 +83,30 @@ impl Op {
             "note" => Some(Op::Note),
             "stop" => Some(Op::Stop),
             _ => None,
+        }
+    }
+
+    /// The keys that a step of it may have in a job.
+    pub fn keys(self) -> &'static [&'static str]
+        ensures { map (λ s. s.now) result.now ≡ op_keys self }
+    {
+        match self {
+            Op::Send => &[
+                "op", "rank", "name", "if", "expect", "to", "tag", "body", "comm",
+            ],
+            Op::Recv => &[
+                "op", "rank", "name", "if", "expect", "from", "tag", "room", "comm",
+            ],
+            Op::Wait | Op::Cancel => &["op", "rank", "name", "if", "expect", "req"],
+            Op::Probe => &["op", "rank", "name", "if", "expect", "from", "tag", "comm"],
+            Op::Mrecv => &["op", "rank", "name", "if", "expect", "req", "room"],
+            Op::Failed | Op::Revoke | Op::Dup | Op::Shrink => {
+                &["op", "rank", "name", "if", "expect", "comm"]
+            }
+            Op::Ack => &["op", "rank", "name", "if", "expect", "count", "comm"],
+            Op::Agree => &["op", "rank", "name", "if", "expect", "flag", "comm"],
+            Op::Note => &["op", "rank", "name", "if", "expect", "text"],
+            Op::Stop => &["op", "rank", "name", "if", "expect"],
         }
     }
 

@@ -1,6 +1,6 @@
 -- The step of a table, for each op, by cases in the order of the checks: keys and their kinds, unknown keys, ranges.
-use Rattle.std.specs.Prelude.{ℕ, pos, ◌-◌, List, [], ◌∷◌, Option, Some, None, Result, Ok, Err, unwrap_or, codes}
-use Rattle.ulfm_job.specs.Ops.{op_named}
+use Rattle.std.specs.Prelude.{ℕ, pos, ◌-◌, List, Option, Some, None, Result, Ok, Err, unwrap_or, codes}
+use Rattle.ulfm_job.specs.Ops.{op_keys, op_named}
 use Rattle.ulfm_job.specs.declared.op.Op.{Op}
 use Rattle.ulfm_job.specs.declared.op.Op.TheVariants as op
 use Rattle.toml.specs.Data.{Members}
@@ -19,7 +19,7 @@ send_step ranks ms = do
   tag_key ← required_number (codes "tag") ms
   body ← required_text (codes "body") ms
   comm_key ← optional_number (codes "comm") ms
-  keys ← only_keys (codes "op" ∷ codes "rank" ∷ codes "name" ∷ codes "if" ∷ codes "expect" ∷ codes "to" ∷ codes "tag" ∷ codes "body" ∷ codes "comm" ∷ []) ms
+  keys ← only_keys (op_keys op.Send) ms
   rank ← in_range 0 (ranks - 1) rank_key
   to ← in_range 0 7 to_key
   tag ← in_range 0 32767 tag_key
@@ -34,7 +34,7 @@ recv_step ranks ms = do
   tag_key ← optional_number (codes "tag") ms
   room_key ← optional_number (codes "room") ms
   comm_key ← optional_number (codes "comm") ms
-  keys ← only_keys (codes "op" ∷ codes "rank" ∷ codes "name" ∷ codes "if" ∷ codes "expect" ∷ codes "from" ∷ codes "tag" ∷ codes "room" ∷ codes "comm" ∷ []) ms
+  keys ← only_keys (op_keys op.Recv) ms
   rank ← in_range 0 (ranks - 1) rank_key
   from ← in_range_if_some 7 from_key
   tag ← in_range_if_some 32767 tag_key
@@ -43,11 +43,11 @@ recv_step ranks ms = do
   Ok (record { rank = rank; order = recv from tag room comm })
 
 -- the step of an op that names an earlier step of its rank, by its number or its name, and nothing else
-unfoldable pub step_on_req : (ℕ → Order) → ℕ → List Name → Members → Result PlannedStep Fault
-step_on_req order_on ranks names ms = do
+unfoldable pub step_on_req : Op → (ℕ → Order) → ℕ → List Name → Members → Result PlannedStep Fault
+step_on_req op order_on ranks names ms = do
   rank_key ← required_number (codes "rank") ms
   req_key ← required_reference (codes "req") ms
-  keys ← only_keys (codes "op" ∷ codes "rank" ∷ codes "name" ∷ codes "if" ∷ codes "expect" ∷ codes "req" ∷ []) ms
+  keys ← only_keys (op_keys op) ms
   rank ← in_range 0 (ranks - 1) rank_key
   req ← req_in names rank req_key
   Ok (record { rank = rank; order = order_on req })
@@ -59,7 +59,7 @@ probe_step ranks ms = do
   from_key ← optional_number (codes "from") ms
   tag_key ← optional_number (codes "tag") ms
   comm_key ← optional_number (codes "comm") ms
-  keys ← only_keys (codes "op" ∷ codes "rank" ∷ codes "name" ∷ codes "if" ∷ codes "expect" ∷ codes "from" ∷ codes "tag" ∷ codes "comm" ∷ []) ms
+  keys ← only_keys (op_keys op.Probe) ms
   rank ← in_range 0 (ranks - 1) rank_key
   from ← in_range_if_some 7 from_key
   tag ← in_range_if_some 32767 tag_key
@@ -72,18 +72,18 @@ mrecv_step ranks names ms = do
   rank_key ← required_number (codes "rank") ms
   req_key ← required_reference (codes "req") ms
   room_key ← optional_number (codes "room") ms
-  keys ← only_keys (codes "op" ∷ codes "rank" ∷ codes "name" ∷ codes "if" ∷ codes "expect" ∷ codes "req" ∷ codes "room" ∷ []) ms
+  keys ← only_keys (op_keys op.Mrecv) ms
   rank ← in_range 0 (ranks - 1) rank_key
   req ← req_in names rank req_key
   room ← in_range 0 1024 (unwrap_or room_key (pos 1024))
   Ok (record { rank = rank; order = mrecv req room })
 
 -- the step of an op that names a communicator, the world's where it is left out, and nothing else
-unfoldable pub step_on_comm : (ℕ → Order) → ℕ → Members → Result PlannedStep Fault
-step_on_comm order_on ranks ms = do
+unfoldable pub step_on_comm : Op → (ℕ → Order) → ℕ → Members → Result PlannedStep Fault
+step_on_comm op order_on ranks ms = do
   rank_key ← required_number (codes "rank") ms
   comm_key ← optional_number (codes "comm") ms
-  keys ← only_keys (codes "op" ∷ codes "rank" ∷ codes "name" ∷ codes "if" ∷ codes "expect" ∷ codes "comm" ∷ []) ms
+  keys ← only_keys (op_keys op) ms
   rank ← in_range 0 (ranks - 1) rank_key
   comm ← in_range 0 62 (unwrap_or comm_key (pos 0))
   Ok (record { rank = rank; order = order_on comm })
@@ -94,7 +94,7 @@ ack_step ranks ms = do
   rank_key ← required_number (codes "rank") ms
   count_key ← required_number (codes "count") ms
   comm_key ← optional_number (codes "comm") ms
-  keys ← only_keys (codes "op" ∷ codes "rank" ∷ codes "name" ∷ codes "if" ∷ codes "expect" ∷ codes "count" ∷ codes "comm" ∷ []) ms
+  keys ← only_keys (op_keys op.Ack) ms
   rank ← in_range 0 (ranks - 1) rank_key
   count ← in_range 0 8 count_key
   comm ← in_range 0 62 (unwrap_or comm_key (pos 0))
@@ -106,7 +106,7 @@ agree_step ranks ms = do
   rank_key ← required_number (codes "rank") ms
   flag_key ← required_number (codes "flag") ms
   comm_key ← optional_number (codes "comm") ms
-  keys ← only_keys (codes "op" ∷ codes "rank" ∷ codes "name" ∷ codes "if" ∷ codes "expect" ∷ codes "flag" ∷ codes "comm" ∷ []) ms
+  keys ← only_keys (op_keys op.Agree) ms
   rank ← in_range 0 (ranks - 1) rank_key
   flag ← in_range 0 4294967295 flag_key
   comm ← in_range 0 62 (unwrap_or comm_key (pos 0))
@@ -117,7 +117,7 @@ unfoldable pub note_step : ℕ → Members → Result PlannedStep Fault
 note_step ranks ms = do
   rank_key ← required_number (codes "rank") ms
   text_key ← required_text (codes "text") ms
-  keys ← only_keys (codes "op" ∷ codes "rank" ∷ codes "name" ∷ codes "if" ∷ codes "expect" ∷ codes "text" ∷ []) ms
+  keys ← only_keys (op_keys op.Note) ms
   rank ← in_range 0 (ranks - 1) rank_key
   text ← label_in text_key
   Ok (record { rank = rank; order = note text })
@@ -126,7 +126,7 @@ note_step ranks ms = do
 unfoldable pub stop_step : ℕ → Members → Result PlannedStep Fault
 stop_step ranks ms = do
   rank_key ← required_number (codes "rank") ms
-  keys ← only_keys (codes "op" ∷ codes "rank" ∷ codes "name" ∷ codes "if" ∷ codes "expect" ∷ []) ms
+  keys ← only_keys (op_keys op.Stop) ms
   rank ← in_range 0 (ranks - 1) rank_key
   Ok (record { rank = rank; order = stop })
 
@@ -139,15 +139,15 @@ known (Some op) = Ok op
 unfoldable pub step_of_op : ℕ → List Name → Op → Members → Result PlannedStep Fault
 step_of_op ranks names op.Send ms = send_step ranks ms
 step_of_op ranks names op.Recv ms = recv_step ranks ms
-step_of_op ranks names op.Wait ms = step_on_req wait ranks names ms
+step_of_op ranks names op.Wait ms = step_on_req op.Wait wait ranks names ms
 step_of_op ranks names op.Probe ms = probe_step ranks ms
 step_of_op ranks names op.Mrecv ms = mrecv_step ranks names ms
-step_of_op ranks names op.Cancel ms = step_on_req cancel ranks names ms
-step_of_op ranks names op.Failed ms = step_on_comm failed ranks ms
+step_of_op ranks names op.Cancel ms = step_on_req op.Cancel cancel ranks names ms
+step_of_op ranks names op.Failed ms = step_on_comm op.Failed failed ranks ms
 step_of_op ranks names op.Ack ms = ack_step ranks ms
-step_of_op ranks names op.Revoke ms = step_on_comm revoke ranks ms
-step_of_op ranks names op.Dup ms = step_on_comm dup ranks ms
-step_of_op ranks names op.Shrink ms = step_on_comm shrink ranks ms
+step_of_op ranks names op.Revoke ms = step_on_comm op.Revoke revoke ranks ms
+step_of_op ranks names op.Dup ms = step_on_comm op.Dup dup ranks ms
+step_of_op ranks names op.Shrink ms = step_on_comm op.Shrink shrink ranks ms
 step_of_op ranks names op.Agree ms = agree_step ranks ms
 step_of_op ranks names op.Note ms = note_step ranks ms
 step_of_op ranks names op.Stop ms = stop_step ranks ms

@@ -13,7 +13,7 @@ use crate::name::Name;
 use crate::placed::{Placed, ReadStep};
 use crate::ranges::{comm_in, from_if_some, rank_in, req_in, room_in, tag_if_some, tag_in, to_in};
 use toml::Table;
-use ulfm_job::{Fault, Step};
+use ulfm_job::{Fault, Op, Step};
 
 /// A `send`.
 #[tactic(auto, unfolding(crate::specs::StepText::send_step))]
@@ -27,12 +27,7 @@ pub fn send_of(ranks: u8, table: &Table) -> Result<Placed<'_>, Fault>
     let tag = required_number(table, "tag")?;
     let body = required_text(table, "body")?;
     let comm = optional_number(table, "comm")?;
-    only_keys(
-        table,
-        &[
-            "op", "rank", "name", "if", "expect", "to", "tag", "body", "comm",
-        ],
-    )?;
+    only_keys(table, Op::Send.keys())?;
     let rank = rank_in(ranks, rank)?;
     let to = to_in(to)?;
     let tag = tag_in(tag)?;
@@ -60,12 +55,7 @@ pub fn recv_of(ranks: u8, table: &Table) -> Result<Placed<'_>, Fault>
     let tag = optional_number(table, "tag")?;
     let room = optional_number(table, "room")?;
     let comm = optional_number(table, "comm")?;
-    only_keys(
-        table,
-        &[
-            "op", "rank", "name", "if", "expect", "from", "tag", "room", "comm",
-        ],
-    )?;
+    only_keys(table, Op::Recv.keys())?;
     let rank = rank_in(ranks, rank)?;
     let from = from_if_some(from)?;
     let tag = tag_if_some(tag)?;
@@ -87,17 +77,18 @@ pub fn recv_of(ranks: u8, table: &Table) -> Result<Placed<'_>, Fault>
 pub fn on_req<'a, F: FnOnce(u16) -> Step>(
     ranks: u8,
     names: &[Name],
+    op: Op,
     table: &'a Table,
     step_on: F,
 ) -> Result<Placed<'a>, Fault>
     requires some { 0 < ranks }
     requires callable { F.IsAlwaysCallable step_on }
-    ensures exact { (order_on : ℕ → Order) → ((req : ℕ) (s : SeenStep) → F.post step_on req s → order_of s ≡ order_on req) → map_ok planned result ≡ step_on_req order_on ranks names.now (table_view table.now) }
+    ensures exact { (order_on : ℕ → Order) → ((req : ℕ) (s : SeenStep) → F.post step_on req s → order_of s ≡ order_on req) → map_ok planned result ≡ step_on_req op order_on ranks names.now (table_view table.now) }
     ensures below { IfOk result (λ placed. placed.rank < ranks) }
 {
     let rank = required_number(table, "rank")?;
     let req = required_reference(table, "req")?;
-    only_keys(table, &["op", "rank", "name", "if", "expect", "req"])?;
+    only_keys(table, op.keys())?;
     let rank = rank_in(ranks, rank)?;
     let req = req_in(names, rank, &req)?;
     Ok(Placed {
@@ -117,10 +108,7 @@ pub fn probe_of(ranks: u8, table: &Table) -> Result<Placed<'_>, Fault>
     let from = optional_number(table, "from")?;
     let tag = optional_number(table, "tag")?;
     let comm = optional_number(table, "comm")?;
-    only_keys(
-        table,
-        &["op", "rank", "name", "if", "expect", "from", "tag", "comm"],
-    )?;
+    only_keys(table, Op::Probe.keys())?;
     let rank = rank_in(ranks, rank)?;
     let from = from_if_some(from)?;
     let tag = tag_if_some(tag)?;
@@ -141,10 +129,7 @@ pub fn mrecv_of<'a>(ranks: u8, names: &[Name], table: &'a Table) -> Result<Place
     let rank = required_number(table, "rank")?;
     let req = required_reference(table, "req")?;
     let room = optional_number(table, "room")?;
-    only_keys(
-        table,
-        &["op", "rank", "name", "if", "expect", "req", "room"],
-    )?;
+    only_keys(table, Op::Mrecv.keys())?;
     let rank = rank_in(ranks, rank)?;
     let req = req_in(names, rank, &req)?;
     let room = room_in(room)?;

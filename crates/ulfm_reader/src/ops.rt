@@ -21,17 +21,18 @@ use ulfm_job::{Fault, Op, Step};
 #[tactic(auto, unfolding(crate::specs::StepText::step_on_comm))]
 fn on_comm<F: FnOnce(Context) -> Step>(
     ranks: u8,
+    op: Op,
     table: &Table,
     step_on: F,
 ) -> Result<Placed<'_>, Fault>
     requires some { 0 < ranks }
     requires callable { F.IsAlwaysCallable step_on }
-    ensures exact { (order_on : ℕ → Order) → ((c : SeenContext) (s : SeenStep) → F.post step_on c s → order_of s ≡ order_on c.number) → map_ok planned result ≡ step_on_comm order_on ranks (table_view table.now) }
+    ensures exact { (order_on : ℕ → Order) → ((c : SeenContext) (s : SeenStep) → F.post step_on c s → order_of s ≡ order_on c.number) → map_ok planned result ≡ step_on_comm op order_on ranks (table_view table.now) }
     ensures below { IfOk result (λ placed. placed.rank < ranks) }
 {
     let rank = required_number(table, "rank")?;
     let comm = optional_number(table, "comm")?;
-    only_keys(table, &["op", "rank", "name", "if", "expect", "comm"])?;
+    only_keys(table, op.keys())?;
     let rank = rank_in(ranks, rank)?;
     let comm = comm_in(comm)?;
     Ok(Placed {
@@ -49,10 +50,7 @@ fn ack_of(ranks: u8, table: &Table) -> Result<Placed<'_>, Fault>
     let rank = required_number(table, "rank")?;
     let count = required_number(table, "count")?;
     let comm = optional_number(table, "comm")?;
-    only_keys(
-        table,
-        &["op", "rank", "name", "if", "expect", "count", "comm"],
-    )?;
+    only_keys(table, Op::Ack.keys())?;
     let rank = rank_in(ranks, rank)?;
     let count = in_range(count, 0, u32::from(MOST_RANKS))? as u8;
     let comm = comm_in(comm)?;
@@ -71,10 +69,7 @@ fn agree_of(ranks: u8, table: &Table) -> Result<Placed<'_>, Fault>
     let rank = required_number(table, "rank")?;
     let flag = required_number(table, "flag")?;
     let comm = optional_number(table, "comm")?;
-    only_keys(
-        table,
-        &["op", "rank", "name", "if", "expect", "flag", "comm"],
-    )?;
+    only_keys(table, Op::Agree.keys())?;
     let rank = rank_in(ranks, rank)?;
     let flag = flag_in(flag)?;
     let comm = comm_in(comm)?;
@@ -92,7 +87,7 @@ fn note_of(ranks: u8, table: &Table) -> Result<Placed<'_>, Fault>
 {
     let rank = required_number(table, "rank")?;
     let text = required_text(table, "text")?;
-    only_keys(table, &["op", "rank", "name", "if", "expect", "text"])?;
+    only_keys(table, Op::Note.keys())?;
     let rank = rank_in(ranks, rank)?;
     let text = label_in(text)?;
     Ok(Placed {
@@ -108,7 +103,7 @@ fn stop_of(ranks: u8, table: &Table) -> Result<Placed<'_>, Fault>
     ensures below { IfOk result (λ placed. placed.rank < ranks) }
 {
     let rank = required_number(table, "rank")?;
-    only_keys(table, &["op", "rank", "name", "if", "expect"])?;
+    only_keys(table, Op::Stop.keys())?;
     let rank = rank_in(ranks, rank)?;
     Ok(Placed {
         rank,
@@ -136,15 +131,15 @@ fn step_of_op<'a>(ranks: u8, names: &[Name], op: Op, table: &'a Table) -> Result
     match op {
         Op::Send => send_of(ranks, table),
         Op::Recv => recv_of(ranks, table),
-        Op::Wait => on_req(ranks, names, table, |req| Step::Wait { req }),
+        Op::Wait => on_req(ranks, names, op, table, |req| Step::Wait { req }),
         Op::Probe => probe_of(ranks, table),
         Op::Mrecv => mrecv_of(ranks, names, table),
-        Op::Cancel => on_req(ranks, names, table, |req| Step::Cancel { req }),
-        Op::Failed => on_comm(ranks, table, |comm| Step::Failed { comm }),
+        Op::Cancel => on_req(ranks, names, op, table, |req| Step::Cancel { req }),
+        Op::Failed => on_comm(ranks, op, table, |comm| Step::Failed { comm }),
         Op::Ack => ack_of(ranks, table),
-        Op::Revoke => on_comm(ranks, table, |comm| Step::Revoke { comm }),
-        Op::Dup => on_comm(ranks, table, |comm| Step::Dup { comm }),
-        Op::Shrink => on_comm(ranks, table, |comm| Step::Shrink { comm }),
+        Op::Revoke => on_comm(ranks, op, table, |comm| Step::Revoke { comm }),
+        Op::Dup => on_comm(ranks, op, table, |comm| Step::Dup { comm }),
+        Op::Shrink => on_comm(ranks, op, table, |comm| Step::Shrink { comm }),
         Op::Agree => agree_of(ranks, table),
         Op::Note => note_of(ranks, table),
         Op::Stop => stop_of(ranks, table),
