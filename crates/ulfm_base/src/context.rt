@@ -14,7 +14,7 @@ pub struct Context {
 }
 
 impl Context {
-    ghost use Rattle.ulfm_base.specs.Context.{shrink_of};
+    ghost use Rattle.ulfm_base.specs.Context.{dup_of, shrink_of};
 
     /// The context of the communicator of the world.
     pub const WORLD: Context = Context { number: 0 };
@@ -30,10 +30,31 @@ impl Context {
         }
     }
 
+    /// The number of the duplicate's context, `2c+1`, which may be past the last one.
+    pub fn dup_number(self) -> u8
+        ensures { result ≡ dup_of self.number }
+    {
+        2 * self.number + 1
+    }
+
+    /// The context of the duplicate of a communicator with this one, where there is one left.
+    pub fn dup_of(self) -> Option<Context>
+        ensures { MatchOption result (CONTEXTS ≤ dup_of self.number) (λ context. context.number ≡ dup_of self.number) }
+    {
+        Context::new(self.dup_number())
+    }
+
+    /// The number of the context of the communicator that a shrink makes, `2c+2`, which may be past the last one.
+    pub fn shrink_number(self) -> u8
+        ensures { result ≡ shrink_of self.number }
+    {
+        2 * self.number + 2
+    }
+
     /// The context of the communicator that a shrink of this one makes, `2c+2`, where it is a context.
     pub fn shrink_of(self) -> Option<Context>
         ensures { MatchOption result (CONTEXTS ≤ shrink_of self.number) (λ context. context.number ≡ shrink_of self.number) }
     {
-        Context::new(2 * self.number + 2)
+        Context::new(self.shrink_number())
     }
 }

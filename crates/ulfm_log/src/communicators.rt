@@ -71,7 +71,7 @@ impl Communicators {
         match decision.topic.purpose {
             Purpose::Shrink => {
                 let context = Context {
-                    number: 2 * decision.topic.context.number + 2,
+                    number: decision.topic.context.shrink_number(),
                 };
                 self.add(context, decision.fresh.copied());
             }

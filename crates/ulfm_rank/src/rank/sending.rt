@@ -119,11 +119,10 @@ impl Rank {
         if self.faults.is_revoked(comm.context) {
             return Err(CallError::Revoked);
         }
-        let number = 2 * comm.context.number + 1;
-        if self.communicators.is_made(number) {
+        if self.communicators.is_made(comm.context.dup_number()) {
             return Err(CallError::AlreadyMade);
         }
-        let context = Context::new(number).ok_or(CallError::NoContext)?;
+        let context = comm.context.dup_of().ok_or(CallError::NoContext)?;
         Ok((context, group.copied()))
     }
 }

@@ -90,7 +90,7 @@ impl Rank {
         self.adopt_on(topic, decision)?;
         Ok(Comm {
             context: Context {
-                number: 2 * comm.context.number + 2,
+                number: comm.context.shrink_number(),
             },
         })
     }
