@@ -2,7 +2,7 @@
 
 use crate::held::{Held, all_held, enters_behind, held_at};
 use crate::missed::{Missed, missed_step};
-use crate::{Remark, Wait, awaited, due_of, need_of, position_by};
+use crate::{Remark, Wait, WaitingStep, awaited, due_of, need_of, position_by};
 use std::alloc::Global;
 use ulfm_answer::StepAnswer;
 use ulfm_base::OutOfMemory;
@@ -164,16 +164,12 @@ fn wait_on(
         Some(missed) => Some(missed.step),
         None => due_of(given.need, given.position, job, s, source.steps()),
     };
-    let mut wait = Wait::of(
-        given.report.me().number,
-        given.step,
-        given.need,
-        s,
-        source.steps(),
-        false,
-        job.script(s),
-        due,
-    )?;
+    let waiting = WaitingStep {
+        rank: given.report.me().number,
+        step: given.step,
+        need: given.need,
+    };
+    let mut wait = Wait::of(&waiting, s, source.steps(), false, job.script(s), due)?;
     wait.remark = match missed {
         Some(missed) => Some(lateness(held, s, missed)),
         None => notice(given, source),

@@ -56,5 +56,5 @@ pub use parcel::Parcel;
 pub use remark::Remark;
 pub use replaying::replayed;
 pub use schedule::{Schedule, push_schedule};
-pub use wait::Wait;
+pub use wait::{Wait, WaitingStep};
 pub use wait_words::{push_bringing, push_named, push_needed, push_wait};

@@ -27,32 +27,41 @@ pub struct Wait {
     pub remark: Option<Remark>,
 }
 
+/// A step that waits for something.
+#[derive(Clone, Copy)]
+pub struct WaitingStep<'a> {
+    /// Its rank.
+    pub rank: u8,
+    /// Its number, from 0.
+    pub step: usize,
+    /// What it asks for; of a wait, the receive that it names.
+    pub need: &'a Step,
+}
+
 impl Wait {
-    /// What the rank `r` waits for by its step `k`, which needs this, of the rank `s`, and which step of `s` would bring it, if one would: its
-    /// answer is among those of `s`, else it is the one that stands open there, or isn't reached.
+    /// What a step waits for of the rank `s`, and which step of `s` would bring it, if one would: its answer is among those of `s`, else it is
+    /// the one that stands open there, or isn't reached.
     ///
     /// # Errors
     ///
-    /// `AllocError` where a growth was refused, or `need` is no step that waits for something.
+    /// `AllocError` where a growth was refused, or what it asks for is nothing to wait for.
     #[tactic(auto, using(crate::proofs::Waiting::wait_is))]
     pub fn of(
-        r: u8,
-        k: usize,
-        need: &Step,
+        waiting: &WaitingStep<'_>,
         s: u8,
         done: &[StepReport],
         is_open: bool,
         script: &[Step],
         due: Option<usize>,
     ) -> Result<Wait, AllocError>
-        ensures { IfOk result (λ wait. wait_text wait ≡ wait_words r k need.now s done.now is_open script.now due ++ codes "\n") }
+        ensures { IfOk result (λ wait. wait_text wait ≡ wait_words waiting.now.rank waiting.now.step waiting.now.need.now s done.now is_open script.now due ++ codes "\n") }
     {
-        let Some(need) = Need::of(need) else {
+        let Some(need) = Need::of(waiting.need) else {
             return Err(AllocError);
         };
         Ok(Wait {
-            rank: r,
-            step: k,
+            rank: waiting.rank,
+            step: waiting.step,
             need,
             on: s,
             bearer: bearer_of(s, done, is_open, script, due)?,
