@@ -91,7 +91,7 @@ pub record HasRings (e : LaneEnds) : Type 0 where
   pub empty : e.left.items ≡ []
   pub room : sum (map inlet_capacity e.ins.items) ≤ vec_capacity e.left
 
--- The same, with room for a list of inboxes. The ring from the rank to itself is one ring at both ends.
+-- An end with its rings, and with room for a list of inboxes. The ring from the rank to itself is one ring at both ends.
 pub record IsReady (e : LaneEnds) : Type 0 where
   pub rings : HasRings e
   pub own_ring : slice_get (map outlet_name e.outs.items) e.me.number ≡ slice_get (map inlet_name e.ins.items) e.me.number

@@ -65,8 +65,9 @@ pub data IsOutcomesReply (form : Form) (choice : ChoiceView) (options : ListOpti
 abbrev pub goals_asked : Asked → List ℕ → Result (List Clause) (List ℕ)
 goals_asked asked show = goals_of (reading_as asked) show
 
--- The same by `--show`: with 0 a schedule of the job with all answers that the text names, or a picture with `--draw`, with 8 that no schedule has them, with 7 that
--- there are more states than the limit; with 1 the first part of the text that names no answer of the job, or that the job is refused.
+-- The status and the text that `outcomes --show` gives: with 0 a schedule of the job with all answers that the text names, or a picture with
+-- `--draw`, with 8 that no schedule has them, with 7 that there are more states than the limit; with 1 the first part of the text that names no
+-- answer of the job, or that the job is refused.
 pub data IsShowReply (form : Form) (options : ListOptions) (show bytes : List ℕ) : ℕ → List ℕ → Type 0 where
   shown : (asked : Asked) (answers : List Clause) → IsAskedAt options.place bytes asked → goals_asked asked show ≡ Ok answers → (goals : Goals) → AreOfClauses asked.job answers goals
       → (schedule : Schedule) (text : List ℕ) → IsTold asked.job goals options.is_brief options.limit (told.Schedule schedule)

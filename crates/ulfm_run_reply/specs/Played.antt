@@ -61,8 +61,9 @@ pub record ShowNoRoom (job : JobView) (reports : List Report) : Type 0 where
   pub own : AreOfRanks job lawful.inboxes
   pub crowded : HaveRoom reports job.capacity → AreWithin lawful.inboxes job.capacity → ⊥
 
--- The same for `run`: with 0, 6 or 9, the trace of reports that are lawful for the job and had room, whichever thread went when; with 3
--- the line of what failed. F2 comes for a good job alone, and F4 only with reports of the job's ranks that show it. With `--repeat` each distinct trace of so many such runs comes once with its count, and with `--brief` each distinct line.
+-- The status and the text that `run` gives: with 0, 6 or 9, the trace of reports that are lawful for the job and had room, whichever thread
+-- went when; with 3 the line of what failed. F2 comes for a good job alone, and F4 only with reports of the job's ranks that show it. With
+-- `--repeat` each distinct trace of so many such runs comes once with its count, and with `--brief` each distinct line.
 pub data IsRunReply (form : Form) (options : RunOptions) (bytes : List ℕ) : ℕ → List ℕ → Type 0 where
   ran : (asked : Asked) (reports : List Report) → options.repeat ≡ None → IsAskedAt options.place bytes asked
       → AreOfRun (given_turns options.turns asked.job) reports
