@@ -227,14 +227,12 @@ impl Cause {
             ),
             Cause::OfWait(key, words) => Line::Six(
                 "key '{}' has '{}', and no answer of '{}' begins so, but one of its '{}': ask that step; the answers of '{}' begin with {}",
-                [
-                    Part::Key(*key),
-                    Part::Text(words.as_str()),
-                    Part::Op(Op::Recv),
-                    Part::Op(Op::Wait),
-                    Part::Op(Op::Recv),
-                    Part::Beginnings(Op::Recv, *key),
-                ],
+                Part::Key(*key),
+                Part::Text(words.as_str()),
+                Part::Op(Op::Recv),
+                Part::Op(Op::Wait),
+                Part::Op(Op::Recv),
+                Part::Beginnings(Op::Recv, *key),
             ),
             Cause::NoRow(fault) => fault.line(),
             Cause::Rows(count) => Line::Two(

@@ -44,7 +44,7 @@ pub enum Line<'a> {
     Two(&'static str, Part<'a>, Part<'a>),
     Three(&'static str, Part<'a>, Part<'a>, Part<'a>),
     Four(&'static str, Part<'a>, Part<'a>, Part<'a>, Part<'a>),
-    Six(&'static str, [Part<'a>; 6]),
+    Six(&'static str, Part<'a>, Part<'a>, Part<'a>, Part<'a>, Part<'a>, Part<'a>),
 }
 
 impl fmt::Display for Line<'_> {
@@ -57,7 +57,9 @@ impl fmt::Display for Line<'_> {
             Line::Four(text, one, two, three, four) => {
                 write_parts(f, text, &[one, two, three, four])
             }
-            Line::Six(text, parts) => write_parts(f, text, &parts),
+            Line::Six(text, one, two, three, four, five, six) => {
+                write_parts(f, text, &[one, two, three, four, five, six])
+            }
         }
     }
 }
