@@ -118,10 +118,10 @@ uint32_t um_make_ranks(void) {
 }
 
 /* The time is over: says so, and ends the run. */
-void um_tell_late(void) {
+void um_tell_late(enum moment moment) {
     um_begin_report();
     fprintf(stderr, "ulfm-mpirun: the time is over after %g seconds:\n", um_options.timeout);
-    um_tell_places(true);
+    um_tell_places(moment);
     um_write_rests(true);
     um_tell_table("late\n");
     um_end_run(STATUS_LATE);
@@ -136,7 +136,7 @@ static void wait_for_ends(void) {
     until.tv_nsec = (long)((at - (double)until.tv_sec) * 1e9);
     pthread_mutex_lock(&end_lock);
     while (ended_count < um_options.ranks)
-        if (pthread_cond_timedwait(&end_came, &end_lock, &until) == ETIMEDOUT) um_tell_late();
+        if (pthread_cond_timedwait(&end_came, &end_lock, &until) == ETIMEDOUT) um_tell_late(TIME_IS_OVER);
     pthread_mutex_unlock(&end_lock);
     for (int k = 0; k < um_options.ranks; k++) pthread_join(um_ranks[k].thread.id, 0);
 }

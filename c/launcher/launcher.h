@@ -4,7 +4,7 @@
 #define UM_LAUNCHER_H
 
 #include "launcher/options.h"
-#include "progress/rank.h"
+#include "progress/progress.h"
 
 /* alone.c */
 bool um_begin_alone(void);
@@ -13,7 +13,7 @@ bool um_begin_alone(void);
 void um_prepare_rank(struct rank *rank, int number);
 uint32_t um_make_ranks(void);
 void um_live(void);
-void um_tell_late(void) __attribute__((noreturn));
+void um_tell_late(enum moment moment) __attribute__((noreturn));
 int um_close_run(void);
 int ulfm_mpirun(int count, char **words);
 

@@ -43,7 +43,7 @@ void um_fix_addresses(char **words) {
 
 static void count_alarm(int number) {
     (void)number;
-    if (++alarms > 1) um_tell_late(); /* a rank doesn't come to its next call */
+    if (++alarms > 1 && um_can_report()) um_tell_late(RANK_RUNS); /* a rank doesn't come to its next call */
 }
 
 /* From the end of the time on, a signal each second. */
@@ -99,7 +99,7 @@ static void play_schedule(void) {
         um_perform(&choices[choice]);
         if (um_is_searching() && !um_note_step()) break;
         has_room = !um_footprints || um_step < MOST_STEPS - 1;
-        if (alarms) um_tell_late();
+        if (alarms) um_tell_late(TIME_IS_OVER);
     }
     if (um_is_searching() && um_cut_of_search() != NOT_CUT) return;
     if (!has_room) um_tell_table("long\n");

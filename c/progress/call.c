@@ -30,6 +30,13 @@ void um_name_comm(struct comm *comm, const char *name) {
     pthread_mutex_unlock(&um_me->call_lock);
 }
 
+/* Whether this thread was interrupted while the rank changes its call: it would wait for itself. */
+bool um_is_changing_call(struct rank *rank) {
+    if (pthread_mutex_trylock(&rank->call_lock)) return true;
+    pthread_mutex_unlock(&rank->call_lock);
+    return false;
+}
+
 /* By any thread: the call, and what is told of its communicator. */
 struct sight um_look_at_call(struct rank *rank) {
     struct sight sight = {0};

@@ -63,9 +63,9 @@ void um_note_failures(void) {
     um_me->recovery.known_count = __builtin_popcount(bits);
 }
 
-/* What a rank knows of failures when the time is over. */
-static const char *failures_of(struct rank *rank, char *text, size_t room) {
-    uint32_t bits = um_is_played ? known_by(rank) : atomic_load(&rank->recovery.known);
+/* What a rank knows of failures when the time is over. Where a rank of a run that is played runs, it may be inside the engine, which isn't asked then. */
+static const char *failures_of(struct rank *rank, enum moment moment, char *text, size_t room) {
+    uint32_t bits = !um_is_played ? atomic_load(&rank->recovery.known) : moment == RANK_RUNS ? 0 : known_by(rank);
     size_t used = 0;
     *text = 0;
     for (int k = 0; k < um_options.ranks; k++)
@@ -74,7 +74,7 @@ static const char *failures_of(struct rank *rank, char *text, size_t room) {
     return text;
 }
 
-static void tell_place(struct rank *rank, bool is_late) {
+static void tell_place(struct rank *rank, enum moment moment) {
     char line[256], name[128], peer[128] = "", failures[96] = "";
     struct sight sight = um_look_at_call(rank);
     const struct call *call = &sight.call;
@@ -89,31 +89,39 @@ static void tell_place(struct rank *rank, bool is_late) {
         fprintf(stderr, "%s\n", rank->life.has_finalized ? "has finalized" : "has made no call");
         return;
     }
-    if (is_late) failures_of(rank, failures, sizeof failures);
+    if (moment != NOBODY_MOVES) failures_of(rank, moment, failures, sizeof failures);
     um_tell_table("at %d %s%s\n", rank->number, call->name, failures);
     tell_peer(rank, &sight, peer, sizeof peer);
     fprintf(stderr, "%s %s%s%s%s (call %d)%s\n",
-            rank->played.loops  ? "loops over"
-            : rank->shared.idle ? "waits in"
-                                : "runs, after",
+            moment == NOBODY_MOVES && rank->played.loops ? "loops over"
+            : rank->shared.idle                          ? "waits in"
+                                                         : "runs, after",
             call->name, peer, name_of(&sight, name, sizeof name), line, rank->plan.calls, failures);
 }
 
-void um_tell_places(bool is_late) {
-    for (int k = 0; k < um_options.ranks; k++) tell_place(&um_ranks[k], is_late);
+void um_tell_places(enum moment moment) {
+    for (int k = 0; k < um_options.ranks; k++) tell_place(&um_ranks[k], moment);
 }
 
+static pthread_mutex_t report = PTHREAD_MUTEX_INITIALIZER;
+
 /* What ends the run is told once: who comes second waits for that end. */
-void um_begin_report(void) {
-    static pthread_mutex_t lock = PTHREAD_MUTEX_INITIALIZER;
-    pthread_mutex_lock(&lock);
+void um_begin_report(void) { pthread_mutex_lock(&report); }
+
+/* Whether a signal that interrupts a run that is played can report: it holds none of the locks that a report takes. */
+bool um_can_report(void) {
+    if (pthread_mutex_trylock(&report)) return false;
+    pthread_mutex_unlock(&report);
+    for (int k = 0; k < um_options.ranks; k++)
+        if (um_is_changing_call(&um_ranks[k])) return false;
+    return true;
 }
 
 /* Nobody can move: says so, and ends the run. */
 void um_tell_stuck(void) {
     um_begin_report();
     fprintf(stderr, "ulfm-mpirun: nobody can move any more:\n");
-    um_tell_places(false);
+    um_tell_places(NOBODY_MOVES);
     um_write_rests(true);
     bool loops = false;
     for (int k = 0; k < um_options.ranks; k++) loops = loops || um_ranks[k].played.loops;

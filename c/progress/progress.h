@@ -57,13 +57,17 @@ void um_set_awaited(uint32_t ranks);
 void um_forget_comm(void);
 void um_name_comm(struct comm *comm, const char *name);
 struct sight um_look_at_call(struct rank *rank);
+bool um_is_changing_call(struct rank *rank);
 
 /* line.c, hang.c */
 char *um_line_before(const void *at, char *text, size_t room);
 char *um_line_of(const struct call *call, char *text, size_t room);
+/* When places are told: nobody can move; the time is over; or it is, and a rank of a run that is played doesn't come to its next call. */
+enum moment { NOBODY_MOVES, TIME_IS_OVER, RANK_RUNS };
+bool um_can_report(void);
 void um_begin_report(void);
 void um_note_failures(void);
-void um_tell_places(bool is_late);
+void um_tell_places(enum moment moment);
 void um_tell_stuck(void);
 
 /* plan.c */
