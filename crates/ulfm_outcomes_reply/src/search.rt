@@ -9,7 +9,7 @@ use ulfm_command_line::{Choice, ListOptions};
 use ulfm_forms::Form;
 use ulfm_job::Job;
 use ulfm_outcomes_list::{Goals, Told};
-use ulfm_outcomes_spec::Finder;
+use ulfm_outcomes_spec::{Finder, Query};
 use ulfm_reach::{Reach, Watch};
 
 /// What a command looks by for outcomes and schedules.
@@ -53,9 +53,11 @@ impl<F: Finder> Search<'_, F> {
     ) -> Result<Option<Told>, OutOfMemory>
         ensures { IfOk result (IsLook job.now goals.now self.now.options.is_brief self.now.options.limit) }
     {
-        let limit = self.options.limit as usize;
-        let is_brief = self.options.is_brief;
-        self.finder
-            .show(self.alloc, job, goals, is_brief, limit, watch)
+        let query = Query {
+            goals,
+            is_brief: self.options.is_brief,
+            limit: self.options.limit as usize,
+        };
+        self.finder.show(self.alloc, job, &query, watch)
     }
 }

@@ -6,10 +6,11 @@ ghost use Rattle.std.specs.Prelude.{IfOk};
 ghost use Rattle.ulfm_outcomes_spec.specs.Outcomes.{IsList};
 ghost use Rattle.ulfm_outcomes_spec.specs.Told.{IsLook};
 
+use crate::query::Query;
 use std::alloc::Global;
 use ulfm_base::OutOfMemory;
 use ulfm_job::Job;
-use ulfm_outcomes_list::{Goals, Told};
+use ulfm_outcomes_list::Told;
 use ulfm_reach::{Reach, Watch};
 
 /// Finds what the steps of a job may be answered, and schedules that show answers. `ulfm_outcomes` has the one of the program. What is
@@ -30,9 +31,9 @@ pub trait Finder {
     ) -> Result<Reach, OutOfMemory>
         ensures { IfOk result (λ reach. IsList job.now limit reach) };
 
-    /// A schedule of a job in which all of these hold: its events, the trace that it leaves, and what steps wait for that are to stand open
-    /// for ever. Or that there are more worlds than the limit in which they don't hold; nothing where no schedule of the job has
-    /// all of these. In brief, without any one of its events the others aren't such a schedule. `watch` is told how far it is.
+    /// A schedule of a job in which all that it is asked for holds: its events, the trace that it leaves, and what steps wait for that are to
+    /// stand open for ever. Or that there are more worlds than the limit in which it doesn't hold; nothing where no schedule of the job has
+    /// all of it. `watch` is told how far it is.
     ///
     /// # Errors
     ///
@@ -41,10 +42,8 @@ pub trait Finder {
         &self,
         alloc: Global,
         job: &Job,
-        goals: &Goals,
-        is_brief: bool,
-        limit: usize,
+        query: &Query<'_>,
         watch: &mut W,
     ) -> Result<Option<Told>, OutOfMemory>
-        ensures { IfOk result (IsLook job.now goals.now is_brief limit) };
+        ensures { IfOk result (IsLook job.now query.now.goals.now query.now.is_brief query.now.limit) };
 }

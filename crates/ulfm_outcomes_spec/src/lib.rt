@@ -29,14 +29,16 @@
 //!
 //! Files:
 //!
-//! - `finder.rt`: [`Finder`], with the two contracts on which replies rest; `unmet.rt`: [`first_unmet`]
+//! - `finder.rt`: [`Finder`], with the two contracts on which replies rest; `query.rt`: what it is asked for; `unmet.rt`: [`first_unmet`]
 //!
 //! Not here: the search that meets these contracts (`ulfm_outcomes`). Replies are proved over [`Finder`], and so beside that search, not after it.
 //! The program has one finder, which `main` alone names.
 #![tactic(auto)]
 
 mod finder;
+mod query;
 mod unmet;
 
 pub use finder::Finder;
+pub use query::Query;
 pub use unmet::first_unmet;
