@@ -44,6 +44,19 @@ impl<E: Ends, D: Decider> Promise<Ran<E, D>> for Begun<E, D> {
     ghost kept_by = { λ p r. IsPlayed E.name E.place E.count E.pushed E.taken E.ready p.job.value p.end.value r.report r.end × (D.board r.decider ≡ D.board p.decider.value) × AnswersFollow (D.known r.decider) r.report };
 }
 
+/// What the threads of a job's ranks share.
+#[derive(Drop)]
+struct Shared<'s, R> {
+    /// Who starts them, and lets them wait.
+    rt: &'s R,
+    /// Where they grow.
+    alloc: Global,
+    /// The job that they play.
+    job: &'s Job,
+    /// How many of them have finished.
+    finished: &'s Finished,
+}
+
 /// A rank that goes to work, with room for the answers of its steps.
 fn new_worker<E: Ends, D: Decider>(
     alloc: Global,
@@ -75,9 +88,7 @@ fn new_worker<E: Ends, D: Decider>(
 /// Starts a rank's thread. Nothing: no thread could be started.
 fn start<'s, X: 's, E, D, R>(
     scope: &Scope<'s, X>,
-    rt: &'s R,
-    job: &'s Job,
-    finished: &'s Finished,
+    shared: &Shared<'s, R>,
     me: u8,
     worker: Worker<E, D>,
 ) -> Option<PromisedHandle<Ran<E, D>, Begun<E, D>>>
@@ -86,10 +97,13 @@ where
     D: Decider + Send + 's,
     R: Threads + Wait + Sync,
     requires place { E.place worker.end ≡ me }
-    requires at_work { IsAtWork E.place E.count E.pushed E.taken E.ready job.now me worker.player worker.end }
+    requires at_work { IsAtWork E.place E.count E.pushed E.taken E.ready shared.now.job.now me worker.player worker.end }
     requires honest { AnswersFollowSoFar (D.known worker.decider) worker.player.player }
-    ensures { IfSome result (λ h. (h.promise.job.value ≡ job.now) × (h.promise.end.value ≡ worker.end) × (h.promise.decider.value ≡ worker.decider)) }
+    ensures { IfSome result (λ h. (h.promise.job.value ≡ shared.now.job.now) × (h.promise.end.value ≡ worker.end) × (h.promise.decider.value ≡ worker.decider)) }
 {
+    let rt = shared.rt;
+    let job = shared.job;
+    let finished = shared.finished;
     let begun = Begun {
         job: Snapshot::of(job),
         end: Snapshot::of(&worker.end),
@@ -103,10 +117,7 @@ where
 /// Makes a rank ready, and starts its thread.
 fn start_rank<'s, X: 's, E, D, R>(
     scope: &Scope<'s, X>,
-    rt: &'s R,
-    alloc: Global,
-    job: &'s Job,
-    finished: &'s Finished,
+    shared: &Shared<'s, R>,
     end: E,
     decider: D,
 ) -> Result<PromisedHandle<Ran<E, D>, Begun<E, D>>, Unplayed>
@@ -114,12 +125,12 @@ where
     E: Ends + Send + 's,
     D: Decider + Send + 's,
     R: Threads + Wait + Sync,
-    requires fresh { IsFresh E.count E.pushed E.taken E.ready job.now.ranks end }
-    ensures { IfOk result (λ h. (h.promise.job.value ≡ job.now) × (h.promise.end.value ≡ end) × (h.promise.decider.value ≡ decider)) }
+    requires fresh { IsFresh E.count E.pushed E.taken E.ready shared.now.job.now.ranks end }
+    ensures { IfOk result (λ h. (h.promise.job.value ≡ shared.now.job.now) × (h.promise.end.value ≡ end) × (h.promise.decider.value ≡ decider)) }
 {
     let me = end.me().number;
-    let worker = new_worker(alloc, job, end, decider)?;
-    match start(scope, rt, job, finished, me, worker) {
+    let worker = new_worker(shared.alloc, shared.job, end, decider)?;
+    match start(scope, shared, me, worker) {
         Some(handle) => Ok(handle),
         None => Err(Unplayed::NoThread),
     }
@@ -128,10 +139,7 @@ where
 /// Starts a thread for each rank, in order, as far as that can be done: once it is seen that ends and deciders fit the job.
 fn start_all<'s, X: 's, E, D, R>(
     scope: &Scope<'s, X>,
-    rt: &'s R,
-    alloc: Global,
-    job: &'s Job,
-    finished: &'s Finished,
+    shared: &Shared<'s, R>,
     ends: Vec<E>,
     deciders: Vec<D>,
     handles: Vec<PromisedHandle<Ran<E, D>, Begun<E, D>>>,
@@ -144,11 +152,11 @@ where
     D: Decider + Send + 's,
     R: Threads + Wait + Sync,
     requires room { (handles.items ≡ []) × (vec_len ends ≤ vec_capacity handles) }
-    requires fits { Fits E.place job.now ends.items deciders.items }
-    requires fresh { EachFresh E.count E.pushed E.taken E.ready job.now.ranks ends.items }
+    requires fits { Fits E.place shared.now.job.now ends.items deciders.items }
+    requires fresh { EachFresh E.count E.pushed E.taken E.ready shared.now.job.now.ranks ends.items }
     ensures ends { OnOk result.1 (begun_ends result.0.items ≡ ends.items) }
     ensures deciders { OnOk result.1 ((rest : _) × (begun_deciders result.0.items ++ rest ≡ deciders.items)) }
-    ensures jobs { All (IsOfJob job.now) result.0.items }
+    ensures jobs { All (IsOfJob shared.now.job.now) result.0.items }
 {
     let mut handles = handles;
     let mut deciders = deciders.into_iter();
@@ -156,7 +164,7 @@ where
         let Some(decider) = deciders.next() else {
             unreachable!();
         };
-        match start_rank(scope, rt, alloc, job, finished, end, decider) {
+        match start_rank(scope, shared, end, decider) {
             Ok(handle) => handles.push_reserved(handle),
             Err(fault) => return (handles, Err(fault)),
         }
@@ -167,10 +175,7 @@ where
 /// Starts all ranks in a scope, and joins them. What they give back stands in rank order.
 fn run_in<'s, X: 's, E, D, R>(
     scope: &Scope<'s, X>,
-    rt: &'s R,
-    alloc: Global,
-    job: &'s Job,
-    finished: &'s Finished,
+    shared: &Shared<'s, R>,
     ends: Vec<E>,
     deciders: Vec<D>,
 ) -> Result<Vec<Ran<E, D>>, Unplayed>
@@ -178,23 +183,23 @@ where
     E: Ends + Send + 's,
     D: Decider + Send + 's,
     R: Threads + Wait + Sync,
-    requires fits { Fits E.place job.now ends.items deciders.items }
-    requires fresh { EachFresh E.count E.pushed E.taken E.ready job.now.ranks ends.items }
-    ensures played { IfOk result (λ ran. WerePlayed E.name E.place E.count E.pushed E.taken E.ready D.board job.now ends.items deciders.items ran.items) }
+    requires fits { Fits E.place shared.now.job.now ends.items deciders.items }
+    requires fresh { EachFresh E.count E.pushed E.taken E.ready shared.now.job.now.ranks ends.items }
+    ensures played { IfOk result (λ ran. WerePlayed E.name E.place E.count E.pushed E.taken E.ready D.board shared.now.job.now ends.items deciders.items ran.items) }
     ensures answers { IfOk result (λ ran. All (GaveAnswers D.known) ran.items) }
 {
-    let Ok(handles) = Vec::with_capacity(alloc, ends.len()) else {
+    let Ok(handles) = Vec::with_capacity(shared.alloc, ends.len()) else {
         return Err(Unplayed::OutOfMemory);
     };
-    let (handles, started) = start_all(scope, rt, alloc, job, finished, ends, deciders, handles);
-    match thread::join_promised(rt, handles) {
+    let (handles, started) = start_all(scope, shared, ends, deciders, handles);
+    match thread::join_promised(shared.rt, handles) {
         Ok(ran) => match started {
             Ok(()) => Ok(ran),
             Err(fault) => Err(fault),
         },
         Err(refused) => {
             for handle in refused.value {
-                drop(handle.join(rt));
+                drop(handle.join(shared.rt));
             }
             match started {
                 Ok(()) => Err(Unplayed::OutOfMemory),
@@ -238,6 +243,14 @@ where
             requires fresh { EachFresh E.count E.pushed E.taken E.ready job.now.ranks ends.items }
             ensures played { IfOk result (λ ran. WerePlayed E.name E.place E.count E.pushed E.taken E.ready D.board job.entry.now ends.items deciders.items ran.items) }
             ensures answers { IfOk result (λ ran. All (GaveAnswers D.known) ran.items) }
-        { run_in(scope, rt, alloc, job, finished, ends, deciders) },
+        {
+            let shared = Shared {
+                rt,
+                alloc,
+                job,
+                finished,
+            };
+            run_in(scope, &shared, ends, deciders)
+        },
     )
 }

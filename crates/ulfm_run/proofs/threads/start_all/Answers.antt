@@ -12,7 +12,7 @@ loop-end-init g c =
       ends = ap (λ l. begun_ends l ++ into_iter_items c.into_iter-end-iterator.result) c.requires.room.0 ∙ items.0;
       deciders = ap (λ l. begun_deciders l ++ into_iter_items c.into_iter-deciders.result) c.requires.room.0 ∙ c.into_iter-deciders.ensures.rest;
       fresh = λ k e here. c.requires.fresh k e (ap (λ l. slice_get l k) (sym items.0) ∙ here);
-      jobs = subst (All (IsOfJob c.args.job.now)) (sym c.requires.room.0) (All-nil (IsOfJob c.args.job.now));
+      jobs = subst (All (IsOfJob c.args.shared.now.job.now)) (sym c.requires.room.0) (All-nil (IsOfJob c.args.shared.now.job.now));
     }
 
 pub start_rank-requires-clause-fresh : goal.start_rank-requires-clause-fresh
@@ -27,5 +27,5 @@ loop-end-preserved g c =
       ends = handed begun_end c.loop-end.handles.items c.in-Ok.handle was.ends ends.0 more c.in-Ok.ensures.1;
       deciders = handed begun_decider c.loop-end.handles.items c.in-Ok.handle was.deciders c.in-Some-next.ensures.items more c.in-Ok.ensures.2;
       fresh = fresh_rest g.E.Ends.count g.E.Ends.pushed g.E.Ends.taken g.E.Ends.ready was.fresh ends.0;
-      jobs = subst (All (IsOfJob c.args.job.now)) (sym more) (All-push (IsOfJob c.args.job.now) c.loop-end.handles.items c.in-Ok.handle was.jobs c.in-Ok.ensures.0);
+      jobs = subst (All (IsOfJob c.args.shared.now.job.now)) (sym more) (All-push (IsOfJob c.args.shared.now.job.now) c.loop-end.handles.items c.in-Ok.handle was.jobs c.in-Ok.ensures.0);
     }

@@ -8,6 +8,6 @@ invariant-loop-end g l = record {
   enough : into_iter_len l.end-iterator ≤ into_iter_len l.deciders;
   ends : begun_ends l.handles.items ++ into_iter_items l.end-iterator ≡ l.fn.ends.items;
   deciders : begun_deciders l.handles.items ++ into_iter_items l.deciders ≡ l.fn.deciders.items;
-  fresh : EachFresh g.E.Ends.count g.E.Ends.pushed g.E.Ends.taken g.E.Ends.ready l.job.ranks (into_iter_items l.end-iterator);
-  jobs : All (IsOfJob l.job) l.handles.items;
+  fresh : EachFresh g.E.Ends.count g.E.Ends.pushed g.E.Ends.taken g.E.Ends.ready l.shared.job.now.ranks (into_iter_items l.end-iterator);
+  jobs : All (IsOfJob l.shared.job.now) l.handles.items;
 }
