@@ -66,12 +66,10 @@ fn cell(
         let outcome = outcome(alloc, picture, number, row)?;
         return format!(in alloc; "{subject}: {outcome}");
     }
-    for arrow in &picture.arrows {
-        if arrow.end == Some(number) {
-            return format!(in alloc; "<- {} {subject}", arrow.from);
-        }
+    match picture.sender(number) {
+        Some(from) => format!(in alloc; "<- {from} {subject}"),
+        None => Ok(subject),
     }
-    Ok(subject)
 }
 
 /// How many letters each column has.

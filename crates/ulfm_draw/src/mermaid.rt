@@ -37,7 +37,7 @@ fn push_row(
     let rank = row.rank;
     let subject = escaped(alloc, subject(alloc, row)?.as_str())?;
     if let Some(kind) = row.taken {
-        let from = sender(picture, number);
+        let from = picture.sender(number).unwrap_or(0);
         let arrow = arrow_of(kind);
         return write!(out, "    r{from}{arrow}r{rank}: {subject}\n");
     }
@@ -118,16 +118,6 @@ fn push_lost(out: &mut String, picture: &Picture<'_>, number: usize) -> Result<(
         }
     }
     Ok(())
-}
-
-/// Who sent what a row took.
-fn sender(picture: &Picture<'_>, number: usize) -> usize {
-    for arrow in &picture.arrows {
-        if arrow.end == Some(number) {
-            return arrow.from;
-        }
-    }
-    0
 }
 
 /// The arrow of a kind of items.

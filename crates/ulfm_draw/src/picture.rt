@@ -97,6 +97,12 @@ impl<'a> Picture<'a> {
             || (self.has_stopped(arrow.from) && !self.has_stopped(arrow.to))
     }
 
+    /// Who sent what a row took.
+    pub(crate) fn sender(&self, row: usize) -> Option<usize> {
+        let arrow = self.arrows.iter().find(|arrow| arrow.end == Some(row))?;
+        Some(arrow.from)
+    }
+
     /// Whether something of a row hangs in the air.
     pub(crate) fn hangs_at(&self, row: usize) -> bool {
         for arrow in &self.arrows {

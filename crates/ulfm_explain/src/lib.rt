@@ -1,8 +1,9 @@
 //! The words of standard error, for people: what is wrong with a job's text, and where, and what else is to be said beside a reply.
 //!
 //!     for explanation in explain(alloc, bytes)? { .. }
-//!     write_verdict(alloc, has_colour, &reply, &mut errors);
-//!     write_notes(alloc, wanted, stop, bytes, &reply, &mut errors);
+//!     write_verdict(alloc, has_colour, remarks, &mut errors);
+//!     write_reasons(alloc, wanted, stop, bytes, &body, &mut errors);
+//!     write_notes(alloc, wanted, bytes, remarks, &mut errors);
 //!     write_fault(alloc, usage, &mut errors);
 //!
 //! It promises one thing: [`explain`], which tells why a job is refused, and [`warnings`], which tells what of a good one will be refused, give ten
@@ -73,7 +74,7 @@ pub use check::explain;
 pub use excerpt::Shown;
 pub use explanation::{Explanation, StepPlace};
 pub use kind::Kind;
-pub use notes::{write_fault, write_notes, write_verdict};
+pub use notes::{write_fault, write_notes, write_past_limit, write_reasons, write_verdict};
 pub use place::Place;
 pub use refusal_cause::Doom;
 pub use rules::{Key, Rules};

@@ -9,7 +9,7 @@ use crate::unheld::unheld_in;
 use crate::{Explanation, explain, warnings};
 use std::alloc::{AllocError, Global};
 use std::io::Write;
-use ulfm_command_line::{Body, PAST_LIMIT, Remark, Reply, RunOptions, Wanted};
+use ulfm_command_line::{Body, Remark, RunOptions, Wanted};
 use ulfm_job::JobFault;
 use ulfm_reader::write_whole;
 
@@ -29,26 +29,48 @@ const MANY_STATES: &str =
 const FEW_TURNS: &str =
     "threads poll fast, so the job's turns may be too few for a run: add --turns 1000000\n";
 
-/// Says what a reply to these bytes doesn't. Where ranks stop is told by this text, if it names steps. Where it can't be said, nothing is.
-pub fn write_notes<E: Write>(
+/// Says why these bytes got such a reply, or what of a good job will be refused. Where ranks stop is told by this text, if it names steps. Where it
+/// can't be said, nothing is.
+pub fn write_reasons<E: Write>(
     alloc: Global,
     wanted: Wanted,
     stop: Option<&str>,
     bytes: &[u8],
-    reply: &Reply,
+    body: &Body,
     errors: &mut E,
 ) {
-    if let Ok(notes) = notes_on(alloc, wanted, stop, bytes, reply) {
+    if let Ok(notes) = reasons_of(alloc, wanted, stop, bytes, body) {
         let _is_written = write_whole(errors, notes.as_bytes());
     }
 }
 
+/// Says what a reply to these bytes doesn't: which answers aren't as the job asks, and which steps hang. Where it can't be said, nothing is.
+pub fn write_notes<E: Write>(
+    alloc: Global,
+    wanted: Wanted,
+    bytes: &[u8],
+    remarks: &[Remark],
+    errors: &mut E,
+) {
+    if let Ok(notes) = notes_on(alloc, wanted, bytes, remarks) {
+        let _is_written = write_whole(errors, notes.as_bytes());
+    }
+}
+
+/// Says what to do where there are more states than the limit.
+pub fn write_past_limit<E: Write>(errors: &mut E) {
+    let _is_written = write_whole(errors, MANY_STATES.as_bytes());
+}
+
 /// Tells in one line what a list comes to, perhaps in red or green. It stands before the list, since below a long one readers miss it. Where that finds no memory, nothing is told.
-pub fn write_verdict<E: Write>(alloc: Global, has_colour: bool, reply: &Reply, errors: &mut E) {
-    if let Some(remarks) = &reply.remarks {
-        if let Ok(line) = verdict_line(alloc, has_colour, remarks.as_slice()) {
-            let _is_written = write_whole(errors, line.as_bytes());
-        }
+pub fn write_verdict<E: Write>(
+    alloc: Global,
+    has_colour: bool,
+    remarks: &[Remark],
+    errors: &mut E,
+) {
+    if let Ok(line) = verdict_line(alloc, has_colour, remarks) {
+        let _is_written = write_whole(errors, line.as_bytes());
     }
 }
 
@@ -103,16 +125,15 @@ fn fault_line(alloc: Global, usage: &str) -> Result<String, AllocError> {
     Ok(line)
 }
 
-/// What is said of a reply: why a job is refused or can't be swept, what of a good one will be refused, which answers
-/// aren't as the job asks, or which steps hang.
-fn notes_on(
+/// Why a job is refused or can't be swept, or what of a good one will be refused.
+fn reasons_of(
     alloc: Global,
     wanted: Wanted,
     stop: Option<&str>,
     bytes: &[u8],
-    reply: &Reply,
+    body: &Body,
 ) -> Result<String, AllocError> {
-    match &reply.body {
+    match body {
         Body::NoGoal(goal) => goal_line(alloc, wanted, bytes, goal.as_str()),
         Body::NoName(name) => name_line(alloc, wanted, bytes, name.as_str()),
         Body::Unnamed(text) => unnamed_line(alloc, bytes, text.as_str()),
@@ -120,14 +141,7 @@ fn notes_on(
         Body::Refused(_) if bytes.trim_ascii().is_empty() => String::from_str(alloc, EMPTY),
         Body::Refused(fault) => refused_notes(alloc, bytes, *fault),
         Body::Good(..) => lines_of(alloc, "warning: ", &warnings(alloc, bytes)?),
-        _ if reply.status == PAST_LIMIT => String::from_str(alloc, MANY_STATES),
-        _ => match &reply.remarks {
-            Some(remarks) => {
-                let unheld = unheld_in(alloc, wanted, bytes)?;
-                remark_notes(alloc, wanted, remarks.as_slice(), unheld.as_slice())
-            }
-            None => Ok(String::new(alloc)),
-        },
+        _ => Ok(String::new(alloc)),
     }
 }
 
@@ -151,13 +165,14 @@ fn lines_of(alloc: Global, word: &str, found: &[Explanation]) -> Result<String, 
 
 /// What is told by values, what isn't asked at the one place that was looked at, and what to do about steps that hang in a run with the turns of
 /// its job.
-fn remark_notes(
+fn notes_on(
     alloc: Global,
     wanted: Wanted,
+    bytes: &[u8],
     remarks: &[Remark],
-    unheld: &[Remark],
 ) -> Result<String, AllocError> {
-    let mut notes = remarks_told(alloc, remarks, unheld)?;
+    let unheld = unheld_in(alloc, wanted, bytes)?;
+    let mut notes = remarks_told(alloc, remarks, unheld.as_slice())?;
     let is_usual_run = matches!(wanted, Wanted::Run(RunOptions { turns: None, .. }));
     if is_usual_run
         && remarks

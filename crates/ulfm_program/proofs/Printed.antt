@@ -1,10 +1,10 @@
 -- What is written for a reply is a reply.
 use Rattle.std.proofs.Common.{◌≡◌, ◌≢◌, ◌≤◌, ℕ, List, Option, arith, inl, inr, sym, subst}
 use Rattle.ulfm_forms.specs.declared.form.Form.{Form}
-use Rattle.ulfm_command_line.specs.Body.{body_in}
+use Rattle.ulfm_run_reply.specs.AnyBody.{text_in}
 use Rattle.ulfm_command_line.specs.Wish.{WishView}
 use Rattle.ulfm_command_line.specs.declared.command.Wanted.{Wanted}
-use Rattle.ulfm_command_line.specs.declared.reply.Reply.{Reply}
+use Rattle.ulfm_run_reply.specs.declared.any_reply.AnyReply.{AnyReply}
 use Rattle.ulfm_program.specs.Replies.{AreRead, GetsBeginning, GetsReply, IsReplyIn, IsWhole}
 use Rattle.ulfm_program.specs.inside.Printed.{GetsPrinted, IsPrinted}
 use Rattle.ulfm_program.proofs.Refused.{starved_reply}
@@ -16,7 +16,7 @@ pub record IsAnswered (result : ℕ) : Type 0 where
   pub no_usage : result ≢ 2
   pub read : result ≢ 5
 
-module _ (form : Form) (wish : WishView) (wanted : Wanted) (bytes : List ℕ) (reply : Reply) (is : IsReplyIn form wish wanted bytes reply.status (body_in form reply.body)) where
+module _ (form : Form) (wish : WishView) (wanted : Wanted) (bytes : List ℕ) (reply : AnyReply) (is : IsReplyIn form wish wanted bytes reply.status (text_in form reply.body)) where
   -- whether it was printed, or memory ran out
   printed_reply : (status : ℕ) (text : List ℕ) → IsPrinted form reply status text → IsReplyIn form wish wanted bytes status text
   printed_reply status text h = elim h [

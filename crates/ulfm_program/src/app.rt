@@ -19,13 +19,14 @@ use std::sync::Wait;
 use std::thread::Threads;
 use std::time::Clock;
 use ulfm_command_line::{
-    Asked, Body, DONE, Failure, INPUT_FAILED, OUTPUT_FAILED, PAST_LIMIT, RUN_FAILED, Reply, USAGE,
-    Unfollowed, asked_for, failed_line,
+    Asked, DONE, Failure, INPUT_FAILED, OUTPUT_FAILED, PAST_LIMIT, RUN_FAILED, USAGE, Unfollowed,
+    asked_for, failed_line,
 };
-use ulfm_explain::{write_fault, write_notes, write_verdict};
+use ulfm_explain::{write_fault, write_notes, write_past_limit, write_reasons, write_verdict};
 use ulfm_forms::{Form, Wording};
 use ulfm_outcomes_spec::Finder;
 use ulfm_reader::{InputFault, read_front, write_whole};
+use ulfm_run_reply::{AnyBody, AnyReply};
 
 /// What is written where a word can't be read.
 const NOT_TEXT: &str = "a word of the command line isn't UTF-8\n";
@@ -127,7 +128,9 @@ where
     let far = progress.end();
     match told {
         Ok(reply) => {
-            write_verdict(alloc, asked.has_colour, &reply, errors);
+            if let Some(remarks) = &reply.remarks {
+                write_verdict(alloc, asked.has_colour, remarks.as_slice(), errors);
+            }
             let status = write_body(alloc, form, &reply, output);
             write_remarks(alloc, asked, bytes.as_slice(), &reply, far, errors);
             status
@@ -137,13 +140,10 @@ where
 }
 
 /// Prints a reply in this form, or writes that memory ran out, and answers the status of that, or of output that failed.
-fn write_body<W: Write>(alloc: Global, form: Form, reply: &Reply, output: &mut W) -> u8
+fn write_body<W: Write>(alloc: Global, form: Form, reply: &AnyReply, output: &mut W) -> u8
     requires { IsWhole reply.now.status }
     ensures { GetsPrinted form reply.now (W.contents output.old) (W.contents output.new) result }
 {
-    if let Body::Text(text) = &reply.body {
-        return write_reply(output, reply.status, text.as_bytes());
-    }
     match reply.body.text(alloc, form) {
         Ok(text) => write_reply(output, reply.status, text.as_bytes()),
         Err(_) => write_starved(output, form),
@@ -155,15 +155,22 @@ fn write_remarks<E: Write>(
     alloc: Global,
     asked: &Asked<'_>,
     bytes: &[u8],
-    reply: &Reply,
+    reply: &AnyReply,
     far: Far,
     errors: &mut E,
 ) {
     if reply.status == PAST_LIMIT {
         far.tell(alloc, errors);
+        write_past_limit(errors);
+        return;
     }
     let wanted = settled(alloc, asked, bytes);
-    write_notes(alloc, wanted, asked.wish.stop, bytes, reply, errors);
+    if let AnyBody::Plain(body) = &reply.body {
+        write_reasons(alloc, wanted, asked.wish.stop, bytes, body, errors);
+    }
+    if let Some(remarks) = &reply.remarks {
+        write_notes(alloc, wanted, bytes, remarks.as_slice(), errors);
+    }
 }
 
 /// Writes that memory ran out, in this form, and answers the status of that, or of output that failed.

@@ -2,7 +2,7 @@
 ghost use Rattle.std.specs.Prelude.{◌≡◌, false, IfOk};
 ghost use Rattle.ulfm_program.specs.Replies.{IsReplyBy, IsReplyIn, IsReplyNaming};
 ghost use Rattle.ulfm_program.specs.inside.Threads.{needs_threads};
-ghost use Rattle.ulfm_command_line.specs.Body.{body_in};
+ghost use Rattle.ulfm_run_reply.specs.AnyBody.{text_in};
 ghost use Rattle.ulfm_command_line.specs.CommandLine.{HasRanges};
 ghost use Rattle.ulfm_command_line.specs.Wish.{WishView, wish_view};
 
@@ -10,14 +10,12 @@ use crate::engine::Engine;
 use std::alloc::{AllocError, Global};
 use std::sync::Wait;
 use std::thread::Threads;
-use ulfm_command_line::{
-    Asked, Reply, Wanted, check_reply, expand_reply, places_reply, settled_place,
-};
+use ulfm_command_line::{Asked, Wanted, check_reply, expand_reply, places_reply, settled_place};
 use ulfm_forms::Form;
 use ulfm_outcomes_reply::{Onlooker, Search, list_reply};
 use ulfm_outcomes_spec::Finder;
 use ulfm_reach::Watch;
-use ulfm_run_reply::{draw_reply, replay_reply, run_reply, sweep_reply};
+use ulfm_run_reply::{AnyReply, draw_reply, replay_reply, run_reply, sweep_reply};
 
 /// The reply to what the words ask for. `watch` is told how far a list of outcomes is.
 pub fn reply_to<R, F, P>(
@@ -25,13 +23,13 @@ pub fn reply_to<R, F, P>(
     asked: &Asked<'_>,
     bytes: &[u8],
     watch: &mut P,
-) -> Result<Reply, AllocError>
+) -> Result<AnyReply, AllocError>
 where
     R: Threads + Wait + Sync,
     F: Finder + Sync,
     P: Watch + Onlooker + Sync,
     requires { HasRanges asked.now.wanted }
-    ensures { IfOk result (λ r. IsReplyIn asked.now.form (wish_view asked.now.wish) asked.now.wanted bytes.now r.status (body_in asked.now.form r.body)) }
+    ensures { IfOk result (λ r. IsReplyIn asked.now.form (wish_view asked.now.wish) asked.now.wanted bytes.now r.status (text_in asked.now.form r.body)) }
 {
     match asked.wish.stop {
         Some(text) => naming_reply(engine, asked, text, bytes, watch),
@@ -46,13 +44,13 @@ fn naming_reply<R, F, P>(
     text: &str,
     bytes: &[u8],
     watch: &mut P,
-) -> Result<Reply, AllocError>
+) -> Result<AnyReply, AllocError>
 where
     R: Threads + Wait + Sync,
     F: Finder + Sync,
     P: Watch + Onlooker + Sync,
     requires { HasRanges asked.now.wanted }
-    ensures { IfOk result (λ r. IsReplyNaming asked.now.form (wish_view asked.now.wish) asked.now.wanted text.now bytes.now r.status (body_in asked.now.form r.body)) }
+    ensures { IfOk result (λ r. IsReplyNaming asked.now.form (wish_view asked.now.wish) asked.now.wanted text.now bytes.now r.status (text_in asked.now.form r.body)) }
 {
     let settled = settled_place(engine.alloc, text, bytes)?;
     match settled {
@@ -60,7 +58,7 @@ where
             let wanted = asked.wanted.at(place);
             settled_reply(engine, asked, wanted, bytes, watch)
         }
-        Err(reply) => Ok(reply),
+        Err(reply) => Ok(AnyReply::plain(reply)),
     }
 }
 
@@ -82,13 +80,13 @@ fn settled_reply<R, F, P>(
     wanted: Wanted,
     bytes: &[u8],
     watch: &mut P,
-) -> Result<Reply, AllocError>
+) -> Result<AnyReply, AllocError>
 where
     R: Threads + Wait + Sync,
     F: Finder + Sync,
     P: Watch + Onlooker + Sync,
     requires { HasRanges wanted }
-    ensures { IfOk result (λ r. IsReplyBy asked.now.form (wish_view asked.now.wish) wanted bytes.now r.status (body_in asked.now.form r.body)) }
+    ensures { IfOk result (λ r. IsReplyBy asked.now.form (wish_view asked.now.wish) wanted bytes.now r.status (text_in asked.now.form r.body)) }
 {
     let form = asked.form;
     match wanted {
@@ -101,28 +99,34 @@ where
                 options,
                 choice: asked.wish.choice,
             };
-            list_reply(engine.rt, &search, asked.wish.show, bytes, watch)
+            let reply = list_reply(engine.rt, &search, asked.wish.show, bytes, watch)?;
+            Ok(AnyReply::plain(reply))
         }
         _ => plain_reply(engine.alloc, form, wanted, bytes),
     }
 }
 
 /// The reply to what the words ask for, where no threads work on it.
-fn plain_reply(alloc: Global, form: Form, wanted: Wanted, bytes: &[u8]) -> Result<Reply, AllocError>
+fn plain_reply(
+    alloc: Global,
+    form: Form,
+    wanted: Wanted,
+    bytes: &[u8],
+) -> Result<AnyReply, AllocError>
     requires ranges { HasRanges wanted }
     requires plain { needs_threads wanted ≡ false }
-    ensures { IfOk result (λ r. (wish : WishView) → IsReplyBy form wish wanted bytes.now r.status (body_in form r.body)) }
+    ensures { IfOk result (λ r. (wish : WishView) → IsReplyBy form wish wanted bytes.now r.status (text_in form r.body)) }
 {
     match wanted {
-        Wanted::Check => Ok(check_reply(alloc, bytes)),
+        Wanted::Check => Ok(AnyReply::plain(check_reply(alloc, bytes))),
         Wanted::Replay {
             is_strict,
             turns,
             place,
-        } => replay_reply(alloc, form, is_strict, turns, place, bytes),
-        Wanted::Sweep => sweep_reply(alloc, form, bytes),
-        Wanted::Places(stops) => places_reply(alloc, stops, bytes),
-        Wanted::Expand => expand_reply(alloc, bytes),
+        } => replay_reply(alloc, is_strict, turns, place, bytes),
+        Wanted::Sweep => sweep_reply(alloc, bytes),
+        Wanted::Places(stops) => Ok(AnyReply::plain(places_reply(alloc, stops, bytes)?)),
+        Wanted::Expand => Ok(AnyReply::plain(expand_reply(alloc, bytes)?)),
         Wanted::Draw {
             style,
             turns,

@@ -80,28 +80,20 @@ fn row_at<F: Finder>(
     if !is_looked_at(&asked.job, row) || !has_each(found, &goals) {
         return Ok(None);
     }
-    match search.show(&asked.job, &goals, &mut Nobody)? {
-        Some(Told::Schedule(schedule)) => Ok(Some(Unwanted {
-            title: format!(in search.alloc; "all answers of never[{number}] come")?,
-            picture: Some(drawn(
-                search.alloc,
-                Style::Svg,
-                search.form.wording(),
-                &asked.job,
-                &schedule,
-                "",
-            )?),
-            is_known: true,
-        })),
-        Some(Told::Many(states)) => Ok(Some(Unwanted {
-            title: format!(in search.alloc;
-                "whether all answers of never[{number}] come isn't known: there are more than {states} states"
-            )?,
-            picture: None,
-            is_known: false,
-        })),
-        None => Ok(None),
-    }
+    let Some(told) = search.show(&asked.job, &goals, &mut Nobody)? else {
+        return Ok(None);
+    };
+    let title = match &told {
+        Told::Schedule(_) => format!(in search.alloc; "all answers of never[{number}] come")?,
+        Told::Many(states) => format!(in search.alloc;
+            "whether all answers of never[{number}] come isn't known: there are more than {states} states"
+        )?,
+    };
+    Ok(Some(Unwanted {
+        title,
+        picture: picture_of(search, asked, &told)?,
+        is_known: matches!(told, Told::Schedule(_)),
+    }))
 }
 
 /// What some schedule has that shows these, with a picture of one where it is found within the limit.
@@ -112,19 +104,25 @@ fn drawn_by<F: Finder>(
     title: String,
 ) -> Result<Unwanted, AllocError> {
     let picture = match search.show(&asked.job, goals, &mut Nobody)? {
-        Some(Told::Schedule(schedule)) => Some(drawn(
-            search.alloc,
-            Style::Svg,
-            search.form.wording(),
-            &asked.job,
-            &schedule,
-            "",
-        )?),
-        _ => None,
+        Some(told) => picture_of(search, asked, &told)?,
+        None => None,
     };
     Ok(Unwanted {
         title,
         picture,
         is_known: true,
     })
+}
+
+/// The picture of the schedule that a search came to, if it came to one.
+fn picture_of<F>(
+    search: &Search<'_, F>,
+    asked: &Reading,
+    told: &Told,
+) -> Result<Option<String>, AllocError> {
+    let Told::Schedule(schedule) = told else {
+        return Ok(None);
+    };
+    let (alloc, wording) = (search.alloc, search.form.wording());
+    Ok(Some(drawn(alloc, Style::Svg, wording, &asked.job, schedule, "")?))
 }

@@ -13,8 +13,8 @@ use Rattle.ulfm_forms.specs.declared.form.Form.{Form}
 use Rattle.ulfm_reader.specs.declared.name.Name.{Name}
 use Rattle.ulfm_run_reply.specs.Brief.{Lines, Spot, line_at, line_counted, lines_there, repeats_in, with_run}
 use Rattle.ulfm_run_reply.specs.declared.tally.Counted.{Counted}
-use Rattle.ulfm_run_reply.specs.inside.Tallied.{row_of, rows_of, spots_told, told_in}
-use Rattle.ulfm_run_reply.specs.Tally.{Row, counted, counted_once, tally}
+use Rattle.ulfm_run_reply.specs.inside.Tallied.{spots_told, told_in}
+use Rattle.ulfm_run_reply.specs.Tally.{Row, counted, counted_once, row_of, rows_of, tally}
 
 -- the first i rows, and then the others with one more text
 abbrev pub counted_from : List Counted → Row → ℕ → List Row

@@ -16,7 +16,8 @@ use Rattle.ulfm_forms.specs.declared.form.Form.{Form}
 use Rattle.ulfm_forms.specs.declared.form.Form.TheVariants.{Words, Json}
 use Rattle.ulfm_log.specs.Facts.{is_stopped}
 use Rattle.ulfm_reader.specs.declared.name.Name.{Name}
-use Rattle.ulfm_run_reply.specs.Tally.{Row, counted_once, row_in, row_json, tally, tally_in}
+use Rattle.ulfm_run_reply.specs.Tally.{Row, counted_once, row_in, row_json, rows_of, tally, tally_in}
+use Rattle.ulfm_run_reply.specs.declared.lines_at.LinesAt.{LinesAt}
 
 -- a place of a trace: a rank, and the step that a line is about, or none where it is of how the rank ended
 abbrev pub Spot : Type 0
@@ -25,6 +26,10 @@ Spot = ℕ × Option ℕ
 -- the distinct lines of runs at a place, each with its count
 abbrev pub Lines : Type 0
 Lines = Spot × List Row
+
+-- the lines at a place in memory, as their bytes and counts
+abbrev pub lines_seen : LinesAt → Lines
+lines_seen lines = ((lines.rank, lines.at), rows_of lines.rows.items)
 
 -- the places of a rank's lines, in the order of its script
 abbrev pub rank_spots : JobView → ℕ → List Spot

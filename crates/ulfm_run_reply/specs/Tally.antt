@@ -1,14 +1,23 @@
 -- The traces of repeated runs, counted.
-use Rattle.std.specs.Prelude.{ℕ, ◌+◌, List, [], ◌∷◌, ◌++◌, codes, fold, if◌then◌else◌}
+use Rattle.std.specs.Prelude.{ℕ, ◌+◌, List, [], ◌∷◌, ◌++◌, codes, fold, map, string_bytes, if◌then◌else◌}
 use Rattle.std.specs.Fmt.{decimal}
 use Rattle.std.specs.List.{flat_map}
 use Rattle.std.specs.Str.{bytes_eq}
 use Rattle.ulfm_forms.specs.declared.form.Form.{Form}
 use Rattle.ulfm_forms.specs.declared.form.Form.TheVariants.{Words, Json}
+use Rattle.ulfm_run_reply.specs.declared.tally.Counted.{Counted}
 
 -- a text, as a trace, and how many runs gave it
 abbrev pub Row : Type 0
 Row = List ℕ × ℕ
+
+-- a counted text in memory, as its bytes and its count
+abbrev pub row_of : Counted → Row
+row_of row = (string_bytes row.text, row.count)
+
+-- all of them
+abbrev pub rows_of : List Counted → List Row
+rows_of rows = map row_of rows
 
 -- a text of so many more runs: where it came before, its count rises by theirs, else it stands last
 abbrev pub counted : List Row → Row → List Row

@@ -1,8 +1,8 @@
 //! Repeated runs in brief: the lines that all traces have, once, and then the others, each with its count.
 ghost use Rattle.std.specs.Prelude.{◌≡◌, ◌++◌, map, IfOk, OnOk, string_bytes};
 ghost use Rattle.std.specs.List.{flat_map};
-ghost use Rattle.ulfm_run_reply.specs.inside.Tallied.{lines_seen, row_of, rows_of};
-ghost use Rattle.ulfm_run_reply.specs.Brief.{common_line, common_lines, counted_line, differing_line, differing_lines, hang_at, mark_text, parted_in};
+ghost use Rattle.ulfm_run_reply.specs.Tally.{row_of, rows_of};
+ghost use Rattle.ulfm_run_reply.specs.Brief.{common_line, common_lines, counted_line, differing_line, differing_lines, hang_at, lines_seen, mark_text, parted_in};
 
 use crate::line_at::step_line;
 use crate::lines_at::LinesAt;

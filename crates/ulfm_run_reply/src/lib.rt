@@ -1,9 +1,11 @@
 //! The replies of `replay`, `run`, `sweep` and `draw`: what comes of a job that is played.
 //!
-//!     let reply = replay_reply(alloc, form, is_strict, turns, place, bytes)?;
-//!     let reply = run_reply(&rt, alloc, form, options, bytes)?;
+//!     let reply = replay_reply(alloc, is_strict, turns, place, bytes)?;
+//!     let text = reply.body.text(alloc, form)?;
 //!
-//! Each call promises by one clause. They rest on `replay` and `sweep` of `ulfm_replay` and on `run_job`, `at_rest` and `fits` of `ulfm_run`. Read
+//! Each call promises by one clause, of the text that its reply has in a form ([`AnyBody`]: `text_in`, AnyBody.antt): a reply is a value, and is
+//! printed at the end. `run_reply` and `draw_reply` are told the form: repeated traces are counted by their texts, and of what a picture shows there
+//! is no contract. They rest on `replay` and `sweep` of `ulfm_replay` and on `run_job`, `at_rest` and `fits` of `ulfm_run`. Read
 //! Played.antt first, then Tally.antt and Brief.antt (runs that are repeated).
 //!
 //! - [`replay_reply`]: the trace is that of a replay, which is lawful for the job and ends at rest (`IsReplayReply`, Played.antt).
@@ -27,6 +29,7 @@
 //! Files:
 //!
 //! - `replayed.rt`, `run.rt`, `swept.rt`, `picture.rt`: the four replies
+//! - `any_reply.rt`: a reply, also one of no play; `any_body.rt`: what is written with its status, and its text
 //! - `trace.rt`: the reply that a trace is, with its status; `traced.rt`: its text, in words or as JSON
 //! - `demands.rt`: whether answers are as the job asks
 //! - `tally.rt`: `run --repeat`, each trace once with its count; `lines_at.rt`: each line once, place by place; `line_at.rt`: one of them;
@@ -37,6 +40,8 @@
 //! Not here: that a run ends or comes to rest, and what a picture shows. No contract speaks of what is told on standard error.
 #![tactic(auto)]
 
+mod any_body;
+mod any_reply;
 mod brief;
 mod demands;
 mod faults;
@@ -52,7 +57,11 @@ mod trace;
 mod traced;
 mod turns;
 
+pub use any_body::AnyBody;
+pub use any_reply::AnyReply;
+pub use lines_at::LinesAt;
 pub use picture::draw_reply;
 pub use replayed::replay_reply;
 pub use run::run_reply;
 pub use swept::sweep_reply;
+pub use tally::Counted;

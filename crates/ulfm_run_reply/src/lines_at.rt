@@ -1,7 +1,8 @@
 //! The lines of repeated runs, place by place.
 ghost use Rattle.std.specs.Prelude.{◌≡◌, ◌++◌, ◌∷◌, ◌+◌, ◌<◌, [], map, option_map, IfOk, OnOk, string_bytes};
-ghost use Rattle.ulfm_run_reply.specs.inside.Tallied.{AreFew, AreFewAt, lines_seen, rows_of, spots_told, unseen};
-ghost use Rattle.ulfm_run_reply.specs.Brief.{line_counted, rank_spots, spots, with_run};
+ghost use Rattle.ulfm_run_reply.specs.inside.Tallied.{AreFew, AreFewAt, spots_told, unseen};
+ghost use Rattle.ulfm_run_reply.specs.Tally.{rows_of};
+ghost use Rattle.ulfm_run_reply.specs.Brief.{line_counted, lines_seen, rank_spots, spots, with_run};
 
 use crate::line_at::line_at;
 use crate::tally::{Counted, count_text};

@@ -1,12 +1,14 @@
 //! The reply of `draw`: a picture of a replay.
 ghost use Rattle.std.specs.Prelude.{◌≡◌, IfOk};
 ghost use Rattle.ulfm_run_reply.specs.Played.{IsDrawReply};
-ghost use Rattle.ulfm_command_line.specs.Body.{body_in};
+ghost use Rattle.ulfm_run_reply.specs.AnyBody.{text_in};
 ghost use Rattle.ulfm_command_line.specs.CommandLine.{AreTurns};
 
+use crate::any_body::AnyBody;
+use crate::any_reply::AnyReply;
 use crate::turns::given_turns;
 use std::alloc::{AllocError, Global};
-use ulfm_command_line::{Body, DONE, Place, Reply, asked_at};
+use ulfm_command_line::{Body, DONE, Place, asked_at};
 use ulfm_draw::drawn;
 use ulfm_forms::{Form, Style, Wording};
 use ulfm_job::Job;
@@ -21,14 +23,14 @@ pub fn draw_reply(
     turns: Option<u32>,
     place: Place,
     bytes: &[u8],
-) -> Result<Reply, AllocError>
+) -> Result<AnyReply, AllocError>
     requires { AreTurns turns }
-    ensures { IfOk result (λ r. IsDrawReply form turns place bytes.now r.status (body_in form r.body)) }
+    ensures { IfOk result (λ r. IsDrawReply form turns place bytes.now r.status (text_in form r.body)) }
 {
     let read = asked_at(alloc, place, bytes)?;
     let asked = match read {
         Ok(asked) => given_turns(asked, turns),
-        Err(reply) => return Ok(reply),
+        Err(reply) => return Ok(AnyReply::plain(reply)),
     };
     match replay_in_order(alloc, &asked.job) {
         Ok(played) => picture_of(alloc, style, form.wording(), &asked.job, played),
@@ -43,14 +45,14 @@ fn picture_of(
     wording: Wording,
     job: &Job,
     played: Played,
-) -> Result<Reply, AllocError>
+) -> Result<AnyReply, AllocError>
     ensures { IfOk result (λ r. r.status ≡ 0) }
 {
     let schedule = replayed(alloc, job, played.moves, played.reports.as_slice())?;
     let text = drawn(alloc, style, wording, job, &schedule, "")?;
-    Ok(Reply {
+    Ok(AnyReply {
         status: DONE,
-        body: Body::Text(text),
+        body: AnyBody::Plain(Body::Text(text)),
         remarks: None,
     })
 }

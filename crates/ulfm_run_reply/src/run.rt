@@ -8,14 +8,15 @@ ghost use Rattle.ulfm_carrier.specs.Lanes.{known_room, lane_name, lane_pushed, l
 ghost use Rattle.ulfm_carrier.specs.Shared.{inbox_capacity, shared_name, shared_pushed, shared_taken, IsReady as IsReadyShared, OneCall as OneSharedCall};
 ghost use Rattle.ulfm_board.specs.Known.{OneBoard, nothing_known};
 ghost use Rattle.ulfm_run_reply.specs.inside.Cells.{AreEnough};
+ghost use Rattle.ulfm_run_reply.specs.AnyBody.{text_in};
 ghost use Rattle.ulfm_run_reply.specs.Played.{AreOfRanks, AreOfRun, IsRunReply};
 ghost use Rattle.ulfm_run_reply.specs.inside.Shown.{IsShown};
-ghost use Rattle.ulfm_command_line.specs.Body.{body_in};
 ghost use Rattle.ulfm_command_line.specs.CommandLine.{AreInRange};
 ghost use Rattle.ulfm_report_laws.specs.Lawful.{LawfulReport};
 ghost use Rattle.ulfm_run.specs.Flow.{contents};
 ghost use Rattle.ulfm_script.specs.Deciding.{Known};
 
+use crate::any_reply::AnyReply;
 use crate::faults::failure_of;
 use crate::tally::{tally_of, tally_reply};
 use crate::trace::trace_reply;
@@ -26,38 +27,38 @@ use std::thread::Threads;
 use ulfm_base::CallError;
 use ulfm_board::{Decider, Seat, seats};
 use ulfm_carrier::{Ends, LaneEnds, SharedEnds, lanes, shared};
-use ulfm_command_line::{Carrier, Failure, Reply, RunOptions, asked_at, failed};
+use ulfm_command_line::{Carrier, Failure, RunOptions, asked_at, failed};
 use ulfm_forms::Form;
 use ulfm_job::Job;
 use ulfm_run::{Report, fits, run_job};
 use ulfm_script::RankReport;
 
-/// The reply of `run` with these options, in this form.
+/// The reply of `run` with these options. Traces that are counted have this form, in which the reply is to be written.
 pub fn run_reply<R: Threads + Wait + Sync>(
     rt: &R,
     alloc: Global,
     form: Form,
     options: RunOptions,
     bytes: &[u8],
-) -> Result<Reply, AllocError>
+) -> Result<AnyReply, AllocError>
     requires { AreInRange options }
-    ensures { IfOk result (λ r. IsRunReply form options bytes.now r.status (body_in form r.body)) }
+    ensures { IfOk result (λ r. IsRunReply form options bytes.now r.status (text_in form r.body)) }
 {
     let read = asked_at(alloc, options.place, bytes)?;
     let asked = match read {
         Ok(asked) => given_turns(asked, options.turns),
-        Err(reply) => return Ok(reply),
+        Err(reply) => return Ok(AnyReply::plain(reply)),
     };
     if let Some(times) = options.repeat {
         return match tally_of(rt, alloc, form, options, times, &asked) {
-            Ok(tally) => tally_reply(alloc, form, options, &asked, times, tally),
-            Err(failure) => Ok(failed(failure)),
+            Ok(tally) => Ok(tally_reply(options, asked, times, tally)),
+            Err(failure) => Ok(AnyReply::plain(failed(failure))),
         };
     }
     let ran = run_by_carrier(rt, alloc, options.carrier, &asked.job);
     match ran {
-        Ok(reports) => trace_reply(alloc, form, options.is_strict, &asked, reports.as_slice()),
-        Err(failure) => Ok(failed(failure)),
+        Ok(reports) => Ok(trace_reply(alloc, options.is_strict, asked, reports)),
+        Err(failure) => Ok(AnyReply::plain(failed(failure))),
     }
 }
 

@@ -5,16 +5,18 @@ ghost use Rattle.ulfm_run_reply.specs.Played.{AreOfRun};
 ghost use Rattle.ulfm_reader.specs.JobText.{rows_of as rows_asked};
 ghost use Rattle.ulfm_answer.specs.Report.{Report};
 ghost use Rattle.ulfm_forms.specs.Form.{trace_in};
-ghost use Rattle.ulfm_command_line.specs.Body.{body_in};
+ghost use Rattle.ulfm_forms.specs.declared.form.Form.{Form as Written};
+ghost use Rattle.ulfm_run_reply.specs.AnyBody.{text_in};
 ghost use Rattle.ulfm_run_reply.specs.declared.tally.Counted.{Counted as Kept};
-ghost use Rattle.ulfm_run_reply.specs.inside.Tallied.{AreFew, AreFewAt, lines_seen, row_of, rows_of, spots_told, told_in, unseen};
+ghost use Rattle.ulfm_run_reply.specs.inside.Tallied.{AreFew, AreFewAt, spots_told, told_in, unseen};
 ghost use Rattle.ulfm_run_reply.specs.inside.Shown.{IsShown};
-ghost use Rattle.ulfm_run_reply.specs.Brief.{lines_there, with_run};
-ghost use Rattle.ulfm_run_reply.specs.Tally.{counted, counted_once, row_in, row_json, row_text, tally, tally_in};
+ghost use Rattle.ulfm_run_reply.specs.Brief.{lines_seen, lines_there, with_run};
+ghost use Rattle.ulfm_run_reply.specs.Tally.{counted, counted_once, row_in, row_json, row_of, row_text, rows_of, tally, tally_in};
 ghost use Rattle.ulfm_run_reply.specs.Asking.{as_asked};
 ghost use Rattle.ulfm_run_reply.specs.Unfinished.{has_unfinished, played_status};
 
-use crate::brief::brief_text;
+use crate::any_body::AnyBody;
+use crate::any_reply::AnyReply;
 use crate::demands::as_asked;
 use crate::lines_at::{LinesAt, spots_told, with_lines};
 use crate::remarks::remarks_on;
@@ -24,7 +26,7 @@ use crate::traced::trace_in;
 use std::alloc::{AllocError, Global};
 use std::sync::Wait;
 use std::thread::Threads;
-use ulfm_command_line::{Body, Failure, Remark, Reply, RunOptions};
+use ulfm_command_line::{Failure, Remark, RunOptions};
 use ulfm_forms::Form;
 use ulfm_job::Job;
 use ulfm_reader::Reading;
@@ -178,31 +180,36 @@ pub fn count_text(
 }
 
 /// What is told of repeated runs with these options, with its status.
-pub fn tally_reply(
-    alloc: Global,
-    form: Form,
-    options: RunOptions,
-    asked: &Reading,
-    times: u32,
-    tally: Tally,
-) -> Result<Reply, AllocError>
-    ensures { IfOk result (λ r. (r.status ≡ played_status options.is_strict tally.is_met tally.is_unfinished)
-        × (body_in form r.body ≡ told_in form options.is_brief asked.now.names.items asked.now.job times (rows_of tally.rows.items) (map lines_seen tally.spots.items))) }
+pub fn tally_reply(options: RunOptions, asked: Reading, times: u32, tally: Tally) -> AnyReply
+    ensures status { result.status ≡ played_status options.is_strict tally.is_met tally.is_unfinished }
+    ensures body { (form : Written) → text_in form result.body ≡ told_in form options.is_brief asked.names.items asked.job times (rows_of tally.rows.items) (map lines_seen tally.spots.items) }
 {
-    let text = if options.is_brief {
-        brief_text(alloc, form, asked, times, &tally.spots)?
+    let Tally {
+        rows,
+        spots,
+        is_unfinished,
+        is_met,
+        remarks,
+    } = tally;
+    let body = if options.is_brief {
+        AnyBody::Brief(asked, times, spots)
     } else {
-        tally_text(alloc, form, times, &tally.rows)?
+        AnyBody::Tally(times, rows)
     };
-    Ok(Reply {
-        status: played_status(options.is_strict, tally.is_met, tally.is_unfinished),
-        body: Body::Text(text),
-        remarks: Some(tally.remarks),
-    })
+    AnyReply {
+        status: played_status(options.is_strict, is_met, is_unfinished),
+        body,
+        remarks: Some(remarks),
+    }
 }
 
 /// The counted traces, in this form.
-fn tally_text(alloc: Global, form: Form, times: u32, rows: &[Counted]) -> Result<String, AllocError>
+pub fn tally_text(
+    alloc: Global,
+    form: Form,
+    times: u32,
+    rows: &[Counted],
+) -> Result<String, AllocError>
     ensures { IfOk result (λ text. string_bytes text ≡ tally_in form times (rows_of rows.now)) }
 {
     let mut text = String::new(alloc);

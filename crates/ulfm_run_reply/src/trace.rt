@@ -1,41 +1,40 @@
 //! The reply that a trace is.
-ghost use Rattle.std.specs.Prelude.{◌≡◌, IfOk};
+ghost use Rattle.std.specs.Prelude.{◌≡◌};
 ghost use Rattle.ulfm_answer.specs.Report.{is_unfinished};
-ghost use Rattle.ulfm_forms.specs.Form.{trace_in};
 ghost use Rattle.ulfm_reader.specs.JobText.{rows_of};
-ghost use Rattle.ulfm_command_line.specs.Body.{body_in};
 ghost use Rattle.ulfm_run_reply.specs.Asking.{as_asked};
 ghost use Rattle.ulfm_run_reply.specs.Unfinished.{has_unfinished, left_from, leaves_unfinished, played_status};
+ghost use Rattle.ulfm_run_reply.specs.declared.any_body.AnyBody.TheVariants.{Trace};
 
+use crate::any_body::AnyBody;
+use crate::any_reply::AnyReply;
 use crate::demands::as_asked;
 use crate::remarks::remarks_on;
-use crate::traced::trace_in;
-use std::alloc::{AllocError, Global};
+use std::alloc::Global;
 use ulfm_answer::{StepAnswer, StepReport};
-use ulfm_command_line::{Body, DONE, NOT_EXPECTED, Reply, UNFINISHED};
-use ulfm_forms::Form;
+use ulfm_command_line::{DONE, NOT_EXPECTED, UNFINISHED};
 use ulfm_job::Job;
 use ulfm_reader::Reading;
 use ulfm_script::RankReport;
 
-/// The trace of the reports of a job's ranks, in this form, with its status, by what its text asks for.
+/// The trace of the reports of a job's ranks, with its status, by what its text asks for.
 pub fn trace_reply(
     alloc: Global,
-    form: Form,
     is_strict: bool,
-    asked: &Reading,
-    reports: &[RankReport],
-) -> Result<Reply, AllocError>
-    ensures { IfOk result (λ r. (r.status ≡ played_status is_strict (as_asked (rows_of asked.now.never.items) asked.now.job reports.now) (has_unfinished asked.now.job reports.now)) × (body_in form r.body ≡ trace_in form asked.now.names.items asked.now.job reports.now)) }
+    asked: Reading,
+    reports: Vec<RankReport>,
+) -> AnyReply
+    ensures status { result.status ≡ played_status is_strict (as_asked (rows_of asked.never.items) asked.job reports.items) (has_unfinished asked.job reports.items) }
+    ensures body { result.body ≡ Trace asked reports }
 {
-    let is_met = as_asked(alloc, asked, reports);
-    let status = played_status(is_strict, is_met, has_unfinished(&asked.job, reports));
-    let text = trace_in(alloc, form, &asked.names, &asked.job, reports)?;
-    Ok(Reply {
-        status,
-        body: Body::Text(text),
-        remarks: remarks_on(alloc, asked, reports),
-    })
+    let is_met = as_asked(alloc, &asked, &reports);
+    let is_unfinished = has_unfinished(&asked.job, &reports);
+    let remarks = remarks_on(alloc, &asked, &reports);
+    AnyReply {
+        status: played_status(is_strict, is_met, is_unfinished),
+        body: AnyBody::Trace(asked, reports),
+        remarks,
+    }
 }
 
 /// The status of what was played to its end, by whether the answers are as the job asks, and whether a step was left unfinished.

@@ -1,5 +1,5 @@
--- Counted texts without the form that they have in memory.
-use Rattle.std.specs.Prelude.{ℕ, ◌≤◌, Bool, List, [], All, map, string_bytes, if◌then◌else◌}
+-- Texts that are counted: those of no run yet, how many there may be, and what is told of them.
+use Rattle.std.specs.Prelude.{ℕ, ◌≤◌, Bool, List, [], All, if◌then◌else◌}
 use Rattle.ulfm_job.specs.Job.{JobView}
 use Rattle.ulfm_run_reply.specs.declared.lines_at.LinesAt.{LinesAt}
 use Rattle.ulfm_run_reply.specs.declared.tally.Counted.{Counted}
@@ -7,18 +7,6 @@ use Rattle.ulfm_forms.specs.declared.form.Form.{Form}
 use Rattle.ulfm_reader.specs.declared.name.Name.{Name}
 use Rattle.ulfm_run_reply.specs.Brief.{Lines, Spot, parted_in, spots}
 use Rattle.ulfm_run_reply.specs.Tally.{Row, tally_in}
-
--- a counted text in memory, as its bytes and its count
-abbrev pub row_of : Counted → Row
-row_of row = (string_bytes row.text, row.count)
-
--- all of them
-abbrev pub rows_of : List Counted → List Row
-rows_of rows = map row_of rows
-
--- the lines at a place in memory, as their bytes and counts
-abbrev pub lines_seen : LinesAt → Lines
-lines_seen lines = ((lines.rank, lines.at), rows_of lines.rows.items)
 
 -- a place without lines
 abbrev pub unseen : Spot → Lines

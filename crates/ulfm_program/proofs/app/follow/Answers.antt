@@ -4,7 +4,7 @@ use Rattle.ulfm_program.proofs.Printed.{printed_begins, printed_gets, printed_kn
 use Rattle.ulfm_program.proofs.Refused.{starved_gets, starved_begins, starved_reply}
 use Rattle.ulfm_program.proofs.Statuses.{known_status}
 use Rattle.ulfm_program.proofs.app.follow.Goals as goal
-use Rattle.ulfm_command_line.specs.Body.{body_in}
+use Rattle.ulfm_run_reply.specs.AnyBody.{text_in}
 use Rattle.ulfm_command_line.specs.Wish.{wish_view}
 
 pub returns-in-Err-OutOfMemory-clause-replies : goal.returns-in-Err-OutOfMemory-clause-replies
@@ -21,7 +21,7 @@ returns-clause-cut_off g c = starved_begins (IsReplyIn c.args.asked.now.form (wi
 
 pub write_body-status-requires : goal.write_body-status-requires
 write_body-status-requires g c =
-    let known = known_status c.args.asked.now.form (wish_view c.args.asked.now.wish) c.args.asked.now.wanted _ _ (body_in c.args.asked.now.form c.in-Ok-told.reply.body) c.in-Ok-told.ensures in (known.written, known.read)
+    let known = known_status c.args.asked.now.form (wish_view c.args.asked.now.wish) c.args.asked.now.wanted _ _ (text_in c.args.asked.now.form c.in-Ok-told.reply.body) c.in-Ok-told.ensures in (known.written, known.read)
 
 pub returns-in-Ok-told-clause-replies : goal.returns-in-Ok-told-clause-replies
 returns-in-Ok-told-clause-replies g c =

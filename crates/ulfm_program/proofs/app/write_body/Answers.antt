@@ -1,26 +1,15 @@
-use Rattle.std.proofs.Common.{◌∙◌, ap, inl, inr, refl, sym}
-use Rattle.ulfm_command_line.specs.Body.{body_in}
+use Rattle.std.proofs.Common.{◌∙◌, inl, inr, refl}
 use Rattle.ulfm_command_line.specs.Failure.{out_of_memory_in}
 use Rattle.ulfm_program.proofs.app.write_body.Goals as goal
-
-pub returns-in-Text : goal.returns-in-Text
-returns-in-Text g c = record {
-  status = c.args.reply.now.status;
-  text = c.as_bytes.result.now;
-  printed = inl (refl, c.as_bytes.ensures.value ∙ sym (ap (body_in c.args.form) c.in-Text.is));
-  written = c.write_reply.ensures.written;
-  failed = c.write_reply.ensures.failed;
-  known = c.write_reply.ensures.known;
-}
 
 pub returns-in-Ok : goal.returns-in-Ok
 returns-in-Ok g c = record {
   status = c.args.reply.now.status;
-  text = c.as_bytes-in-Ok.result.now;
-  printed = inl (refl, c.as_bytes-in-Ok.ensures.value ∙ c.in-Ok.ensures);
-  written = c.write_reply-in-Ok.ensures.written;
-  failed = c.write_reply-in-Ok.ensures.failed;
-  known = c.write_reply-in-Ok.ensures.known;
+  text = c.as_bytes.result.now;
+  printed = inl (refl, c.as_bytes.ensures.value ∙ c.in-Ok.ensures);
+  written = c.write_reply.ensures.written;
+  failed = c.write_reply.ensures.failed;
+  known = c.write_reply.ensures.known;
 }
 
 pub returns-in-Err : goal.returns-in-Err

@@ -1,6 +1,6 @@
 use Rattle.std.proofs.Common.{subst}
 use Rattle.std.proofs.lemmas.Result.{IfOk-weaker}
-use Rattle.ulfm_command_line.specs.Body.{body_in}
+use Rattle.ulfm_run_reply.specs.AnyBody.{text_in}
 use Rattle.ulfm_command_line.specs.Named.{IsNamed, IsSettled}
 use Rattle.ulfm_command_line.specs.Wish.{wish_view}
 use Rattle.ulfm_command_line.specs.declared.command.Wanted.{Wanted}
@@ -14,7 +14,7 @@ returns-in-Ok g c =
     let bytes = c.args.bytes.now in
     let named : IsNamed c.args.text.now bytes c.in-Ok.place = subst (IsSettled c.args.text.now bytes) c.in-Ok.is c.in_ok-settled.ensures in
     IfOk-weaker c.settled_reply.result _ _ (λ r h.
-    settled c.in-Ok.place r.status (body_in form r.body) named (subst (λ (w : Wanted). IsReplyBy form wish w bytes r.status (body_in form r.body)) c.at-wanted.ensures.exact h)) c.settled_reply.ensures
+    settled c.in-Ok.place r.status (text_in form r.body) named (subst (λ (w : Wanted). IsReplyBy form wish w bytes r.status (text_in form r.body)) c.at-wanted.ensures.exact h)) c.settled_reply.ensures
 
 pub returns-in-Err : goal.returns-in-Err
-returns-in-Err g c = unsettled _ _ (subst (IsSettled c.args.text.now c.args.bytes.now) c.in-Err.is c.in_ok-settled.ensures c.args.asked.now.form)
+returns-in-Err g c = rw (c.plain.ensures.status, c.plain.ensures.body) (unsettled _ _ (subst (IsSettled c.args.text.now c.args.bytes.now) c.in-Err.is c.in_ok-settled.ensures c.args.asked.now.form))

@@ -1,5 +1,5 @@
 use Rattle.std.proofs.Common.{◌≡◌, ◌++◌, flat_map, string_bytes, take}
-use Rattle.ulfm_run_reply.specs.inside.Tallied.{rows_of}
+use Rattle.ulfm_run_reply.specs.Tally.{rows_of}
 use Rattle.ulfm_run_reply.specs.Brief.{common_line}
 use Rattle.ulfm_run_reply.proofs.brief.push_common.Given as goal
 

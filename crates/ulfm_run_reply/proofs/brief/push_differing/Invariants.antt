@@ -1,6 +1,5 @@
 use Rattle.std.proofs.Common.{◌≡◌, ◌++◌, flat_map, map, string_bytes, take}
-use Rattle.ulfm_run_reply.specs.inside.Tallied.{lines_seen}
-use Rattle.ulfm_run_reply.specs.Brief.{differing_lines}
+use Rattle.ulfm_run_reply.specs.Brief.{differing_lines, lines_seen}
 use Rattle.ulfm_run_reply.proofs.brief.push_differing.Given as goal
 
 abbrev pub invariant-loop-spot : goal.invariant-loop-spot

@@ -2,8 +2,8 @@ use Rattle.std.proofs.Common.{◌≡◌, ◌++◌, ◌∷◌, [], List, ℕ, Som
 use Rattle.std.proofs.lemmas.List.{map-append}
 use Rattle.std.proofs.lemmas.List.FromFn.{map-range_with_len_more}
 use Rattle.std.specs.List.{range_with_len}
-use Rattle.ulfm_run_reply.specs.Brief.{Lines, Spot}
-use Rattle.ulfm_run_reply.specs.inside.Tallied.{lines_seen, unseen}
+use Rattle.ulfm_run_reply.specs.Brief.{Lines, Spot, lines_seen}
+use Rattle.ulfm_run_reply.specs.inside.Tallied.{unseen}
 use Rattle.ulfm_run_reply.proofs.lines_at.push_spots.Goals as goal
 
 -- a place behind others, without lines

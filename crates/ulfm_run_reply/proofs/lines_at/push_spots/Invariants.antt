@@ -1,6 +1,7 @@
 use Rattle.std.proofs.Common.{◌≡◌, ◌++◌, Some, map}
 use Rattle.std.specs.List.{range_with_len}
-use Rattle.ulfm_run_reply.specs.inside.Tallied.{AreFewAt, lines_seen, unseen}
+use Rattle.ulfm_run_reply.specs.inside.Tallied.{AreFewAt, unseen}
+use Rattle.ulfm_run_reply.specs.Brief.{lines_seen}
 use Rattle.ulfm_run_reply.proofs.lines_at.push_spots.Given as goal
 
 abbrev pub invariant-loop-step : goal.invariant-loop-step

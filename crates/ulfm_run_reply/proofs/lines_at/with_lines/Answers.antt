@@ -3,8 +3,8 @@ use Rattle.std.proofs.lemmas.List.{map-append}
 use Rattle.std.proofs.lemmas.List.Elements.{All-push, All-rest}
 use Rattle.std.specs.Vec.Iter.{into_iter_items}
 use Rattle.ulfm_run_reply.specs.declared.lines_at.LinesAt.{LinesAt}
-use Rattle.ulfm_run_reply.specs.Brief.{Lines, with_run}
-use Rattle.ulfm_run_reply.specs.inside.Tallied.{AreFew, AreFewAt, lines_seen}
+use Rattle.ulfm_run_reply.specs.Brief.{Lines, lines_seen, with_run}
+use Rattle.ulfm_run_reply.specs.inside.Tallied.{AreFew, AreFewAt}
 use Rattle.ulfm_run_reply.proofs.lines_at.with_lines.Goals as goal
 
 pub loop-spot-preserved : goal.loop-spot-preserved

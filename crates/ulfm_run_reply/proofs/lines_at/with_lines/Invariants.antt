@@ -1,7 +1,7 @@
 use Rattle.std.proofs.Common.{◌≡◌, ◌+◌, ◌++◌, map}
 use Rattle.std.specs.Vec.Iter.{into_iter_items}
-use Rattle.ulfm_run_reply.specs.Brief.{with_run}
-use Rattle.ulfm_run_reply.specs.inside.Tallied.{AreFewAt, lines_seen}
+use Rattle.ulfm_run_reply.specs.Brief.{lines_seen, with_run}
+use Rattle.ulfm_run_reply.specs.inside.Tallied.{AreFewAt}
 use Rattle.ulfm_run_reply.proofs.lines_at.with_lines.Given as goal
 
 abbrev pub invariant-loop-spot : goal.invariant-loop-spot

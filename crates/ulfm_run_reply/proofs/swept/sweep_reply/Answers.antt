@@ -1,18 +1,15 @@
-use Rattle.std.proofs.Common.{◌≡◌}
-use Rattle.std.proofs.lemmas.Result.{IfOk-weaker}
-use Rattle.ulfm_command_line.specs.declared.body.Body.TheVariants.{Refused}
 use Rattle.ulfm_run_reply.specs.Sweep.{swept}
 use Rattle.ulfm_run_reply.proofs.Unswept.{not_both, sweep_refused, sweep_unmade}
 use Rattle.ulfm_run_reply.proofs.swept.sweep_reply.Goals as goal
 
 pub returns-in-Err : goal.returns-in-Err
-returns-in-Err c = rw (c.refusal.ensures.status, c.refusal.ensures.body) (sweep_refused c.in-Err.fault _ c.in-Err.ensures)
+returns-in-Err c = λ form. rw (c.plain.ensures.status, c.plain.ensures.body, c.refusal.ensures.status, c.refusal.ensures.body) (sweep_refused c.in-Err.fault _ c.in-Err.ensures)
 
 pub returns-in-Ok-sweep : goal.returns-in-Ok-sweep
-returns-in-Ok-sweep c = IfOk-weaker c.lines_reply.result _ _ (λ r h. rw (h.0, h.1, c.as_slice.ensures.value) (swept c.in-Ok.job c.in-Ok-sweep.lines.items c.in-Ok.ensures (λ many. not_both _ _ _ c.in-Ok-sweep.is (c.sweep.ensures.full many)) c.in-Ok-sweep.ensures.places c.in-Ok-sweep.ensures.swept)) c.lines_reply.ensures
+returns-in-Ok-sweep c = λ form. swept c.in-Ok.job c.in-Ok-sweep.lines.items c.in-Ok.ensures (λ many. not_both _ _ _ c.in-Ok-sweep.is (c.sweep.ensures.full many)) c.in-Ok-sweep.ensures.places c.in-Ok-sweep.ensures.swept
 
 pub returns-in-Err-Job : goal.returns-in-Err-Job
 returns-in-Err-Job c =
+    let plain = c.plain-in-Err-Job.ensures in
     let refused = c.refusal-in-Err-Job.ensures in
-    let body : c.refusal-in-Err-Job.result.body ≡ Refused c.in-Err-Job.fault = rw c.in-Err-Job.field-0-is at refused.body in
-    rw (refused.status, body) (sweep_unmade c.in-Ok.job c.in-Err-Job.fault _ _ _ c.in-Ok.ensures c.in-Err-Job.is c.in-Err-Job.field-0-is c.sweep.ensures.full c.in-Err-Job.ensures.memory)
+    λ form. rw (plain.status, plain.body, refused.status, refused.body) (sweep_unmade c.in-Ok.job c.in-Err-Job.fault _ _ _ c.in-Ok.ensures c.in-Err-Job.is c.in-Err-Job.field-0-is c.sweep.ensures.full c.in-Err-Job.ensures.memory)

@@ -1,6 +1,5 @@
 use Rattle.std.proofs.Common.{◌≡◌, ◌<◌, ◌∙◌, arith, ap, bytes_eq, length, refl, rules, string_bytes, sym, true, vec_len}
-use Rattle.ulfm_run_reply.specs.inside.Tallied.{rows_of}
-use Rattle.ulfm_run_reply.specs.Tally.{Row, counted}
+use Rattle.ulfm_run_reply.specs.Tally.{Row, counted, rows_of}
 use Rattle.ulfm_run_reply.proofs.Tallied.{found}
 use Rattle.ulfm_run_reply.proofs.tally.count_text.Goals as goal
 

@@ -1,6 +1,5 @@
 use Rattle.std.proofs.Common.{◌≡◌, string_bytes}
-use Rattle.ulfm_run_reply.specs.inside.Tallied.{rows_of}
-use Rattle.ulfm_run_reply.specs.Tally.{counted}
+use Rattle.ulfm_run_reply.specs.Tally.{counted, rows_of}
 use Rattle.ulfm_run_reply.proofs.Tallied.{counted_from}
 use Rattle.ulfm_run_reply.proofs.tally.count_text.Given as goal
 

@@ -4,9 +4,9 @@ use Rattle.ulfm_run_reply.specs.Played.{AreOfRun}
 use Rattle.ulfm_reader.specs.JobText.{rows_of as rows_asked}
 use Rattle.ulfm_forms.specs.Form.{trace_in}
 use Rattle.ulfm_run_reply.specs.Brief.{with_run}
-use Rattle.ulfm_run_reply.specs.Tally.{counted_once}
+use Rattle.ulfm_run_reply.specs.Tally.{counted_once, rows_of}
 use Rattle.ulfm_run_reply.specs.declared.tally.Counted.{Counted}
-use Rattle.ulfm_run_reply.specs.inside.Tallied.{AreFew, rows_of, spots_told}
+use Rattle.ulfm_run_reply.specs.inside.Tallied.{AreFew, spots_told}
 use Rattle.ulfm_run_reply.specs.Asking.{as_asked}
 use Rattle.ulfm_run_reply.specs.Unfinished.{has_unfinished}
 use Rattle.ulfm_run_reply.proofs.Tallied.{one_more, some_more, all_more, lines_more}

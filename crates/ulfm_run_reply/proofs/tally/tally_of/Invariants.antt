@@ -4,9 +4,9 @@ use Rattle.ulfm_run_reply.specs.Played.{AreOfRun}
 use Rattle.ulfm_reader.specs.JobText.{rows_of as rows_asked}
 use Rattle.ulfm_answer.specs.Report.{Report}
 use Rattle.ulfm_forms.specs.Form.{trace_in}
-use Rattle.ulfm_run_reply.specs.Brief.{lines_there}
-use Rattle.ulfm_run_reply.specs.inside.Tallied.{AreFew, AreFewAt, lines_seen, rows_of, spots_told}
-use Rattle.ulfm_run_reply.specs.Tally.{tally}
+use Rattle.ulfm_run_reply.specs.Brief.{lines_seen, lines_there}
+use Rattle.ulfm_run_reply.specs.inside.Tallied.{AreFew, AreFewAt, spots_told}
+use Rattle.ulfm_run_reply.specs.Tally.{rows_of, tally}
 use Rattle.ulfm_run_reply.specs.Asking.{as_asked}
 use Rattle.ulfm_run_reply.specs.Unfinished.{has_unfinished}
 use Rattle.ulfm_run_reply.proofs.tally.tally_of.Given as goal

@@ -1,6 +1,5 @@
 use Rattle.std.proofs.Common.{◌≡◌, string_bytes, take}
-use Rattle.ulfm_run_reply.specs.inside.Tallied.{rows_of}
-use Rattle.ulfm_run_reply.specs.Tally.{tally_in}
+use Rattle.ulfm_run_reply.specs.Tally.{rows_of, tally_in}
 use Rattle.ulfm_run_reply.proofs.tally.tally_text.Given as goal
 
 abbrev pub invariant-loop-row : goal.invariant-loop-row
