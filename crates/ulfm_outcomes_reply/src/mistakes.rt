@@ -140,9 +140,5 @@ fn mistaken(
     answer: &'static str,
     places: Vec<Place>,
 ) -> Result<Remark, AllocError> {
-    Ok(Remark::Mistaken(
-        StepTold::of(alloc, asked, rank, at)?,
-        answer.trim_end(),
-        places,
-    ))
+    Ok(Remark::Mistaken(StepTold::of(alloc, asked, rank, at)?, answer, places))
 }
