@@ -12,6 +12,13 @@
 
 enum { MANY = 1000 }; /* so many places may take long */
 
+/* How the run with a stop at a place came out, until its line is told. */
+struct judged {
+    bool is_there;
+    enum outcome outcome;
+    char why[600];
+};
+
 /* One kind of sends: the run without a stop, and its places. */
 struct kind_of_sends {
     bool sends_wait;
@@ -20,6 +27,8 @@ struct kind_of_sends {
     int count;
     double seconds;      /* that the run took */
     struct found *found; /* of --every-schedule: what the search at each place found; else null */
+    struct judged *judged;
+    int told; /* the places before have their lines */
 };
 
 static volatile sig_atomic_t is_interrupted;
@@ -72,12 +81,15 @@ static bool run_base(struct kind_of_sends *kind, const char *launcher) {
     return is_well;
 }
 
-static void tell_result(const struct kind_of_sends *kind, const struct place *place, struct result *result) {
-    char why[600];
-    enum outcome outcome = um_judge(&kind->base, result, place, why, sizeof why);
-    counts[kind->sends_wait][outcome]++;
-    um_tell_outcome(place, kind->sends_wait, outcome, why);
+/* Judges the run of a place. Lines are told in the order of places, each as soon as none is missing before it. */
+static void tell_result(struct kind_of_sends *kind, int place, struct result *result) {
+    struct judged *judged = &kind->judged[place];
+    judged->outcome = um_judge(&kind->base, result, &kind->places[place], judged->why, sizeof judged->why);
+    judged->is_there = true;
+    counts[kind->sends_wait][judged->outcome]++;
     free(result->output);
+    for (; kind->told < kind->count && kind->judged[kind->told].is_there; kind->told++)
+        um_tell_outcome(&kind->places[kind->told], kind->sends_wait, kind->judged[kind->told].outcome, kind->judged[kind->told].why);
 }
 
 /* What a search found. One that was interrupted before it began wasn't tried. */
@@ -88,7 +100,7 @@ static void keep_found(const struct trial *trial, const struct kind_of_sends *ki
     else if (um_options.json) um_tell_json(&kind->places[trial->place], found);
 }
 
-static void end_trial(struct trial *trial, const struct kind_of_sends *kind) {
+static void end_trial(struct trial *trial, struct kind_of_sends *kind) {
     struct result result;
     if (kind->found) {
         keep_found(trial, kind);
@@ -97,7 +109,7 @@ static void end_trial(struct trial *trial, const struct kind_of_sends *kind) {
         return;
     }
     um_read_result(trial, &result);
-    tell_result(kind, &kind->places[trial->place], &result);
+    tell_result(kind, trial->place, &result);
     um_close_trial(trial);
     trial->pid = 0;
 }
@@ -147,7 +159,7 @@ static int list_places(const struct kind_of_sends *kind) {
 }
 
 /* Runs the program for each place, `trial_count` at the same time. */
-static bool run_places(const struct kind_of_sends *kind, const char *launcher) {
+static bool run_places(struct kind_of_sends *kind, const char *launcher) {
     int next = 0, running = 0;
     while ((next < kind->count && !is_interrupted) || running > 0) {
         int free_trial = 0;
@@ -212,14 +224,14 @@ static void tell_estimate(const struct kind_of_sends *kind) {
 }
 
 /* Plays the program once by its seed, and goes on from each place in a process of its own. */
-static bool run_branches(const struct kind_of_sends *kind, const char *launcher) {
+static bool run_branches(struct kind_of_sends *kind, const char *launcher) {
     struct trial *trial = &trials[0];
     *trial = (struct trial){.place = -1, .sends_wait = kind->sends_wait, .branches = um_write_wanted(kind->places, kind->count)};
     struct result *results = calloc((size_t)kind->count, sizeof *results);
     bool is_well = results && trial->branches > 0 && um_start_trial(trial, launcher, 0);
     while (is_well && wait_for_trial() != 0) continue;
     if (is_well) is_well = um_read_branches(trial, kind->places, kind->count, results);
-    for (int k = 0; k < kind->count && is_well; k++) tell_result(kind, &kind->places[k], &results[k]);
+    for (int k = 0; k < kind->count && is_well; k++) tell_result(kind, k, &results[k]);
     if (!is_well) fprintf(stderr, "ulfm-mpirun: the places can't be gone on from\n");
     close(trial->branches);
     um_close_trial(trial);
@@ -230,10 +242,13 @@ static bool run_branches(const struct kind_of_sends *kind, const char *launcher)
 
 static bool try_places(struct kind_of_sends *kind, const char *launcher) {
     kind->count = um_choose_places(kind->places, kind->count);
+    kind->judged = calloc((size_t)kind->count + 1, sizeof *kind->judged);
+    if (!kind->judged) return false;
     tell_estimate(kind);
     begun = time(0);
     bool is_well = um_options.seed ? run_branches(kind, launcher) : run_places(kind, launcher);
     tell_progress(kind->count, kind->count);
+    free(kind->judged);
     return is_well;
 }
 
