@@ -1,8 +1,8 @@
-/* Calls for programs in Fortran and for older ones: handles as numbers, and names that MPI took back. mpi.h includes it. */
+/* Calls for libraries that serve programs in Fortran, and for older programs: handles as numbers, and names that MPI took back. mpi.h includes it. */
 #ifndef ULFM_MPI_OLDER_H
 #define ULFM_MPI_OLDER_H
 
-/* ---- Handles as Fortran has them (19.3.4), which libraries hand on. No call of Fortran is there. ---- */
+/* ---- Handles as Fortran has them (19.3.4), which libraries hand on. ---- */
 typedef int MPI_Fint;
 #define MPI_F_STATUS_SIZE 6
 #define MPI_F_STATUS_IGNORE ((MPI_Fint *)0)

@@ -225,6 +225,23 @@ typedef void MPI_User_function_c(void *, void *, MPI_Count *, MPI_Datatype *);
 /* Marks of a bound in MPI_Type_struct (17.1), of MPI-1: MPI_Type_create_resized serves better. */
 #define MPI_LB ULFM_MPI_TYPE(39)
 #define MPI_UB ULFM_MPI_TYPE(40)
+/* Those of Fortran are those of C of the same size. */
+#define MPI_CHARACTER MPI_CHAR
+#define MPI_LOGICAL MPI_INT
+#define MPI_INTEGER MPI_INT
+#define MPI_INTEGER1 MPI_INT8_T
+#define MPI_INTEGER2 MPI_INT16_T
+#define MPI_INTEGER4 MPI_INT32_T
+#define MPI_INTEGER8 MPI_INT64_T
+#define MPI_REAL MPI_FLOAT
+#define MPI_REAL4 MPI_FLOAT
+#define MPI_REAL8 MPI_DOUBLE
+#define MPI_DOUBLE_PRECISION MPI_DOUBLE
+#define MPI_COMPLEX MPI_C_FLOAT_COMPLEX
+#define MPI_COMPLEX8 MPI_C_FLOAT_COMPLEX
+#define MPI_COMPLEX16 MPI_C_DOUBLE_COMPLEX
+#define MPI_DOUBLE_COMPLEX MPI_C_DOUBLE_COMPLEX
+#define MPI_2INTEGER MPI_2INT
 #define MPI_CXX_BOOL MPI_C_BOOL
 #define MPI_CXX_FLOAT_COMPLEX MPI_C_FLOAT_COMPLEX
 #define MPI_CXX_DOUBLE_COMPLEX MPI_C_DOUBLE_COMPLEX

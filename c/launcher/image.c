@@ -95,6 +95,17 @@ static bool needs(const struct image *image, const char *library) {
     return false;
 }
 
+/* The name of the library that begins so, as a program in memory asks for it, or the library itself has it; null: neither. */
+char *um_library_named_in(char *bytes, size_t size, const char *beginning) {
+    struct image image = {.at = bytes, .size = size};
+    char *texts = read_head(&image) ? table_of(&image, DT_STRTAB) : 0;
+    for (const Elf64_Dyn *entry = image.dynamic; texts && entry->d_tag != DT_NULL; entry++) {
+        if (entry->d_tag != DT_NEEDED && entry->d_tag != DT_SONAME) continue;
+        if (!strncmp(texts + entry->d_un.d_val, beginning, strlen(beginning))) return texts + entry->d_un.d_val;
+    }
+    return 0;
+}
+
 /* The library of C++ begins before the program, whose copies of the streams are filled as it is loaded; whoever first asks for them makes them. */
 static void begin_streams(const struct image *image) {
     static char asker;

@@ -21,9 +21,15 @@ int ulfm_mpirun(int count, char **words);
 int um_read_words(int count, char **words);
 char *um_quoted(const char *word);
 
-/* load.c, image.c */
+/* load.c, runtime.c, image.c */
 bool um_copy_programs(void);
+char *um_read_file(const char *path, size_t *size);
+bool um_write_copy(const char *path, const char *bytes, size_t size);
+void um_read_runtime(char *program, size_t size);
+bool um_copy_runtime(int rank, const char *folder);
+void um_free_runtime(void);
 bool um_mend_program(char *bytes, size_t size);
+char *um_library_named_in(char *bytes, size_t size, const char *beginning);
 void um_remove_copies(void);
 void um_leave_copies(void);
 int um_run_program(struct rank *rank);

@@ -25,9 +25,9 @@ static bool make_folder(void) {
     return true;
 }
 
-/* The program in memory, as each rank's copy has it, or null. */
-static char *read_program(size_t *size) {
-    int from = open(um_options.program, O_RDONLY | O_CLOEXEC);
+/* A file in memory, or null. */
+char *um_read_file(const char *path, size_t *size) {
+    int from = open(path, O_RDONLY | O_CLOEXEC);
     struct stat info;
     char *bytes = from >= 0 && fstat(from, &info) == 0 && S_ISREG(info.st_mode) ? malloc((size_t)info.st_size + 1) : 0;
     bool is_well = bytes != 0;
@@ -42,7 +42,7 @@ static char *read_program(size_t *size) {
     return 0;
 }
 
-static bool write_copy(const char *path, const char *bytes, size_t size) {
+bool um_write_copy(const char *path, const char *bytes, size_t size) {
     int to = open(path, O_WRONLY | O_CREAT | O_EXCL | O_CLOEXEC, 0700);
     bool is_well = to >= 0;
     for (size_t at = 0; is_well && at < size;) {
@@ -58,13 +58,16 @@ static bool write_copy(const char *path, const char *bytes, size_t size) {
 bool um_copy_programs(void) {
     const char *name = strrchr(um_options.program, '/');
     size_t size;
-    char *bytes = read_program(&size);
+    char *bytes = um_read_file(um_options.program, &size);
     bool is_well = bytes && make_folder();
     if (is_well && !um_mend_program(bytes, size)) return false;
+    if (is_well) um_read_runtime(bytes, size);
     for (int k = 0; k < um_options.ranks && is_well; k++)
-        is_well = asprintf(&um_ranks[k].program.path, "%s/%s.rank%d", folder, name ? name + 1 : um_options.program, k) >= 0 &&
-                  write_copy(um_ranks[k].program.path, bytes, size);
+        is_well = um_copy_runtime(k, folder) &&
+                  asprintf(&um_ranks[k].program.path, "%s/%s.rank%d", folder, name ? name + 1 : um_options.program, k) >= 0 &&
+                  um_write_copy(um_ranks[k].program.path, bytes, size);
     if (!is_well) fprintf(stderr, "ulfm-mpirun: %s can't be copied\n", um_options.program);
+    um_free_runtime();
     free(bytes);
     return is_well;
 }
@@ -76,8 +79,10 @@ void um_leave_copies(void) { are_left = true; }
 
 void um_remove_copies(void) {
     if (!um_is_launcher() || are_left) return;
-    for (int k = 0; k < um_options.ranks; k++)
+    for (int k = 0; k < um_options.ranks; k++) {
         if (um_ranks[k].program.path) unlink(um_ranks[k].program.path);
+        if (um_ranks[k].program.runtime) unlink(um_ranks[k].program.runtime);
+    }
     if (folder[0]) rmdir(folder);
 }
 
@@ -112,6 +117,7 @@ static void refuse_program(void) {
 /* Loads the copy of the rank that runs, and calls its main. Its status, or STATUS_USAGE where it can't be loaded. */
 int um_run_program(struct rank *rank) {
     extern char **environ;
+    if (rank->program.runtime && !dlopen(rank->program.runtime, RTLD_NOW | RTLD_LOCAL)) refuse_program();
     rank->program.handle = dlopen(rank->program.path, RTLD_NOW | RTLD_LOCAL);
     if (!rank->program.handle) refuse_program();
     typedef int starting(int, char **, char **);

@@ -23,9 +23,15 @@ void um_enter_call(const char *call, const void *from, struct comm *comm, int pe
     if (um_me->life.has_finalized) refuse(call, "was called after MPI_Finalize");
     if (um_me->mpi.is_starting) return;
     if (um_me->recovery.known_count < atomic_load_explicit(&um_stopped_ranks, memory_order_relaxed)) um_note_failures();
+    if (um_me->program.called_from) from = um_me->program.called_from;
     um_set_call((struct call){.name = call, .from = from, .comm = comm, .peer = peer, .tag = tag});
     um_me->played.looks = 0;
     if (counts) um_count_call();
+}
+
+/* By a wrapper of Fortran (fortran/fortran.h), before and after a call. */
+void ulfm_mpi_called_from(const void *from) {
+    if (um_me) um_me->program.called_from = from;
 }
 
 int MPI_Init_thread(int *argc, char ***argv, int required, int *provided) {

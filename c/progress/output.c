@@ -6,6 +6,7 @@
 #include <stdarg.h>
 #include <stdlib.h>
 #include <string.h>
+#include <sys/syscall.h>
 #include <unistd.h>
 
 #define REAL(name, ...) \
@@ -19,7 +20,7 @@ static bool keeps_lines(void) { return um_options.tag || um_options.report >= 0;
 
 static void write_all(const char *bytes, size_t length) {
     while (length) {
-        ssize_t count = write(1, bytes, length);
+        ssize_t count = syscall(SYS_write, 1, bytes, length);
         if (count <= 0) return;
         bytes += count;
         length -= count;
@@ -102,6 +103,12 @@ int vfprintf(FILE *file, const char *format, va_list words) {
 size_t fwrite(const void *bytes, size_t size, size_t count, FILE *file) {
     REAL(fwrite);
     return real_fwrite(bytes, size, count, stream(file));
+}
+
+/* Fortran's library writes so, a part of a line too. The kernel is asked itself, as by handlers of signals. */
+ssize_t write(int file, const void *bytes, size_t count) {
+    if (file == 1 && um_me && um_me->program.runtime && um_me->out.file) return (ssize_t)fwrite(bytes, 1, count, um_me->out.file);
+    return syscall(SYS_write, file, bytes, count);
 }
 
 int fputs(const char *text, FILE *file) {

@@ -222,6 +222,8 @@ struct output {
 struct program {
     void *handle;
     char *path, **words;
+    char *runtime;              /* its copy of Fortran's library, or null */
+    const void *called_from;    /* where a wrapper's present call stands in it, or null */
     struct farewell *farewells; /* what it does at its end, the last first */
 };
 

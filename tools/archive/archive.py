@@ -115,7 +115,7 @@ class Archive:
     def lay_programs(self):
         """The program, and what C programs are built and run with."""
         self.copy(PROGRAM, "libexec/ulfm")
-        made = subprocess.run(["make", "-s", "-C", ROOT / "c", f"-j{os.cpu_count()}", "install", f"PREFIX={self.folder}"], text=True,
+        made = subprocess.run(["make", "-s", "-C", ROOT / "c", f"-j{os.cpu_count()}", "install", f"PREFIX={self.folder}", "FORTRAN="], text=True,
                               stdout=subprocess.PIPE, stderr=subprocess.STDOUT, check=False)
         if made.returncode:
             raise CannotPack(f"the layer for C can't be made:\n{made.stdout}")
