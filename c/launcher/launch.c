@@ -87,7 +87,6 @@ void um_prepare_rank(struct rank *rank, int number) {
     rank->number = number;
     rank->slot = &rank->home;
     pthread_mutex_init(&rank->sent.lock, 0);
-    pthread_mutex_init(&rank->call_lock, 0);
     rank->plan.random = um_options.yields * 0x9E3779B97F4A7C15u + (uint64_t)number * 0xBF58476D1CE4E5B9u + 1;
 }
 

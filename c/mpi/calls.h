@@ -39,7 +39,11 @@ struct cart *um_copy_cart(const struct cart *cart);
 int um_split_comm(struct comm *of, int color, int key, MPI_Comm *made);
 
 /* comm.c, dup.c, group.c */
-struct comm *um_comm_at(MPI_Comm handle);
+/* The communicator of a handle, or null: it isn't one, or not yet. */
+static inline struct comm *um_comm_at(MPI_Comm handle) {
+    uintptr_t number = (uintptr_t)handle;
+    return um_me && number && number <= (uintptr_t)um_me->mpi.comm_count ? um_me->mpi.comms[number - 1] : 0;
+}
 int um_position_at(const struct comm *comm, uint32_t place);
 bool um_fill_comm(struct comm *comm, const struct group *group);
 void um_group_of(const struct comm *comm, struct group *group);

@@ -5,12 +5,6 @@
 #include <stdlib.h>
 #include <string.h>
 
-/* The communicator of a handle, or null: it isn't one, or not yet. */
-struct comm *um_comm_at(MPI_Comm handle) {
-    uintptr_t number = (uintptr_t)handle;
-    return um_me && number && number <= (uintptr_t)um_me->mpi.comm_count ? um_me->mpi.comms[number - 1] : 0;
-}
-
 MPI_Comm um_handle_of(const struct comm *comm) {
     for (int k = 0; k < um_me->mpi.comm_count; k++)
         if (um_me->mpi.comms[k] == comm) return (MPI_Comm)(uintptr_t)(k + 1);

@@ -7,10 +7,10 @@
 #include <string.h>
 
 /* Why a message can't be sent or received, or MPI_SUCCESS, and its bytes. */
-static int check(const void *buf, int count, MPI_Datatype type, int peer, int tag, const struct comm *comm, bool is_receive, size_t *bytes) {
+static inline int check(const void *buf, int count, MPI_Datatype type, int peer, int tag, const struct comm *comm, bool is_receive, size_t *bytes) {
     int code;
     if (!comm) return MPI_ERR_COMM;
-    if (!um_check_buffer(count, type, bytes, &code)) return code;
+    if (!um_check_type(count, type, bytes, &code)) return code;
     bool is_any = is_receive && peer == MPI_ANY_SOURCE;
     if (!is_any && peer != MPI_PROC_NULL && (peer < 0 || peer >= comm->size)) return MPI_ERR_RANK;
     if (!(is_receive && tag == MPI_ANY_TAG) && (tag < 0 || tag > MPI_TAG_UB_VALUE)) return MPI_ERR_TAG;
@@ -45,6 +45,7 @@ int um_send_buffered(const void *buf, int count, MPI_Datatype type, int dest, in
     void *packed;
     int code = check(buf, count, type, dest, tag, comm, false, &bytes);
     if (code != MPI_SUCCESS || dest == MPI_PROC_NULL) return code;
+    if (um_type_at(type)->is_plain) return um_send_now(comm, dest, tag, buf, bytes, 0);
     code = um_pack_data(buf, count, type, &data, &packed);
     if (code == MPI_SUCCESS) code = um_send_now(comm, dest, tag, data, bytes, 0);
     free(packed);
@@ -55,8 +56,8 @@ int um_begin_receive(void *buf, int count, MPI_Datatype type, int source, int ta
     size_t bytes = 0;
     int code = check(buf, count, type, source, tag, comm, true, &bytes);
     if (code != MPI_SUCCESS) return code;
-    struct landing *landing;
-    if (!um_make_landing(buf, count, type, &landing)) return MPI_ERR_NO_MEM;
+    struct landing *landing = 0;
+    if (!um_type_at(type)->is_plain && !um_make_landing(buf, count, type, &landing)) return MPI_ERR_NO_MEM;
     *made = um_new_request(RECEIVE, comm, source, tag);
     if (!*made) {
         um_free_landing(landing);

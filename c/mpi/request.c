@@ -32,16 +32,22 @@ static int free_place(void) {
 struct request *um_new_request(enum kind kind, struct comm *comm, int peer, int tag) {
     struct request *request = um_me->mpi.spare;
     int place = free_place();
-    if (place < 0 || (!request && !(request = malloc(sizeof *request)))) return 0;
+    if (place < 0 || (!request && !(request = calloc(1, sizeof *request)))) return 0;
     if (um_me->mpi.spare) um_me->mpi.spare = request->next;
-    memset(request, 0, kind == COLLECTIVE || kind == EXCHANGE ? sizeof *request : offsetof(struct request, parts));
     request->kind = kind;
     request->comm = comm;
     request->context = comm->context;
     request->peer = peer;
     request->tag = tag;
-    request->handle = place + 1;
+    request->buffer = 0;
+    request->room = 0;
+    request->parcel = 0;
+    request->landing = 0;
+    request->over = request->freed = false;
+    request->code = MPI_SUCCESS;
     request->status = (MPI_Status){.MPI_SOURCE = peer, .MPI_TAG = tag};
+    request->next = request->previous = 0;
+    request->handle = place + 1;
     um_me->mpi.requests[place] = request;
     if (kind == RECOVERY) um_me->mpi.recoveries++;
     return request;
@@ -59,16 +65,22 @@ static void unlink_open(struct request *request) {
     if (request->next) request->next->previous = request->previous;
 }
 
-void um_free_request(struct request *request) {
-    if (request->kind == RECEIVE && !request->over) unlink_open(request);
-    if (request->parcel) um_let_go(request->parcel);
-    um_free_landing(request->landing);
+/* Frees what only requests of some kinds have. */
+static void free_rest(struct request *request) {
     um_free_start(request->start);
     um_free_repeated(request->repeated);
     um_free_reduction(request->reduction);
     if (request->kind == RECOVERY) um_me->mpi.recoveries--;
     um_free_copy(request);
     free(request->more);
+    memset(&request->start, 0, sizeof *request - offsetof(struct request, start));
+}
+
+void um_free_request(struct request *request) {
+    if (request->kind == RECEIVE && !request->over) unlink_open(request);
+    if (request->parcel) um_let_go(request->parcel);
+    if (request->landing) um_free_landing(request->landing);
+    if (request->kind >= EXCHANGE) free_rest(request);
     um_me->mpi.requests[request->handle - 1] = 0;
     if (request->handle - 1 < um_me->mpi.first_free) um_me->mpi.first_free = request->handle - 1;
     request->next = um_me->mpi.spare;
@@ -115,8 +127,10 @@ void um_start_receive(struct request *request, void *buffer, size_t room) {
     if (!comm->is_part || !um_is_revoked(comm)) code = ulfm_irecv(um_me->slot, request->context, source, tag, BODY, &request->id);
     link_open(request);
     if (code != ULFM_OK) um_end_request(request, um_class_of(code));
-    else if (um_is_waited_for() && um_is_played) um_look_in_passing(request);
-    else if (um_is_waited_for()) um_look_at(request);
+    else if (um_is_waited_for()) {
+        if (um_is_played) um_look_in_passing(request);
+        else um_look_at(request);
+    }
 }
 
 /* Sends a message of the program. Where `parcel` isn't null, it gets a parcel whose flag tells the match. */
@@ -174,19 +188,7 @@ static void end_revoked(struct request *request) {
     else um_end_request(request, MPIX_ERR_REVOKED);
 }
 
-/* Looks at a request once. It may be over then. MPIX_ERR_PROC_FAILED_PENDING where it pends, else MPI_SUCCESS. */
-int um_look_at(struct request *request) {
-    if (request->over) return MPI_SUCCESS;
-    if (request->kind == SYNCHRONOUS) return look_at_send(request);
-    if (request->kind == EXCHANGE) return um_look_at_exchange(request);
-    if (request->kind == COLLECTIVE) {
-        um_look_at_collective(request);
-        return MPI_SUCCESS;
-    }
-    if (request->kind == RECOVERY) {
-        request->look(request);
-        return MPI_SUCCESS;
-    }
+static int look_at_receive(struct request *request) {
     struct received received;
     uint32_t code = ulfm_test(um_me->slot, request->id, &received.told, &received.body.content, sizeof received.body);
     bool is_open = code == ULFM_NOT_YET || code == ULFM_PENDING;
@@ -199,6 +201,18 @@ int um_look_at(struct request *request) {
     if (code == ULFM_OK) end_receive(request, &received);
     else um_end_request(request, um_class_of(code));
     return MPI_SUCCESS;
+}
+
+/* Looks at a request once. It may be over then. MPIX_ERR_PROC_FAILED_PENDING where it pends, else MPI_SUCCESS. */
+int um_look_at(struct request *request) {
+    if (request->over) return MPI_SUCCESS;
+    switch (request->kind) {
+    case SYNCHRONOUS: return look_at_send(request);
+    case EXCHANGE: return um_look_at_exchange(request);
+    case COLLECTIVE: um_look_at_collective(request); return MPI_SUCCESS;
+    case RECOVERY: request->look(request); return MPI_SUCCESS;
+    default: return look_at_receive(request);
+    }
 }
 
 /* Looks at all receives that wait, so that senders that wait for a match are told. */

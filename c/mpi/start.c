@@ -17,16 +17,33 @@ static void refuse(const char *call, const char *why) {
     um_end_run(STATUS_FATAL);
 }
 
-void um_enter_call(const char *call, const void *from, struct comm *comm, int peer, int tag, bool counts) {
-    if (!um_me) refuse(call, "was called outside of a rank's first thread");
-    if (!um_me->life.has_begun) refuse(call, "was called before MPI_Init");
-    if (um_me->life.has_finalized) refuse(call, "was called after MPI_Finalize");
+static inline void begin(struct rank *me, const struct call *call, bool counts) {
+    me->call = *call;
+    um_let_call_go(me);
+    me->played.looks = 0;
+    if (counts) um_count_call();
+}
+
+/* Most calls have nothing of this. */
+static __attribute__((noinline)) void enter_slowly(const struct call *like, bool counts) {
+    struct call call = *like;
+    if (!um_me) refuse(call.name, "was called outside of a rank's first thread");
+    if (!um_me->life.has_begun) refuse(call.name, "was called before MPI_Init");
+    if (um_me->life.has_finalized) refuse(call.name, "was called after MPI_Finalize");
     if (um_me->mpi.is_starting) return;
     if (um_me->recovery.known_count < atomic_load_explicit(&um_stopped_ranks, memory_order_relaxed)) um_note_failures();
-    if (um_me->program.called_from) from = um_me->program.called_from;
-    um_set_call((struct call){.name = call, .from = from, .comm = comm, .peer = peer, .tag = tag});
-    um_me->played.looks = 0;
-    if (counts) um_count_call();
+    if (um_me->program.called_from) call.from = um_me->program.called_from;
+    um_hold_call(um_me);
+    begin(um_me, &call, counts);
+}
+
+void um_enter_call(const char *name, const void *from, struct comm *comm, int peer, int tag, bool counts) {
+    struct rank *me = um_me;
+    const struct call call = {.name = name, .from = from, .comm = comm, .peer = peer, .tag = tag};
+    bool is_plain = me && me->life.has_begun && !me->life.has_finalized && !me->mpi.is_starting && !me->program.called_from &&
+                    me->recovery.known_count >= atomic_load_explicit(&um_stopped_ranks, memory_order_relaxed);
+    if (is_plain && um_try_to_hold_call(me)) begin(me, &call, counts);
+    else enter_slowly(&call, counts);
 }
 
 /* By a wrapper of Fortran (fortran/fortran.h), before and after a call. */

@@ -99,10 +99,11 @@ static uint32_t bits_of_group(const ulfm_group *group) {
 }
 
 #define REAL(name) __typeof__(ulfm_##name) __real_ulfm_##name, __wrap_ulfm_##name
+/* Apart, so that a run which isn't played pays one look. */
+#define SELDOM __attribute__((noinline))
 
 REAL(isend);
-uint32_t __wrap_ulfm_isend(ulfm_slot *slot, uint32_t comm, uint32_t dest, uint32_t tag, const uint8_t *body, size_t length) {
-    if (!um_is_played) return __real_ulfm_isend(slot, comm, dest, tag, body, length);
+static SELDOM uint32_t isend(ulfm_slot *slot, uint32_t comm, uint32_t dest, uint32_t tag, const uint8_t *body, size_t length) {
     before(event_of(SENDS, comm, dest, tag));
     uint32_t code = __real_ulfm_isend(slot, comm, dest, tag, body, length);
     if (um_footprints) um_end_send(dest, code);
@@ -110,24 +111,35 @@ uint32_t __wrap_ulfm_isend(ulfm_slot *slot, uint32_t comm, uint32_t dest, uint32
     return code;
 }
 
+uint32_t __wrap_ulfm_isend(ulfm_slot *slot, uint32_t comm, uint32_t dest, uint32_t tag, const uint8_t *body, size_t length) {
+    return um_is_played ? isend(slot, comm, dest, tag, body, length) : __real_ulfm_isend(slot, comm, dest, tag, body, length);
+}
+
 REAL(irecv);
-uint32_t __wrap_ulfm_irecv(ulfm_slot *slot, uint32_t comm, uint32_t source, uint32_t tag, uint32_t room, uint64_t *request) {
-    if (um_is_played) before(event_of(POSTS, comm, source, tag));
+static SELDOM uint32_t irecv(ulfm_slot *slot, uint32_t comm, uint32_t source, uint32_t tag, uint32_t room, uint64_t *request) {
+    before(event_of(POSTS, comm, source, tag));
     uint32_t code = __real_ulfm_irecv(slot, comm, source, tag, room, request);
     if (um_footprints) um_end_post(source, *request, code);
     return code;
 }
 
+uint32_t __wrap_ulfm_irecv(ulfm_slot *slot, uint32_t comm, uint32_t source, uint32_t tag, uint32_t room, uint64_t *request) {
+    return um_is_played ? irecv(slot, comm, source, tag, room, request) : __real_ulfm_irecv(slot, comm, source, tag, room, request);
+}
+
 REAL(test);
-uint32_t __wrap_ulfm_test(ulfm_slot *slot, uint64_t request, ulfm_status *status, uint8_t *body, size_t size) {
+static SELDOM uint32_t test(ulfm_slot *slot, uint64_t request, ulfm_status *status, uint8_t *body, size_t size) {
     uint32_t would = ULFM_NOT_YET;
-    if (!um_is_played) return __real_ulfm_test(slot, request, status, body, size);
     if (um_players[um_me->number].in_wait && ulfm_would(slot, request, &would) != ULFM_OK) would = ULFM_OK;
     if (!before_look(event_of(TESTS, 0, NOBODY, (uint32_t)request), request, would == ULFM_NOT_YET)) return ULFM_NOT_YET;
     uint32_t code = __real_ulfm_test(slot, request, status, body, size);
     if (um_footprints) um_end_look(request, code, status);
     if (code == ULFM_OK) um_forget_looks(&um_players[um_me->number]);
     return code;
+}
+
+uint32_t __wrap_ulfm_test(ulfm_slot *slot, uint64_t request, ulfm_status *status, uint8_t *body, size_t size) {
+    return um_is_played ? test(slot, request, status, body, size) : __real_ulfm_test(slot, request, status, body, size);
 }
 
 /* What a look at a send that waits would answer: it was matched, or why it never is, or neither. */

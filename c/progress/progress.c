@@ -63,13 +63,6 @@ static bool turn(void) {
     return true;
 }
 
-/* Whether a sender may wait for a match here. */
-bool um_is_waited_for(void) {
-    bool is = atomic_load(&um_me->shared.waited_for) > 0;
-    if (!is && um_footprints) um_note_unwaited();
-    return is;
-}
-
 /* Something came, perhaps: tells the senders that wait for a match, and looks at shrinks and agreements that are open. */
 void um_look_at_open(void) {
     if (um_me->life.has_stopped) return;
@@ -146,12 +139,15 @@ void um_wait_until(bool (*is_done)(void *, bool is_settled), void *of, bool is_d
         um_wait_as_played(is_done, of);
         return;
     }
-    int looks = 0, most = looks_before_yield();
-    bool has_slept = false;
-    uint64_t seen = 0, asked_at = UINT64_MAX;
-    for (;;) {
+    uint64_t seen = 0, asked_at = um_count_of_marks();
+    bool has_moved = is_dear ? move_much() : um_move_once(), has_slept = false;
+    if (is_done(of, !has_moved)) {
+        learn(false);
+        return;
+    }
+    for (int looks = has_moved ? 0 : 1, most = looks_before_yield();;) {
         if (looks >= most + YIELDS) seen = all_moves(); /* before the look: what comes after it is a further move */
-        bool has_moved = is_dear ? move_much() : um_move_once();
+        has_moved = is_dear ? move_much() : um_move_once();
         uint64_t marked_at = um_count_of_marks();
         bool is_settled = !has_moved && (looks == most || marked_at != asked_at);
         if ((has_moved || is_settled) && is_done(of, is_settled)) break;

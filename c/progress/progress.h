@@ -4,6 +4,7 @@
 #define UM_PROGRESS_H
 
 #include "progress/rank.h"
+#include <sched.h>
 #include <signal.h>
 
 /* tell_table.c */
@@ -39,8 +40,15 @@ bool um_move_once(void);
 void um_moved(void);
 void um_marked(void);
 uint64_t um_count_of_marks(void);
-bool um_is_waited_for(void);
 void um_look_at_open(void);
+/* Whether a sender may wait for a match here. A search notes where none does (search/search.h). */
+extern struct footprint *um_footprints;
+void um_note_unwaited(void);
+static inline bool um_is_waited_for(void) {
+    bool is = atomic_load(&um_me->shared.waited_for) > 0;
+    if (!is && um_footprints) um_note_unwaited();
+    return is;
+}
 void um_wait_until(bool (*is_done)(void *, bool is_settled), void *of, bool is_dear);
 bool um_all_are_gone(void *unused, bool is_settled);
 
@@ -54,6 +62,11 @@ struct sight {
 };
 void um_set_call(struct call call);
 void um_set_awaited(uint32_t ranks);
+static inline bool um_try_to_hold_call(struct rank *rank) { return !atomic_exchange_explicit(&rank->call_is_held, true, memory_order_acquire); }
+static inline void um_hold_call(struct rank *rank) {
+    while (!um_try_to_hold_call(rank)) sched_yield();
+}
+static inline void um_let_call_go(struct rank *rank) { atomic_store_explicit(&rank->call_is_held, false, memory_order_release); }
 void um_forget_comm(void);
 void um_name_comm(struct comm *comm, const char *name);
 struct sight um_look_at_call(struct rank *rank);

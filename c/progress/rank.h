@@ -102,7 +102,7 @@ struct repeated;
 struct start;
 struct reduction;
 
-/* What was begun, until its end is told. */
+/* What was begun, until its end is told. Of one that is free, or of a kind before EXCHANGE, the fields from `start` on are null. */
 struct request {
     enum kind kind;
     struct comm *comm;
@@ -110,17 +110,17 @@ struct request {
     int peer, tag;
     void *buffer;
     size_t room;
-    uint64_t id;               /* the engine's number of the receive */
-    struct parcel *parcel;     /* of a synchronous send */
-    struct start *start;       /* of a persistent request: what it starts */
-    struct repeated *repeated; /* of a persistent collective: its arguments */
-    struct request *active;    /* of a persistent request: what it started, until its end is told */
-    struct landing *landing;   /* of a receive whose data aren't in one piece */
-    bool over, freed;          /* its status is known; the program freed it */
+    uint64_t id;             /* the engine's number of the receive */
+    struct parcel *parcel;   /* of a synchronous send */
+    struct landing *landing; /* of a receive whose data aren't in one piece */
+    bool over, freed;        /* its status is known; the program freed it */
     int code;
     MPI_Status status;
     struct request *next, *previous; /* of the open receives, or of those that can be used again */
     int handle;
+    struct start *start;              /* of a persistent request: what it starts */
+    struct repeated *repeated;        /* of a persistent collective: its arguments */
+    struct request *active;           /* of a persistent request: what it started, until its end is told */
     void (*look)(struct request *);   /* of a shrink or an agreement: looks at it once */
     void *more;                       /* what that knows of it */
     struct reduction *reduction;      /* of a collective: what is folded at its end, or null */
@@ -244,8 +244,8 @@ struct rank {
     struct parcels sent;
     struct recovery recovery;
     struct life life;
-    struct call call; /* by progress/call.c alone */
-    pthread_mutex_t call_lock;
+    struct call call;          /* by progress/call.c alone */
+    _Atomic bool call_is_held; /* by who writes it or looks at it, for a moment */
     struct patience patience;
     struct plan plan;
     struct played played;

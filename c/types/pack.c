@@ -5,11 +5,6 @@
 #include <stdlib.h>
 #include <string.h>
 
-/* Whether so many bytes of a type can stand there. With displacements from MPI_BOTTOM they can at a null pointer. */
-bool um_is_buffer(const void *buffer, size_t bytes, MPI_Datatype type) {
-    return bytes == 0 || ((buffer || !um_is_basic_type(type)) && buffer != MPI_IN_PLACE);
-}
-
 struct motion {
     char *packed;
     size_t left;

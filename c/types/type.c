@@ -7,7 +7,7 @@
 #include <string.h>
 #include <wchar.h>
 
-enum { FIRST_OWN = 64, FIRST_PAIR = 30, FIRST_COMPLEX = 36, LOWER_MARK = 39, UPPER_MARK = 40, BASIC = BASIC_TYPES };
+enum { FIRST_PAIR = 30, FIRST_COMPLEX = 36, LOWER_MARK = 39, UPPER_MARK = 40, BASIC = BASIC_TYPES };
 
 /* clang-format off */
 #define PAIR(first) {sizeof(first), sizeof(struct { first value; int place; })}
@@ -18,9 +18,8 @@ static const size_t sizes[FIRST_PAIR] = {0, 1, 1, 1, 1, 1, sizeof(short), sizeof
 /* Of pairs (6.9.4): the bytes of the value, and of the pair in memory. */
 static const size_t pairs[FIRST_COMPLEX - FIRST_PAIR][2] = {PAIR(float), PAIR(double), PAIR(long), PAIR(int), PAIR(short), PAIR(long double)};
 static const size_t parts_of_complex[LOWER_MARK - FIRST_COMPLEX] = {sizeof(float), sizeof(double), sizeof(long double)};
-static struct type basics[BASIC];
+struct type um_basic_types[BASIC];
 static struct block basic_blocks[BASIC][2];
-static pthread_once_t once = PTHREAD_ONCE_INIT;
 
 static struct block block_at(size_t at, size_t element, size_t alignment, enum external external) {
     return (struct block){(ptrdiff_t)at, 1, 0, 0, element, (uint32_t)element, (uint32_t)alignment, external};
@@ -35,7 +34,8 @@ static enum external external_of(uintptr_t number) {
     return type == MPI_LONG_DOUBLE || type == MPI_LONG_DOUBLE_INT || type == MPI_C_LONG_DOUBLE_COMPLEX ? QUAD : SAME;
 }
 
-static void make_basics(void) {
+/* Before any program asks for them. */
+static void __attribute__((constructor)) make_basics(void) {
     for (int k = 1; k < LOWER_MARK; k++) {
         struct block *block = basic_blocks[k];
         bool is_complex = k >= FIRST_COMPLEX, is_pair = k >= FIRST_PAIR && !is_complex;
@@ -44,38 +44,31 @@ static void make_basics(void) {
         enum external external = external_of((uintptr_t)k);
         block[0] = block_at(0, first, part, external);
         block[1] = block_at(first < sizeof(int) ? sizeof(int) : first, sizeof(int), sizeof(int), SAME);
-        basics[k] = (struct type){.users = 1,
-                                  .is_committed = true,
-                                  .is_basic = true,
-                                  .size = is_pair ? first + sizeof(int) : first,
-                                  .upper = (ptrdiff_t)whole,
-                                  .blocks = is_pair ? 2 : 1,
-                                  .block = block,
-                                  .base = (MPI_Datatype)(uintptr_t)k};
-        basics[k].is_plain = basics[k].size == whole;
-        basics[k].elements = basics[k].blocks;
-        basics[k].most = is_pair ? block[1].at + (ptrdiff_t)block[1].length : (ptrdiff_t)first;
-        basics[k].alignment = (uint32_t)(is_pair && part < sizeof(int) ? sizeof(int) : part);
-        basics[k].external = (external == HALF || external == UNSIGNED_HALF ? first / 2
-                              : external == QUAD                            ? first / part * 16
-                                                                            : first) +
-                             (is_pair ? sizeof(int) : 0);
+        um_basic_types[k] = (struct type){.users = 1,
+                                          .is_committed = true,
+                                          .is_basic = true,
+                                          .size = is_pair ? first + sizeof(int) : first,
+                                          .upper = (ptrdiff_t)whole,
+                                          .blocks = is_pair ? 2 : 1,
+                                          .block = block,
+                                          .base = (MPI_Datatype)(uintptr_t)k};
+        um_basic_types[k].is_plain = um_basic_types[k].size == whole;
+        um_basic_types[k].elements = um_basic_types[k].blocks;
+        um_basic_types[k].most = is_pair ? block[1].at + (ptrdiff_t)block[1].length : (ptrdiff_t)first;
+        um_basic_types[k].alignment = (uint32_t)(is_pair && part < sizeof(int) ? sizeof(int) : part);
+        um_basic_types[k].external = (external == HALF || external == UNSIGNED_HALF ? first / 2
+                                      : external == QUAD                            ? first / part * 16
+                                                                                    : first) +
+                                     (is_pair ? sizeof(int) : 0);
     }
     for (int k = LOWER_MARK; k <= UPPER_MARK; k++)
-        basics[k] = (struct type){.users = 1,
-                                  .is_committed = true,
-                                  .is_basic = true,
-                                  .is_plain = true,
-                                  .alignment = 1,
-                                  .has_lower = k == LOWER_MARK,
-                                  .has_upper = k == UPPER_MARK};
-}
-
-struct type *um_type_at(MPI_Datatype handle) {
-    uintptr_t number = (uintptr_t)handle;
-    pthread_once(&once, make_basics);
-    if (number < BASIC) return number ? &basics[number] : 0;
-    return number >= FIRST_OWN && number - FIRST_OWN < (uintptr_t)um_me->mpi.type_count ? um_me->mpi.types[number - FIRST_OWN] : 0;
+        um_basic_types[k] = (struct type){.users = 1,
+                                          .is_committed = true,
+                                          .is_basic = true,
+                                          .is_plain = true,
+                                          .alignment = 1,
+                                          .has_lower = k == LOWER_MARK,
+                                          .has_upper = k == UPPER_MARK};
 }
 
 void um_free_type(struct type *type) {
@@ -88,7 +81,7 @@ void um_free_type(struct type *type) {
     free(type);
 }
 
-MPI_Datatype um_handle_of_basic(const struct type *type) { return (MPI_Datatype)(uintptr_t)(type - basics); }
+MPI_Datatype um_handle_of_basic(const struct type *type) { return (MPI_Datatype)(uintptr_t)(type - um_basic_types); }
 
 int um_add_type(struct type *type, MPI_Datatype *made) {
     int place = 0;
@@ -102,7 +95,7 @@ int um_add_type(struct type *type, MPI_Datatype *made) {
         um_me->mpi.type_count++;
     }
     um_me->mpi.types[place] = type;
-    *made = (MPI_Datatype)(uintptr_t)(FIRST_OWN + place);
+    *made = (MPI_Datatype)(uintptr_t)(FIRST_OWN_TYPE + place);
     if (!type->handle) type->handle = *made;
     return MPI_SUCCESS;
 }
@@ -119,23 +112,13 @@ MPI_Datatype um_keep_type(MPI_Datatype handle) {
 void um_drop_type(MPI_Datatype handle) {
     struct type *type = um_type_at(handle);
     if (!type || type->is_basic) return;
-    um_me->mpi.types[(uintptr_t)handle - FIRST_OWN] = 0;
+    um_me->mpi.types[(uintptr_t)handle - FIRST_OWN_TYPE] = 0;
     um_free_type(type);
 }
 
 bool um_is_basic_type(MPI_Datatype handle) {
     const struct type *type = um_type_at(handle);
     return type && type->is_basic;
-}
-
-/* The type of messages of so many elements, and their bytes; or null, and why they can't be. */
-const struct type *um_check_type(int count, MPI_Datatype handle, size_t *bytes, int *code) {
-    const struct type *type = um_type_at(handle);
-    *bytes = 0;
-    *code = count < 0 ? MPI_ERR_COUNT : !type || !type->is_committed ? MPI_ERR_TYPE : MPI_SUCCESS;
-    if (*code != MPI_SUCCESS) return 0;
-    *bytes = (size_t)count * type->size;
-    return type;
 }
 
 bool um_check_buffer(int count, MPI_Datatype type, size_t *bytes, int *code) { return um_check_type(count, type, bytes, code) != 0; }

@@ -67,9 +67,23 @@ struct arguments {
 
 static inline ptrdiff_t extent_of(const struct type *type) { return type->upper - type->lower; }
 
-/* type.c */
-struct type *um_type_at(MPI_Datatype handle);
-const struct type *um_check_type(int count, MPI_Datatype handle, size_t *bytes, int *code);
+/* type.c: the basic types by their numbers, the first of which is none. */
+enum { FIRST_OWN_TYPE = 64 };
+extern struct type um_basic_types[BASIC_TYPES];
+static inline struct type *um_type_at(MPI_Datatype handle) {
+    uintptr_t number = (uintptr_t)handle;
+    if (number < BASIC_TYPES) return number ? &um_basic_types[number] : 0;
+    return number >= FIRST_OWN_TYPE && number - FIRST_OWN_TYPE < (uintptr_t)um_me->mpi.type_count ? um_me->mpi.types[number - FIRST_OWN_TYPE] : 0;
+}
+/* The type of messages of so many elements, and their bytes; or null, and why they can't be. */
+static inline const struct type *um_check_type(int count, MPI_Datatype handle, size_t *bytes, int *code) {
+    const struct type *type = um_type_at(handle);
+    *bytes = 0;
+    *code = count < 0 ? MPI_ERR_COUNT : !type || !type->is_committed ? MPI_ERR_TYPE : MPI_SUCCESS;
+    if (*code != MPI_SUCCESS) return 0;
+    *bytes = (size_t)count * type->size;
+    return type;
+}
 int um_add_type(struct type *type, MPI_Datatype *made);
 void um_free_type(struct type *type);
 MPI_Datatype um_handle_of_basic(const struct type *type);
@@ -101,7 +115,10 @@ void um_move_data(const struct type *type, int count, void *memory, void *packed
 bool um_is_basic_type(MPI_Datatype type);
 MPI_Datatype um_keep_type(MPI_Datatype type);
 void um_drop_type(MPI_Datatype type);
-bool um_is_buffer(const void *buffer, size_t bytes, MPI_Datatype type);
+/* Whether so many bytes of a type can stand there. With displacements from MPI_BOTTOM they can at a null pointer. */
+static inline bool um_is_buffer(const void *buffer, size_t bytes, MPI_Datatype type) {
+    return bytes == 0 || ((buffer || !um_is_basic_type(type)) && buffer != MPI_IN_PLACE);
+}
 bool um_check_buffer(int count, MPI_Datatype type, size_t *bytes, int *code);
 int um_pack_data(const void *buffer, int count, MPI_Datatype type, const void **data, void **packed);
 void um_unpack_data(const void *data, size_t bytes, void *buffer, int count, MPI_Datatype type);
