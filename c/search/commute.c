@@ -79,18 +79,26 @@ static bool are_sent_in_order(const struct footprint *call, const struct footpri
            revocation->flags & REVOKED_FIRST;
 }
 
-static bool is_before_revocation(const struct footprint *a, const struct footprint *b) {
+/* A message that no receive has, and a revocation: it is gone, whichever comes first. */
+static bool is_gone(const struct footprint *message, const struct footprint *revocation) {
+    bool is_wanted = revocation->ended_from >> message->source & 1;
+    return message->comm == revocation->comm && !is_wanted && !(message->flags & WAITED_FOR);
+}
+
+static bool is_before_revocation(const struct footprint *a, int at, const struct footprint *b) {
     if (!is_revoker(b)) return false;
+    bool is_kept = is_message(a) && !((a->is_dropped || at == BEFORE) && is_gone(a, b));
     bool saw_none = a->flags & SAW_NO_REVOCATION;
-    return (saw_none && is_call(a) && a->comm == b->comm) || (saw_none && is_message(a) && are_of_family(a, b)) ||
-           (is_failure(a) && end_the_same(a, b)) || has_silent(a, b->comm, OF_ANYBODY) || has_silent_send(a, b) || are_sent_in_order(a, b);
+    return (saw_none && is_call(a) && a->comm == b->comm) || (saw_none && is_kept && are_of_family(a, b)) || (is_failure(a) && end_the_same(a, b)) ||
+           has_silent(a, b->comm, OF_ANYBODY) || has_silent_send(a, b) || are_sent_in_order(a, b);
 }
 
 /* `at` is the number of a; BEFORE: that isn't known. */
 static bool is_after_revocation(const struct footprint *a, int at, const struct footprint *b) {
     if (!is_revoker(a) || !(a->flags & REVOKED_FIRST)) return false;
-    return (reads_revocations(b) && b->comm == a->comm) || (is_message(b) && are_of_family(a, b)) || (is_failure(b) && end_the_same(b, a)) ||
-           are_sent_in_order(b, a) || (is_end_of_receive(b) && b->comm == a->comm && (b->by == at || at == BEFORE));
+    return (reads_revocations(b) && b->comm == a->comm) || (is_message(b) && are_of_family(a, b) && !is_gone(b, a)) ||
+           (is_failure(b) && end_the_same(b, a)) || are_sent_in_order(b, a) ||
+           (is_end_of_receive(b) && b->comm == a->comm && (b->by == at || at == BEFORE));
 }
 
 static bool is_before_failure(const struct footprint *a, const struct footprint *b) {
@@ -151,6 +159,39 @@ static bool are_match_and_look(const struct footprint *a, const struct footprint
 /* Whether an event may not commute with one of another rank. */
 bool um_is_across(const struct footprint *e) { return is_poll(e) || e->matches || e->kind == LOOKS_AT_SEND || e->sends || e->gives; }
 
+/* Word of a revocation that was known. */
+static bool brings_nothing(const struct footprint *e) { return e->first != NO_STEP && !(e->flags & REVOKED_FIRST); }
+
+/* Two words of one revocation, or one and the rank's own: any of them may be the first one, and then the others bring nothing. */
+static bool are_words_of_one(const struct footprint *a, const struct footprint *b) {
+    return a->first != NO_STEP && b->first != NO_STEP && a->rank == b->rank && a->comm == b->comm;
+}
+
+/* Whether an event and a word that brought nothing don't commute, since the word might have been the first one before the event. */
+static bool is_before_word(const struct footprint *a, int at, const struct footprint *word) {
+    if (at == BEFORE || at >= word->first) return false;
+    const struct footprint *first = &um_footprints[word->first];
+    struct footprint own = *word;
+    own.flags |= REVOKED_FIRST;
+    own.ended = first->ended;
+    own.ended_on = first->ended_on;
+    own.ended_of = first->ended_of;
+    own.ended_from = first->ended_from;
+    return um_is_dependent(a, at, &own);
+}
+
+/* Whether an event is word of a revocation, or one's own, that might bring something if it came at another one's place. */
+bool um_may_revoke(const struct footprint *e, int at) { return e->flags & REVOKED_FIRST || e->first > at; }
+
+/* An event that commutes with another one comes after it: a word of a revocation that is known brings nothing. */
+void um_come_after(struct footprint *e, const struct footprint *other) {
+    if (!are_words_of_one(e, other)) return;
+    e->first = other->first;
+    e->flags &= (uint8_t)~REVOKED_FIRST;
+    e->ended = e->ended_of = e->ended_from = 0;
+    e->ended_on = 0;
+}
+
 /* Whether a, of the number `at`, and a later event of another process don't commute. */
 bool um_is_dependent(const struct footprint *a, int at, const struct footprint *b) {
     bool have_found = a->flags & b->flags & FOUND;
@@ -158,9 +199,10 @@ bool um_is_dependent(const struct footprint *a, int at, const struct footprint *
     if ((a->matches | b->matches) && are_match_and_look(a, b)) return true;
     if (a->gives & b->gives) return true;
     if (a->rank != b->rank) return is_poll(a) && is_poll(b) && a->topic == b->topic && have_found && a->proposal != b->proposal;
+    if (are_words_of_one(a, b)) return false;
     if (is_silent_before(a, b) || (a->flags & UNWAITED && is_message(b) && b->flags & WAITED_FOR)) return true;
-    if (a->comm == b->comm && is_revoker(a) && is_revoker(b) && (is_revocation(a) || is_revocation(b))) return (a->flags | b->flags) & REVOKED_FIRST;
-    return is_before_revocation(a, b) || is_after_revocation(a, at, b) || is_before_failure(a, b) || is_after_failure(a, at, b) ||
+    if (brings_nothing(b)) return is_before_word(a, at, b);
+    return is_before_revocation(a, at, b) || is_after_revocation(a, at, b) || is_before_failure(a, b) || is_after_failure(a, at, b) ||
            is_before_message(a, b) || is_after_message(a, at, b) || are_entry_and_poll(a, b) || are_of_copy(a, b);
 }
 

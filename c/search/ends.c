@@ -38,7 +38,7 @@ static int end_of(const struct footprint *e) {
 static bool is_of_any(const struct footprint *e) { return (e->kind == TESTS && e->source == ANYBODY) || (e->kind == PROBES && e->flags & OF_ANY); }
 
 /* Whether an event might have ended one of the requests. */
-static bool may_end_one(const struct ends *of, const struct footprint *e) {
+static bool may_end_one(const struct ends *of, const struct footprint *e, int at) {
     bool takes = e->kind == TAKES, is_match = !takes && e->matches;
     bool is_failure = takes && e->item == ULFM_STOP_NOTICE, is_message = takes && e->item == ULFM_MESSAGE;
     if (of->wants_all && (is_message || is_match)) return false;
@@ -50,7 +50,7 @@ static bool may_end_one(const struct ends *of, const struct footprint *e) {
             if (is_from) return true;
         } else if (is_message) {
             if (!of->at[k].is_send && (e->ended == of->at[k].id + 1 || e->ended == ANY_RECEIVE)) return true;
-        } else if (takes && e->item == ULFM_REVOCATION && e->flags & REVOKED_FIRST && of->at[k].comm == e->comm) return true;
+        } else if (takes && e->item == ULFM_REVOCATION && um_may_revoke(e, at) && of->at[k].comm == e->comm) return true;
     }
     return false;
 }
@@ -59,8 +59,8 @@ static bool may_end_one(const struct ends *of, const struct footprint *e) {
 static bool may_end(const struct footprint *look, const struct ends *of, const struct footprint *e) {
     bool is_match = e->matches >> look->rank & 1, is_taken = e->kind == TAKES && e->rank == look->rank;
     if (is_taken && e->item == ULFM_STOP_NOTICE && is_of_any(look)) return true;
-    if (is_taken && e->item == ULFM_REVOCATION && e->flags & REVOKED_FIRST && look->kind == LOOKS_AT_SEND && look->comm == e->comm) return true;
-    return of->count > 1 && (is_taken || is_match) && may_end_one(of, e);
+    if (is_taken && e->item == ULFM_REVOCATION && um_may_revoke(e, end_of(look)) && look->kind == LOOKS_AT_SEND && look->comm == e->comm) return true;
+    return of->count > 1 && (is_taken || is_match) && may_end_one(of, e, end_of(look));
 }
 
 /* Whether an item might have ended the wait that a look ended. */
@@ -76,9 +76,9 @@ void um_want_other_ends(int from) {
         const struct ends *of = &um_search->ends[look];
         int by = end_of(e);
         if (by < 0 || by >= look || !(of->count > 1 || is_of_any(e) || e->kind == LOOKS_AT_SEND || e->is_over_anyway)) continue;
-        if (look >= from && ((of->count > 1 && !of->wants_all) || e->is_over_anyway)) um_want(by, look, 0, 0);
+        if (look >= from && ((of->count > 1 && !of->wants_all) || e->is_over_anyway)) um_want(by, look);
         for (int other = by + 1; other < um_search->count; other++)
-            if ((look >= from || other >= from) && other != look && !um_is_before(by, other) && may_end(e, of, &um_footprints[other]))
-                um_want(by, other, 0, 0);
+            if ((look >= from || other >= from) && other != look && !um_is_behind(um_cause_of(by), other) && may_end(e, of, &um_footprints[other]))
+                um_want(by, other);
     }
 }

@@ -7,7 +7,7 @@ static struct footprint take_of(int sent, int to) {
     const struct footprint *e = &um_footprints[sent];
     struct footprint take = {
         .process = (uint8_t)ring_of(e->rank, to), .rank = (uint8_t)to, .kind = TAKES, .comm = e->comm, .source = (int8_t)e->rank, .tag = e->tag};
-    take.pushed = take.by = take.found = take.after = NO_STEP;
+    take.pushed = take.by = take.found = take.after = take.first = NO_STEP;
     if (e->kind == SENDS) {
         take.item = ULFM_MESSAGE;
         take.flags = SAW_NO_REVOCATION | (e->flags & WAITED_FOR);
@@ -21,6 +21,7 @@ static struct footprint take_of(int sent, int to) {
     } else {
         take.item = ULFM_REVOCATION;
         take.flags = REVOKED_FIRST;
+        take.first = MOST_STEPS;
     }
     return take;
 }
@@ -39,8 +40,17 @@ static bool matters(int sent, int stop) {
 static void want_taken(int sent, int stop) {
     struct node *node = &um_search->nodes[stop];
     processes take = bit_of(ring_of(um_footprints[sent].rank, um_footprints[stop].rank));
-    if (sent > stop) um_want(stop, sent, 0, 0);
+    if (sent > stop) um_want(stop, sent);
     else if (!(take & (node->wanted | node->done | asleep(&node->sleepers)))) node->wanted |= take & node->enabled;
+}
+
+/* The event that sent something, without the stop; word of a revocation would be sent by any word that comes of it. NO_STEP: it needs the stop. */
+static int without_stop(int sent, int stop) {
+    int cause = um_cause_of(sent);
+    for (int k = sent; k < um_search->count; k++)
+        if ((k == sent || um_footprints[k].first == sent) && !um_is_before(stop, k)) return k;
+        else if (cause >= CELLS) break;
+    return NO_STEP;
 }
 
 /* Of the events from one on. */
@@ -50,8 +60,8 @@ void um_want_left(int from) {
         for (int rank = 0; rank < um_options.ranks; rank++) {
             int count;
             const int16_t *left = um_left_in_ring(rank, um_footprints[stop].rank, &count);
-            for (int k = 0; k < count && !um_is_before(stop, left[k]); k++)
-                if ((stop >= from || left[k] >= from) && matters(left[k], stop)) want_taken(left[k], stop);
+            for (int k = 0, sent; k < count && (sent = without_stop(left[k], stop)) != NO_STEP; k++)
+                if ((stop >= from || sent >= from) && matters(sent, stop)) want_taken(sent, stop);
         }
     }
 }

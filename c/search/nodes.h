@@ -4,7 +4,8 @@
 
 #include "search/search.h"
 
-enum { WORDS = MOST_STEPS / 64 + 1 };
+/* What an event may come after: that its rank knows a revocation, by a number for each rank and communicator, or an event, by CELLS + its own. */
+enum { CELLS = MAX_RANKS * 64, CAUSES = CELLS + MOST_STEPS, WORDS = CAUSES / 64 + 1 };
 
 /* A process whose next event was tried before, and commutes with all since. */
 struct sleeper {
@@ -48,8 +49,12 @@ extern struct search {
     struct node nodes[MOST_STEPS];
     struct footprint footprints[MOST_STEPS];
     struct ends ends[MOST_STEPS];       /* of the wait that an event is in */
-    uint64_t before[MOST_STEPS][WORDS]; /* which events happen before each */
+    uint64_t direct[MOST_STEPS][WORDS]; /* the causes of each event, as bits, without those that are causes of causes alone */
+    uint64_t races[MOST_STEPS][WORDS];  /* those of them that might come after it */
+    uint64_t before[MOST_STEPS][WORDS]; /* all causes */
+    uint64_t common[CELLS][WORDS];      /* those of each word of a revocation that a rank knows */
     short of_rank[MAX_RANKS][MOST_STEPS], across[MOST_STEPS];
+    short first_of[CELLS]; /* the event by which a rank learnt of a revocation */
     int rank_count[MAX_RANKS], across_count, last_of[PROCESSES];
 } * um_search;
 
@@ -65,9 +70,19 @@ static inline int lowest(processes set) {
     return process;
 }
 
-/* races.c */
+static inline bool has_bit(const uint64_t *row, int bit) { return row[bit / 64] >> (bit % 64) & 1; }
+static inline void set_bit(uint64_t *row, int bit) { row[bit / 64] |= 1ull << (bit % 64); }
+
+/* causes.c */
+int um_next_bit(const uint64_t *row, int from, int end);
+int um_cause_of(int event);
+void um_put_before(uint64_t *row, int cause);
 bool um_is_before(int one, int other);
-void um_want(int i, int j, const int *needed, int needed_count);
+bool um_is_behind(int cause, int event);
+int um_order_events(int from);
+
+/* races.c */
+void um_want(int i, int j);
 void um_find_races(int from);
 
 /* left.c */

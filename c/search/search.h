@@ -52,11 +52,14 @@ struct footprint {
     uint8_t gives;                 /* bits of ranks: to whom it gave a plane (mpi/plane.c) */
     int16_t pushed, by, found;     /* the events that pushed its item, that ended its request, by which the message came that its probe found */
     int16_t after;                 /* the event that ended the wait before it, where no look did */
+    int16_t first;                 /* of word of a revocation, or one's own: the event by which the rank learnt of it; NO_STEP: it is none */
     int32_t tag, made_in;          /* made_in: the number of the call of MPI */
     struct silence silent[SILENT]; /* looks in vain of the wait that it ends */
     uint32_t ended;                /* of a message: the receive that it ended, its number and 1; 0: none */
     uint64_t ended_on;             /* of word of a failure: bits of families of communicators whose receives it ended */
     uint8_t ended_of;              /* of a revocation: bits of ranks that the receives named which it ended */
+    uint8_t ended_from;            /* .. whose messages these would have got */
+    bool is_dropped;               /* a message that no receive had when its communicator was revoked */
     uint8_t entered;               /* of an entry into a shrink: bits of the failed ranks that made theirs */
     uint32_t topic, answer;        /* topic: of shrinks and agreements */
     uint64_t proposal;             /* of a poll: what tells its own proposal from others */
@@ -82,6 +85,14 @@ bool um_note_step(void);
 enum cut um_cut_of_search(void);
 void um_tell_not_same(void);
 enum search_step um_end_searched(void);
+
+/* A receive that is open, or that ended and isn't told. */
+struct receive {
+    uint64_t id;
+    int comm, source, tag;
+    int16_t by; /* the event that ended it */
+    bool is_open;
+};
 
 /* heard.c */
 struct proposal um_proposal_of(int rank, uint32_t comm, bool agrees);
@@ -110,7 +121,6 @@ uint32_t um_topic_of(uint32_t comm, bool agrees, int round);
 void um_begin_footprint(const struct event *event);
 void um_note_taken(const struct event *event, bool was_revoked);
 int um_member_at(int rank, uint32_t comm, uint32_t position);
-bool um_find_receive(int rank, uint64_t id, int *comm, int *source);
 void um_begin_call(const struct event *call);
 void um_end_send(uint32_t dest, uint32_t code);
 void um_end_post(uint32_t source, uint64_t id, uint32_t code);
@@ -121,6 +131,17 @@ void um_end_question(uint32_t answer);
 void um_end_entry(bool agrees, uint32_t flag, uint32_t code);
 void um_end_poll(bool agrees, const struct proposal *proposal, uint32_t answer);
 void um_end_stop(void);
+
+/* receives.c */
+const struct receive *um_receive_of(int rank, uint64_t id);
+bool um_find_receive(int rank, uint64_t id, int *comm, int *source);
+bool um_end_receives(int rank);
+void um_keep_message(int rank);
+void um_drop_kept(int rank, int comm);
+void um_note_failure(int rank, int failed);
+int16_t um_find_message(int rank, int comm, int source, int tag, bool takes, int *from);
+void um_add_receive(int rank, struct receive made);
+void um_remove_receive(int rank, const struct receive *receive);
 
 /* silent.c */
 void um_forget_silent(int rank);
@@ -145,6 +166,8 @@ bool um_may_end_wait(int look, const struct footprint *e);
 bool um_do_commute(const struct footprint *a, const struct footprint *b);
 bool um_is_dependent(const struct footprint *a, int at, const struct footprint *b);
 bool um_is_needed(const struct footprint *a, const struct footprint *b);
+bool um_may_revoke(const struct footprint *e, int at);
+void um_come_after(struct footprint *e, const struct footprint *other);
 int um_family(int comm);
 bool um_is_across(const struct footprint *e);
 bool um_learn(int count);
