@@ -43,3 +43,6 @@ pub mod SentBefore
 pub mod Excluded
 pub mod Whole
 pub mod Counted
+pub mod Revoking
+pub mod Refused
+pub mod Each

@@ -11,3 +11,4 @@ pub mod Room
 pub mod Contents
 pub mod Reader
 pub mod Lawful
+pub mod Pending

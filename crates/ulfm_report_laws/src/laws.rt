@@ -5,6 +5,7 @@ ghost use Rattle.ulfm_job.specs.Job.{JobView};
 ghost use Rattle.ulfm_answer.specs.Report.{Report};
 ghost use Rattle.ulfm_report_laws.specs.Flow.{Inboxes};
 ghost use Rattle.ulfm_report_laws.specs.Lawful.{AreProduced, LawfulReport};
+ghost use Rattle.ulfm_report_laws.specs.Pending.{PendsExactly, RevokedPairsNone, RevokedRefusesNone};
 ghost use Rattle.ulfm_report_laws.specs.Order.{DecisionsAreProposals, ExclusionsComeLater, FailuresComeLater, LettersComeLater, RevocationsComeLater};
 
 /// Reports that an engine produces are lawful: what is true of each rank, and the flow between ranks, give the rest of the
@@ -22,4 +23,21 @@ pub fn causes_come_first()
     ensures failures { (job : JobView) (inboxes : Inboxes) (knows : List Known) (reports : List Report) (h : LawfulReport job inboxes knows reports) → FailuresComeLater reports h.one_order.time }
     ensures exclusions { (job : JobView) (inboxes : Inboxes) (knows : List Known) (reports : List Report) (h : LawfulReport job inboxes knows reports) → ExclusionsComeLater reports h.one_order.time }
     ensures proposals { (job : JobView) (inboxes : Inboxes) (knows : List Known) (reports : List Report) (h : LawfulReport job inboxes knows reports) → DecisionsAreProposals reports h.one_order.time }
+{}
+
+/// After a communicator is revoked at a rank, by a call of its own or by a notice that it took, no receive there is paired: of each pair the
+/// receive was posted and the message came before (ULFM, revocation).
+pub fn revoked_pairs_none()
+    ensures { (job : JobView) (inboxes : Inboxes) (knows : List Known) (reports : List Report) → LawfulReport job inboxes knows reports → RevokedPairsNone reports }
+{}
+
+/// No shrink and no agreement is refused because its communicator is revoked (ULFM, shrink and agree).
+pub fn revoked_refuses_none()
+    ensures { (job : JobView) (inboxes : Inboxes) (knows : List Known) (reports : List Report) → LawfulReport job inboxes knows reports → RevokedRefusesNone reports }
+{}
+
+/// A wait is told `pending` where its receive is from any source, has got nothing and didn't end, and a member that is known to have failed isn't
+/// acknowledged; and it is left open where its receive has got nothing and didn't end, and one of these doesn't hold (ULFM, failure notification).
+pub fn pends_exactly()
+    ensures { (job : JobView) (inboxes : Inboxes) (knows : List Known) (reports : List Report) → LawfulReport job inboxes knows reports → PendsExactly reports }
 {}

@@ -40,7 +40,7 @@
 //!   come where it isn't revoked. If all running members entered a shrink, or one agreement, each has a proposal (`IsAtRest`, Rest.antt;
 //!   `KnowAtRest`, Lawful.antt).
 //!
-//! Two laws stand in `laws.rt`:
+//! These laws stand in `laws.rt`:
 //!
 //! - [`produced_is_lawful`]: an engine, `replay` or `run_job`, has to show less, `AreProduced` (Lawful.antt): scripts, flow, one order of all logs,
 //!   answers, none of which is 11, and decisions that agree and are true. This law gives the rest.
@@ -49,6 +49,11 @@
 //!   those that it excludes (`exclusions`). It is the whole proposal of the rank that made it, about the group that its log had made (`proposals`).
 //!   Their definitions are `LettersComeLater`, `RevocationsComeLater`, `FailuresComeLater`, `ExclusionsComeLater` and `DecisionsAreProposals`,
 //!   Order.antt.
+//! - [`revoked_pairs_none`]: after a communicator is revoked at a rank, by its own call or by a notice, no receive there is paired
+//!   (`RevokedPairsNone`, Pending.antt).
+//! - [`revoked_refuses_none`]: no shrink and no agreement is refused because its communicator is revoked (`RevokedRefusesNone`, Pending.antt).
+//! - [`pends_exactly`]: of waits that got nothing, those are `pending` whose receive is from any source, where a member that is known to have failed
+//!   isn't acknowledged. The others are left open (`PendsExactly`, Pending.antt).
 //!
 //! Not here: that an engine produces such reports. Each shows that by its own contract, and each promises something that the other can't: see
 //! `ulfm_replay` and `ulfm_run`.
@@ -56,4 +61,6 @@
 
 mod laws;
 
-pub use laws::{causes_come_first, produced_is_lawful};
+pub use laws::{
+    causes_come_first, pends_exactly, produced_is_lawful, revoked_pairs_none, revoked_refuses_none,
+};

@@ -35,6 +35,7 @@ pub mod Ordered
 pub mod Ordering
 pub mod InOrder
 pub mod InTurn
+pub mod EachStep
 pub mod Foreign
 pub mod OneOrder
 pub mod Made

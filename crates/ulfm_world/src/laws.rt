@@ -3,6 +3,7 @@ ghost use Rattle.std.specs.Prelude.{ℕ, ◌≤◌, List};
 ghost use Rattle.ulfm_report_laws.specs.Causes.{GoneHaveStopped, RevokedByARank};
 ghost use Rattle.ulfm_report_laws.specs.Flow.{Flows};
 ghost use Rattle.ulfm_report_laws.specs.Order.{HaveOneOrder};
+ghost use Rattle.ulfm_report_laws.specs.Pending.{RevokedPairsNone, RevokedRefusesNone};
 ghost use Rattle.ulfm_report_laws.specs.Reader.{AllHasCome, ComeAsSent, DoneIsGiven, DonesDiffer, FoundIsGiven, GivesOnce, HasOnePairing, IsFaithful, LettersKeepOrder, NoneIsMissed, OverIsTrue, ReceivesKeepOrder};
 ghost use Rattle.ulfm_report_laws.specs.Rest.{KnowsStopped, AgreesOnRevoked};
 ghost use Rattle.ulfm_report_laws.specs.Decisions.{AdoptOne, HasOneGroup, NoneIsForeign, ProposesEach};
@@ -115,6 +116,19 @@ pub fn one_pairing_each()
 pub fn no_match_is_missed()
     ensures worlds { InEachWorld NoneIsMissed }
     ensures replays { InEachReplay NoneIsMissed }
+{}
+
+/// Whatever events come, after a communicator is revoked at a rank, by a call of its own or by a notice that it took, no receive there is paired:
+/// of each pair the receive was posted and the message came before (ULFM, revocation).
+pub fn revoked_pairs_none()
+    ensures worlds { InEachWorld RevokedPairsNone }
+    ensures replays { InEachReplay RevokedPairsNone }
+{}
+
+/// Whatever events come, no shrink and no agreement is refused because its communicator is revoked (ULFM, shrink and agree).
+pub fn revoked_refuses_none()
+    ensures worlds { InEachWorld RevokedRefusesNone }
+    ensures replays { InEachReplay RevokedRefusesNone }
 {}
 
 /// Whatever events come, at rest all has come that one running rank sent to another on a communicator that isn't revoked

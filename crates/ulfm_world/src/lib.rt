@@ -20,6 +20,8 @@
 //!   (`HaveOneOrder`, Order.antt of `ulfm_report_laws`).
 //! - [`gone_has_stopped`], [`revoked_by_a_rank`]: a rank that is known to have failed has stopped, and some rank revoked what is revoked
 //!   (`GoneHaveStopped`, `RevokedByARank`, Causes.antt of `ulfm_report_laws`).
+//! - [`revoked_pairs_none`], [`revoked_refuses_none`]: where a communicator is revoked no receive is paired any more, and no shrink and no agreement
+//!   is refused for it (`RevokedPairsNone`, `RevokedRefusesNone`, Pending.antt of `ulfm_report_laws`).
 //! - [`entered_once`], [`decided_safely`], [`settled_safely`], [`made_safely`]: a decision that is held lists ranks with their own entries, and
 //!   excludes ranks alone that had stopped before it was made. It excludes each member whose failure a member of the new group knew as it entered
 //!   (`IsSafe`, `DecidesSafely`, `SettlesSafely`, Safe.antt; `MadeSafely`, Made.antt).
@@ -56,7 +58,8 @@ pub use laws::{
     gone_has_stopped, known_at_rest, letters_are_given_once, letters_come_as_sent,
     letters_keep_order, made_safely, no_match_is_missed, none_is_foreign, one_decision, one_group,
     one_order, one_pairing_each, proposed_at_rest, receives_keep_order, refused_never_happens,
-    reports_are_faithful, revoked_by_a_rank, rings_give_all, settled_safely,
+    reports_are_faithful, revoked_by_a_rank, revoked_pairs_none, revoked_refuses_none,
+    rings_give_all, settled_safely,
 };
 pub use lent_step::Asked;
 pub use room::Room;
