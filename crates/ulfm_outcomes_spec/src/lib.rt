@@ -26,19 +26,26 @@
 //!   (`IsTold`, Told.antt), or nothing where no schedule has them all (`IsLook`, Told.antt). Read `IsPossible`, `IsSchedule`, Goals.antt, and
 //!   `IsScheduleText`, Schedule.antt, whose lines are said in `ulfm_replay`.
 //! - [`first_unmet`]: by the list, whether each answer is as its step expects in every schedule (`MeetsExpected`, `Judges`, Unmet.antt).
+//! - [`shared_shows_no_more`]: what no schedule over rings shows, none over shared inboxes does (`SharedShowsNoMore`, Goals.antt).
+//! - [`answers_stay_away`]: of answers that no schedule of a job has together, the reports of one of its schedules don't have all. In such reports no
+//!   step is `unfinished` but one that the job lets its rank leave, and none was refused for want of memory (`AnswersStayAway`, `AreOfSchedule`,
+//!   `AreWhole`, Scheduled.antt).
 //!
 //! Files:
 //!
-//! - `finder.rt`: [`Finder`], with the two contracts on which replies rest; `query.rt`: what it is asked for; `unmet.rt`: [`first_unmet`]
+//! - `finder.rt`: [`Finder`], with the two contracts on which replies rest; `query.rt`: what it is asked for; `unmet.rt`: [`first_unmet`];
+//!   `laws.rt`: the laws of answers together
 //!
 //! Not here: the search that meets these contracts (`ulfm_outcomes`). Replies are proved over [`Finder`], and so beside that search, not after it.
 //! The program has one finder, which `main` alone names.
 #![tactic(auto)]
 
 mod finder;
+mod laws;
 mod query;
 mod unmet;
 
 pub use finder::Finder;
+pub use laws::{answers_stay_away, shared_shows_no_more};
 pub use query::Query;
 pub use unmet::first_unmet;
