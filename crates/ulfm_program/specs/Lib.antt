@@ -1,3 +1,4 @@
 pub mod Replies
 pub mod Files
+pub mod Laws
 pub mod inside

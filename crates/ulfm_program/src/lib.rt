@@ -20,12 +20,15 @@
 //!   Replies.antt).
 //! - [`run_on`], [`run_each`] (`words_first`, `not_followed`): words that can't be followed, or ask for help, are answered before the input is read
 //!   (`AsksFor`, `IsWordsStatus`, CommandLine.antt of `ulfm_command_line`).
+//! - [`rows_stay_away`]: if no schedule of a job has all answers of a row of `never`, as status 0 of `outcomes` says, the reports of one of its
+//!   schedules don't have them, whatever its turns (`RowsStayAway`, Laws.antt; `AreOfSchedule`, Scheduled.antt of `ulfm_outcomes_spec`). Those of a run
+//!   and a replay are such by laws of `ulfm_outcomes`.
 //! - [`without_words`]: if the words can't be had, the line that says so is written, with 4 a beginning of it (`not_text`, `GetsFrontOf`,
 //!   Replies.antt; `out_of_memory_text`, Failure.antt of `ulfm_command_line`).
 //!
 //! Files:
 //!
-//! - `files.rt`: [`run_each`], file by file
+//! - `files.rt`: [`run_each`], file by file; `laws.rt`: the law of rows
 //! - `app.rt`: [`run_on`], from words and one input to a status; [`without_words`], where there are no words
 //! - `reply.rt`: which reply a command gets; `engine.rt`: what plays a job for it, in one value
 //! - `progress.rt`, `far.rt`: how far a search is, on standard error
@@ -45,6 +48,7 @@ mod column;
 mod engine;
 mod far;
 mod files;
+mod laws;
 mod page;
 mod page_file;
 mod progress;
@@ -55,4 +59,5 @@ mod unwanted;
 pub use app::{run_on, without_words};
 pub use engine::Engine;
 pub use files::run_each;
+pub use laws::rows_stay_away;
 pub use page::page_of;
