@@ -1,7 +1,7 @@
 -- What is told below a list, and of answers that words name.
-use Rattle.std.proofs.Common.{◌≡◌, ℕ, ◌+◌, ◌<◌, Bool, true, false, cond, filter, find, map, refl, List, [], ◌∷◌, ◌++◌, length, take, get_or, slice_get, Option, Some, None, Vec, option_map, Ok, subst, sym, ap, ◌∙◌}
+use Rattle.std.proofs.Common.{◌≡◌, ℕ, ◌+◌, ◌<◌, Bool, true, false, cond, filter, find, map, refl, List, [], ◌∷◌, ◌++◌, All, length, take, get_or, slice_get, Option, Some, None, Vec, option_map, Ok, subst, sym, ap, ◌∙◌}
 use Rattle.std.proofs.lemmas.List.{map-append, take_more}
-use Rattle.std.proofs.lemmas.List.Elements.{All-push, filter-append}
+use Rattle.std.proofs.lemmas.List.Elements.{All-more, filter-append}
 use Rattle.std.proofs.lemmas.Option.{get_or_from_slice_get, slice_get-get_or, slice_get-map}
 use Rattle.std.specs.Borrow.{Bor}
 use Rattle.std.specs.declared.alloc.Global.{Global}
@@ -54,8 +54,10 @@ pub row_here : (rows : List (Vec Clause Global)) (n : ℕ) (kept : Vec Clause Gl
 row_here rows n kept row inside is same =
     slice_get-map (λ (r : Vec Clause Global). r.items) rows n ∙ ap (option_map (λ (r : Vec Clause Global). r.items)) (slice_get-get_or rows n kept inside ∙ ap Some (sym is)) ∙ ap Some (sym same)
 
+-- what holds of each of the first elements holds of one more
+pub each_more : {X : Type 0} (P : X → Type 0) (xs : List X) (n : ℕ) (x : X) → n < length xs → slice_get xs n ≡ Some x → All P (take n xs) → P x → All P (take (n + 1) xs)
+each_more P xs n x inside here before one = All-more P xs n x inside before (subst P (sym (get_or_from_slice_get xs n x x here)) one)
+
 -- after one more row that never comes
 pub none_more : (job : JobView) (rows : List (List Clause)) (n : ℕ) (row : List Clause) → n < length rows → slice_get rows n ≡ Some row → NoneComes job (take n rows) → NeverComes job row → NoneComes job (take (n + 1) rows)
-none_more job rows n row inside here before one =
-    let last : get_or rows n row ≡ row = get_or_from_slice_get rows n row row here in
-    subst (λ (all : List (List Clause)). NoneComes job all) (sym (take_more rows n row inside ∙ ap (λ (x : List Clause). take n rows ++ x ∷ []) last)) (All-push (NeverComes job) (take n rows) row before one)
+none_more job rows n row inside here before one = each_more (NeverComes job) rows n row inside here before one

@@ -1,7 +1,7 @@
 //! A search, how far it goes, and in which form it is told.
-ghost use Rattle.std.specs.Prelude.{IfOk};
+ghost use Rattle.std.specs.Prelude.{IfOk, IsTrue};
 ghost use Rattle.ulfm_outcomes_spec.specs.Outcomes.{IsList};
-ghost use Rattle.ulfm_outcomes_spec.specs.Told.{IsLook};
+ghost use Rattle.ulfm_outcomes_spec.specs.Told.{AreNowhere, IsLook};
 
 use std::alloc::Global;
 use ulfm_base::OutOfMemory;
@@ -59,5 +59,22 @@ impl<F: Finder> Search<'_, F> {
             limit: self.options.limit as usize,
         };
         self.finder.show(self.alloc, job, &query, watch)
+    }
+
+    /// Whether one search finds that no schedule of a job shows any of these goals. No says nothing. `watch` is told how far it is.
+    ///
+    /// # Errors
+    ///
+    /// `OutOfMemory` where a growth was refused.
+    pub fn rules_out<W: Watch>(
+        &self,
+        job: &Job,
+        rows: &[Goals],
+        watch: &mut W,
+    ) -> Result<bool, OutOfMemory>
+        ensures { IfOk result (λ none. IsTrue none → AreNowhere job.now rows.now) }
+    {
+        let limit = self.options.limit as usize;
+        self.finder.rules_out(self.alloc, job, rows, limit, watch)
     }
 }

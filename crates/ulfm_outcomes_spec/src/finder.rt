@@ -2,19 +2,19 @@
 //!
 //! A schedule comes from it as a value, so that no function above lets go of a world, which is dear to prove. The definitions of
 //! events and of keys stand in `ulfm_reduction_laws`, so that what is replied doesn't need `ulfm_outcomes`.
-ghost use Rattle.std.specs.Prelude.{IfOk};
+ghost use Rattle.std.specs.Prelude.{IfOk, IsTrue};
 ghost use Rattle.ulfm_outcomes_spec.specs.Outcomes.{IsList};
-ghost use Rattle.ulfm_outcomes_spec.specs.Told.{IsLook};
+ghost use Rattle.ulfm_outcomes_spec.specs.Told.{AreNowhere, IsLook};
 
 use crate::query::Query;
 use std::alloc::Global;
 use ulfm_base::OutOfMemory;
 use ulfm_job::Job;
-use ulfm_outcomes_list::Told;
+use ulfm_outcomes_list::{Goals, Told};
 use ulfm_reach::{Reach, Watch};
 
 /// Finds what the steps of a job may be answered, and schedules that show answers. `ulfm_outcomes` has the one of the program. What is
-/// replied rests on these two contracts alone, so it is proved beside that one.
+/// replied rests on these three contracts alone, so it is proved beside that one.
 pub trait Finder {
     /// What each step of a job may be answered, and which steps may be left open for ever, over every schedule. Or that worlds of more
     /// keys than the limit are there, and nothing of answers. `watch` is told how far it is.
@@ -46,4 +46,20 @@ pub trait Finder {
         watch: &mut W,
     ) -> Result<Option<Told>, OutOfMemory>
         ensures { IfOk result (IsLook job.now query.now.goals.now query.now.is_brief query.now.limit) };
+
+    /// Whether one search for all of these goals finds that no schedule of a job shows any of them. No says nothing. Of goals by which a step is to
+    /// stand open for ever it says nothing either way. `watch` is told how far it is.
+    ///
+    /// # Errors
+    ///
+    /// `OutOfMemory` where a growth was refused.
+    fn rules_out<W: Watch>(
+        &self,
+        alloc: Global,
+        job: &Job,
+        rows: &[Goals],
+        limit: usize,
+        watch: &mut W,
+    ) -> Result<bool, OutOfMemory>
+        ensures { IfOk result (λ none. IsTrue none → AreNowhere job.now rows.now) };
 }

@@ -1,8 +1,10 @@
 -- What single functions find that look for schedules.
-use Rattle.std.specs.Prelude.{◌≡◌, ℕ, Bool, List, Option, Some, None, slice_get, take}
+use Rattle.std.specs.Prelude.{◌≡◌, ◌⊎◌, ℕ, Bool, false, All as Each, Contains, List, Option, Some, None, slice_get, take}
 use Rattle.ulfm_job.specs.declared.clause.Clause.{Clause}
 use Rattle.ulfm_job.specs.Job.{JobView}
+use Rattle.ulfm_outcomes_spec.specs.Goals.{is_some_open}
 use Rattle.ulfm_outcomes_spec.specs.Told.{IsLook}
+use Rattle.ulfm_outcomes_list.specs.Goals.{AreOfClauses}
 use Rattle.ulfm_outcomes_list.specs.declared.goals.Goals.{Goals}
 use Rattle.ulfm_outcomes_list.specs.declared.unmet.Unmet.{Unmet}
 use Rattle.ulfm_outcomes_list.specs.declared.judgement.Judgement.{Judgement}
@@ -26,6 +28,19 @@ use Rattle.ulfm_outcomes_reply.specs.declared.never_rows.FirstRow.{FirstRow}
 abbrev pub IsLookForRow : JobView → List Clause → Bool → ℕ → Option Told → Type 0
 IsLookForRow job row is_brief limit None = NeverComes job row
 IsLookForRow job row is_brief limit (Some told) = (goals : Goals) × AreOfRow job row goals × IsLook job goals is_brief limit (Some told)
+
+-- The row never comes together; or these goals are what its answers ask for, among others, and no step is to stand open for ever by them.
+abbrev pub IsAmong : JobView → List Clause → List Goals → Type 0
+IsAmong job row sought = NeverComes job row ⊎ ((goals : Goals) × AreOfClauses job row goals × Contains sought goals × (is_some_open goals.left.items ≡ false))
+
+-- so it is with each of these rows
+abbrev pub AreAmong : JobView → List (List Clause) → List Goals → Type 0
+AreAmong job rows sought = Each (λ (row : List Clause). IsAmong job row sought) rows
+
+-- what came of a look at a row: nothing to be looked for, or these goals
+abbrev pub IsSoughtRow : JobView → List Clause → Option Goals → Type 0
+IsSoughtRow job row None = NeverComes job row
+IsSoughtRow job row (Some goals) = AreOfRow job row goals
 
 -- no row came together, or none before that of this number, of which that is told
 abbrev pub IsFirstRow : JobView → List (List Clause) → Bool → ℕ → Option FirstRow → Type 0

@@ -2,7 +2,7 @@ use Rattle.std.proofs.Common.{◌≡◌, false, rules, sym, ◌∙◌}
 use Rattle.std.proofs.lemmas.Bool.{false≢true}
 use Rattle.ulfm_outcomes_list.specs.Goals.{has_each}
 use Rattle.ulfm_outcomes_spec.proofs.Together.{each_listed}
-use Rattle.ulfm_outcomes_reply.proofs.never_rows.look_for_row.Goals as goal
+use Rattle.ulfm_outcomes_reply.proofs.never_rows.sought_row.Goals as goal
 
 pub returns-then-not-has_each : goal.returns-then-not-has_each
 returns-then-not-has_each g c =
