@@ -10,14 +10,15 @@
                         ulfm_turn(&slots[me], &moved);
                         if (!moved) ..wait a little..
                     }
-       at the end:  ulfm_end(&slots[k]) for each k, by any thread, when no other one uses it.
+       at the end:  ulfm_end(&slots[k]) for each k, by any thread, when no other one uses it. `ulfm_end` says how nothing is lost.
 
    Each call answers a code: 0, or one of the codes below. A refused call changes nothing, and writes to no out parameter. Where several
    refusals apply, the first one of those listed at the call is answered; 12 is the last.
 
    Shapes and units. `comm` names a communicator by its context, 0 to 62: 0 is the world's. `dest` and `source` are positions in the
    communicator's group, 0 to size - 1. `tag` is 0 to 32,767. Bodies are bytes, at most 1,024 of them. A pointer to a body may be null only
-   with a length of 0.
+   with a length of 0. The pointers of a call lead to places that don't overlap. No call may be left half way, as by a signal's handler, a `longjmp`
+   or a thread that is cancelled: its rank would be lost.
 
    What is proved, and what isn't, says docs/PROOFS.md and docs/LIMITS.md. */
 #ifndef ULFM_H
@@ -42,8 +43,8 @@ typedef struct {
     uint32_t source;    /* the sender's position in the communicator */
     uint32_t tag;       /* 0 to 32,767 */
     uint64_t length;    /* bytes of the body, 0 to 1,024 */
-    uint32_t error;     /* 0: a message came. ULFM_PROC_FAILED, ULFM_REVOKED, ULFM_TRUNCATED: none did, and why. Else the other fields are 0 */
-    uint32_t cancelled; /* 1: the receive was withdrawn (`ulfm_cancel`). Else 0 */
+    uint32_t error;     /* 0: a message came, or the receive was withdrawn. ULFM_PROC_FAILED, ULFM_REVOKED, ULFM_TRUNCATED: why none came */
+    uint32_t cancelled; /* 1: the receive was withdrawn (`ulfm_cancel`), and no message came. Else 0. Without a message all other fields are 0 */
 } ulfm_status;
 
 /* Some ranks of the world, by their positions. */
@@ -106,12 +107,15 @@ enum {
    decided. 13, 12. */
 uint32_t ulfm_world(ulfm_slot *slots, size_t ranks, uint8_t capacity, uint16_t rounds);
 
-/* Ends a rank and frees what it has; the slot is all zeros then. The other ranks aren't told: call `ulfm_stop`, and `ulfm_turn` until
-   `ulfm_flushed` says 1, before. 16. */
+/* Ends a rank and frees what it has; the slot is all zeros then. The other ranks aren't told, and what didn't go out is lost. Nothing is if these
+   come before, in this order: `ulfm_turn` until `ulfm_flushed` says 1, so that messages go out; `ulfm_stop`; `ulfm_turn` until it says 1 once
+   more, so that the notices do. A rank that has stopped takes nothing any more, so what waits for it may wait for ever: end each of the two loops
+   also when the other ranks have stopped. 16. */
 uint32_t ulfm_end(ulfm_slot *slot);
 
-/* The rank stops, as if it failed there (ULFM: a process failure): the others learn it by a notice, which goes out by `ulfm_turn`. From then on
-   all its calls but those of progress, `ulfm_me`, `ulfm_group_of`, `ulfm_position`, `ulfm_stop` and `ulfm_end` answer 10. 16. */
+/* The rank stops, as if it failed there (ULFM: a process failure): what didn't go out of it yet is lost, its messages too, and the others learn
+   of the stop by a notice, which goes out by `ulfm_turn`. From then on all its calls but those of progress, `ulfm_me`, `ulfm_group_of`,
+   `ulfm_position`, `ulfm_stop` and `ulfm_end` answer 10, or what is listed before it: 1 of a communicator past 62, 3 of a tag past 32,767. 16. */
 uint32_t ulfm_stop(ulfm_slot *slot);
 
 /* ---- Progress ---- */
@@ -121,7 +125,8 @@ uint32_t ulfm_stop(ulfm_slot *slot);
    this rank has nothing to do until another one moves. 16, 12 (of a running rank). */
 uint32_t ulfm_turn(ulfm_slot *slot, uint32_t *moved);
 
-/* *flushed: 1 where nothing waits to go out, to any rank; of a rank that stopped, where its notices went out. Else 0. 16. */
+/* *flushed: 1 where nothing waits to go out, to any rank, those that have stopped among them; of a rank that stopped, where its notices went out.
+   Else 0. 16. */
 uint32_t ulfm_flushed(ulfm_slot *slot, uint32_t *flushed);
 
 /* ---- Progress step by step ----
@@ -155,7 +160,7 @@ uint32_t ulfm_position(ulfm_slot *slot, uint32_t comm, uint32_t *position);
 
 /* Duplicates a communicator: *made has the same group (MPI 4.0, 7.4.2, `MPI_Comm_dup`). It is made here alone, without a message: each member
    has to do the same. Each communicator c has one duplicate, of the number 2c + 1; the next ones are duplicates of the duplicate (1, 3, 7, 15,
-   31 of the world's). 16, 1, 10, 6, 8, 9, 12. */
+   31 of the world's). 16, 1 (comm past 62), 10, 1, 6, 8, 9, 12. */
 uint32_t ulfm_dup(ulfm_slot *slot, uint32_t comm, uint32_t *made);
 
 /* ---- Messages ---- */
@@ -221,7 +226,7 @@ uint32_t ulfm_enter_agree(ulfm_slot *slot, uint32_t comm, uint32_t flag);
 
 /* Asks for the decision of the agreement that was entered last. 0: it is adopted. *value: the AND of the flags of all members but those in
    *missing, which failed. It is the same at all members that are told. 17: not all members that run have entered yet. 16, 1 (comm past 62), 10,
-   1, 14, 8, 11, 12 (also where the world's `rounds` are used up). */
+   1, 14, 8, 11, 12 (also where the world's `rounds` are used up, and then at each later poll). */
 uint32_t ulfm_poll_agree(ulfm_slot *slot, uint32_t comm, uint32_t *value, ulfm_group *missing);
 
 #ifdef __cplusplus
