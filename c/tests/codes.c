@@ -121,9 +121,23 @@ static void edges(ulfm_slot *slot) {
     WANT(ulfm_test(slot, id, &status, 0, 0), 0);
     want(status.length + status.error + status.source, 0, "the status of an empty message");
     want(status.tag, 7, "its tag");
+    WANT(ulfm_irecv(slot, 0, ULFM_ANY, ULFM_ANY, 0, &id), 0);
+    WANT(ulfm_cancel(slot, id, &status, 0, 0), 0);
+    want(status.error, 0, "the error of a receive that was withdrawn");
+    want(status.cancelled, 1, "whether it was");
     out = 12345;
     WANT(ulfm_position(slot, 62, &out), ULFM_NO_COMM);
     want(out, 12345, "an out parameter of a refused call");
+}
+
+/* A rank that stopped, and calls that are refused for two causes: the one that ulfm.h lists first is answered. */
+static void orders(ulfm_slot *slot) {
+    WANT(ulfm_dup(slot, 63, &out), ULFM_NO_COMM);
+    WANT(ulfm_dup(slot, 5, &out), ULFM_STOPPED);
+    WANT(ulfm_isend(slot, 63, 0, 32768, body, 1), ULFM_NO_COMM);
+    WANT(ulfm_isend(slot, 0, 0, 32768, body, 1), ULFM_BAD_TAG);
+    WANT(ulfm_isend(slot, 5, 0, 0, body, 1), ULFM_STOPPED);
+    WANT(ulfm_position(slot, 5, &out), ULFM_NO_COMM);
 }
 
 int main(void) {
@@ -145,6 +159,7 @@ int main(void) {
     refusals(&slots[0]);
     WANT(ulfm_stop(&slots[0]), 0);
     all_calls(&slots[0], ULFM_STOPPED);
+    orders(&slots[0]);
     calls_of_all(&slots[0], 0);
     WANT(ulfm_end(&slots[0]), 0);
     want(slots[0].at != 0 || slots[0].holds, 0, "an ended slot is all zeros");
