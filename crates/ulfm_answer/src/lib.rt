@@ -11,8 +11,8 @@
 //! - [`is_played`], [`fulfils`]: a step is played exactly where it has no condition, or all those of one alternative hold of the rank's own answers
 //!   so far (`is_played`, `fulfils`, Reacting.antt).
 //! - [`each_met`], [`holds_of`]: whether answers are as their steps expect (`each_met`, `holds_of`, Reacting.antt).
-//! - [`push_answer`], [`push_told`], [`push_steps`], [`push_closing`]: the words of an answer and the lines of a trace, byte for byte (`told_text`,
-//!   `trace_of`, Trace.antt).
+//! - [`push_answer`], [`push_told`], [`push_steps`], [`push_closing`]: the words of an answer and the lines of a trace, byte for byte; if a growth is
+//!   refused, the text stays as it was (`told_text`, `trace_of`, Trace.antt).
 //! - [`push_code`], `ToldAnswer::read`: the code of an answer, read back, gives what is told of it.
 //!
 //! Files:

@@ -1,36 +1,60 @@
 //! The lines of a trace: what is printed of answered steps, and of how a rank ended.
-ghost use Rattle.std.specs.Prelude.{◌≡◌, ◌++◌, OnOk, string_bytes};
+//!
+//! Each makes its piece whole before the text gets it: so where a growth is refused, the text stays as it was.
+ghost use Rattle.std.specs.Prelude.{◌≡◌, ◌++◌, IfOk, OnErr, OnOk, string_bytes};
 ghost use Rattle.ulfm_answer.specs.Trace.{answer_text, step_line, step_lines, closing_line, told_text};
 
 use crate::answer::{StepAnswer, StepReport};
 use crate::putting::{put_answer, put_told};
 use crate::told_answer::ToldAnswer;
-use std::alloc::AllocError;
+use std::alloc::{AllocError, Global};
 
 /// Puts the text of an answer behind another text.
 ///
 /// # Errors
 ///
-/// A growth was refused: a part of the answer may stand in the text then.
+/// A growth was refused: then the text is as it was.
 pub fn push_answer(text: &mut String, answer: &StepAnswer) -> Result<(), AllocError>
-    ensures { OnOk result (string_bytes text.new ≡ string_bytes text.old ++ answer_text answer.now) }
+    ensures pushed { OnOk result (string_bytes text.new ≡ string_bytes text.old ++ answer_text answer.now) }
+    ensures unchanged { OnErr result (string_bytes text.new ≡ string_bytes text.old) }
 {
-    let alloc = *text.allocator();
-    put_answer(alloc, text, answer)
+    let piece = answer_words(*text.allocator(), answer)?;
+    text.push_str(piece.as_str())
+}
+
+/// The text of an answer.
+fn answer_words(alloc: Global, answer: &StepAnswer) -> Result<String, AllocError>
+    ensures { IfOk result (λ words. string_bytes words ≡ answer_text answer.now) }
+{
+    let mut words = String::new(alloc);
+    put_answer(alloc, &mut words, answer)?;
+    Ok(words)
 }
 
 /// Puts the text of what is told of an answer behind another text.
 ///
 /// # Errors
 ///
-/// A growth was refused: a part of it may stand in the text then.
+/// A growth was refused: then the text is as it was.
 pub fn push_told(text: &mut String, told: &ToldAnswer<'_>) -> Result<(), AllocError>
-    ensures { OnOk result (string_bytes text.new ≡ string_bytes text.old ++ told_text told.now) }
+    ensures pushed { OnOk result (string_bytes text.new ≡ string_bytes text.old ++ told_text told.now) }
+    ensures unchanged { OnErr result (string_bytes text.new ≡ string_bytes text.old) }
 {
-    put_told(text, told)
+    let piece = told_words(*text.allocator(), told)?;
+    text.push_str(piece.as_str())
 }
 
-fn push_step(text: &mut String, me: u8, k: usize, report: &StepReport) -> Result<(), AllocError>
+/// The text of what is told of an answer.
+fn told_words(alloc: Global, told: &ToldAnswer<'_>) -> Result<String, AllocError>
+    ensures { IfOk result (λ words. string_bytes words ≡ told_text told.now) }
+{
+    let mut words = String::new(alloc);
+    put_told(&mut words, told)?;
+    Ok(words)
+}
+
+/// Puts the line of the step `k` of the rank `me` behind another text.
+fn add_line(text: &mut String, me: u8, k: usize, report: &StepReport) -> Result<(), AllocError>
     ensures { OnOk result (string_bytes text.new ≡ string_bytes text.old ++ step_line me k report.now) }
 {
     write!(text, "{me} {k} {}: ", report.step)?;
@@ -42,33 +66,54 @@ fn push_step(text: &mut String, me: u8, k: usize, report: &StepReport) -> Result
 ///
 /// # Errors
 ///
-/// A growth was refused: some lines may stand in the text then.
+/// A growth was refused: then the text is as it was.
 pub fn push_steps(text: &mut String, me: u8, steps: &[StepReport]) -> Result<(), AllocError>
-    ensures { OnOk result (string_bytes text.new ≡ string_bytes text.old ++ step_lines me 0 steps.now) }
+    ensures pushed { OnOk result (string_bytes text.new ≡ string_bytes text.old ++ step_lines me 0 steps.now) }
+    ensures unchanged { OnErr result (string_bytes text.new ≡ string_bytes text.old) }
 {
+    let lines = lines_of(*text.allocator(), me, steps)?;
+    text.push_str(lines.as_str())
+}
+
+/// A line for each of the answered steps of the rank `me`.
+fn lines_of(alloc: Global, me: u8, steps: &[StepReport]) -> Result<String, AllocError>
+    ensures { IfOk result (λ lines. string_bytes lines ≡ step_lines me 0 steps.now) }
+{
+    let mut lines = String::new(alloc);
     for (k, report) in steps.iter().enumerate() {
-        push_step(text, me, k, report)?;
+        add_line(&mut lines, me, k, report)?;
     }
-    Ok(())
+    Ok(lines)
 }
 
 /// Puts the closing line of the rank `me` behind another text: whether it stopped, and how many of its turns found no memory.
 ///
 /// # Errors
 ///
-/// A growth was refused: a part of the line may stand in the text then.
+/// A growth was refused: then the text is as it was.
 pub fn push_closing(
     text: &mut String,
     me: u8,
     stopped: bool,
     starved: u32,
 ) -> Result<(), AllocError>
-    ensures { OnOk result (string_bytes text.new ≡ string_bytes text.old ++ closing_line me stopped starved) }
+    ensures pushed { OnOk result (string_bytes text.new ≡ string_bytes text.old ++ closing_line me stopped starved) }
+    ensures unchanged { OnErr result (string_bytes text.new ≡ string_bytes text.old) }
 {
+    let line = closing(*text.allocator(), me, stopped, starved)?;
+    text.push_str(line.as_str())
+}
+
+/// The closing line of the rank `me`.
+fn closing(alloc: Global, me: u8, stopped: bool, starved: u32) -> Result<String, AllocError>
+    ensures { IfOk result (λ line. string_bytes line ≡ closing_line me stopped starved) }
+{
+    let mut line = String::new(alloc);
     let end = if stopped { "stopped" } else { "done" };
     if starved == 0 {
-        write!(text, "{me} end: {end}\n")
+        write!(line, "{me} end: {end}\n")?;
     } else {
-        write!(text, "{me} end: {end} starved {starved}\n")
+        write!(line, "{me} end: {end} starved {starved}\n")?;
     }
+    Ok(line)
 }

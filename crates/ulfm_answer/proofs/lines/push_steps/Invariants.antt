@@ -1,6 +1,0 @@
-use Rattle.std.proofs.Common.{◌≡◌, ◌++◌, string_bytes, drop}
-use Rattle.ulfm_answer.specs.Trace.{step_lines}
-use Rattle.ulfm_answer.proofs.lines.push_steps.Given as goal
-
-abbrev pub invariant-loop-k : goal.invariant-loop-k
-invariant-loop-k l = string_bytes l.text ++ step_lines l.me l.k (drop l.k l.steps) ≡ string_bytes l.initial.text ++ step_lines l.me 0 l.steps
