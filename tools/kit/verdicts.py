@@ -9,7 +9,7 @@ from kit.edits import NOT_JUDGED, PASSED, REFUSED
 # What the prover says where a proof names what a body took away.
 NAME_GONE = re.compile(r"has no field|is not in scope|has no `|was not admitted|was not checked")
 # What it says of a function of which all is proved but, at most, what it calls, which was left unproved.
-PROVED = re.compile(r"fn [^ ]*: (proved\b.*|no proof: it calls [^;]*, which (are|is) not proved)$")
+PROVED = re.compile(r"fn [^ ]*: (proved\b.*|no proof: it (calls|passes) [^;]*(; it (calls|passes) [^;]*)*)$")
 
 
 def messages(said):
