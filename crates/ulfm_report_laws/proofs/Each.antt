@@ -1,6 +1,6 @@
 -- What each answer of a rank says by itself: that none is refused by a revocation, and which waits pend.
-use Rattle.std.proofs.Common.{◌≡◌, ◌≢◌, ℕ, Bool, true, false, List, ◌∷◌, length, take, refl, ap, sym, ◌∙◌, subst, inl, inr, arith}
-use Rattle.ulfm_report_laws.proofs.Common.{Agree, Decision, Inboxes, Known, OutOfMemory, Refused, Report, Revoked, Shrink, Skipped, State, Step, StepAnswer, StepReport, StoodAt, TestAnswer, Topic, Unfinished, Wait, at, false≢true, none-some, slice_get_within, step_report, there}
+use Rattle.std.proofs.Common.{◌≡◌, ◌≢◌, ℕ, Bool, true, false, List, ◌∷◌, length, take, refl, ap, sym, ◌∙◌, subst, inl, inr}
+use Rattle.ulfm_report_laws.proofs.Common.{Agree, Decision, Inboxes, Known, OutOfMemory, Refused, Report, Revoked, Shrink, Skipped, State, Step, StepAnswer, StepReport, StoodAt, TestAnswer, Topic, Unfinished, Wait, at, false≢true, none-some, step_report}
 use Rattle.ulfm_base.specs.declared.error.CallError.{CallError}
 use Rattle.std.specs.List.{list_all}
 use Rattle.ulfm_rank.specs.Checks.{Check, FailsOrStarves, adopt_checks, agree_checks, shrink_checks}
@@ -18,6 +18,7 @@ use Rattle.std.proofs.Math.Seq.{take-append_seam}
 use Rattle.ulfm_script.proofs.Entrances.{nth_answered}
 use Rattle.ulfm_report_laws.proofs.Refused.{refused_or_starved}
 use Rattle.ulfm_report_laws.proofs.Revoking.{pairs_before}
+use Rattle.ulfm_report_laws.proofs.Whole.{known_of}
 
 -- the answer of a step follows, after those before it
 record FollowsAt (known : Known) (rank : State) (before : List StepReport) (report : StepReport) : Type 0 where
@@ -103,27 +104,24 @@ module _ (known : Known) (told : Report) (k req place polls : ℕ) where
 
 -- these laws, of lawful reports
 module _ {job : JobView} {inboxes : Inboxes} {knows : List Known} {reports : List Report} (h : LawfulReport job inboxes knows reports) where
-  known_of : (r : ℕ) (told : Report) → at reports r told → (known : Known) × at knows r known
-  known_of r told here = there knows r (let inside = slice_get_within reports r told here in omega (arith, inside, h.each, h.known_each))
-
-  follows_at : (r k : ℕ) (told : Report) (step : StepReport) (here : at reports r told) → at told.steps k step → FollowsAt (known_of r told here).0 told.rank (take k told.steps) step
+  follows_at : (r k : ℕ) (told : Report) (step : StepReport) (here : at reports r told) → at told.steps k step → FollowsAt (known_of h r told here).0 told.rank (take k told.steps) step
   follows_at r k told step here stands =
-      let known = known_of r told here in
+      let known = known_of h r told here in
       let n = nth_answered known.0 told (h.answers r told known.0 here known.1) k step stands in
       let a = n.0 in
       let before : a.done ≡ take k told.steps = sym (take-append_seam a.done (step ∷ a.rest)) ∙ ap (take (length a.done)) a.whole ∙ ap (λ (m : ℕ). take m told.steps) n.1 in
       subst (λ (front : List StepReport). FollowsAt known.0 told.rank front step) before (record { from = a.from; to = a.to; follows = a.follows })
 
   pub revoked_refuses_none : RevokedRefusesNone reports
-  revoked_refuses_none r k told step here at_k joint = joint_unrevoked (known_of r told here).0 told.rank (take k told.steps) step (follows_at r k told step here at_k) joint
+  revoked_refuses_none r k told step here at_k joint = joint_unrevoked (known_of h r told here).0 told.rank (take k told.steps) step (follows_at r k told step here at_k) joint
 
   pub pends_exactly : PendsExactly reports
   pends_exactly = record {
-    pending = λ r k req place polls told here at_k. told_pending (known_of r told here).0 told k req place polls (follows_at r k told (step_report (Wait req) Pending place polls) here at_k);
-    left = λ r k req place polls told here at_k. left_waiting (known_of r told here).0 told k req place polls (follows_at r k told (step_report (Wait req) Unfinished place polls) here at_k);
+    pending = λ r k req place polls told here at_k. told_pending (known_of h r told here).0 told k req place polls (follows_at r k told (step_report (Wait req) Pending place polls) here at_k);
+    left = λ r k req place polls told here at_k. left_waiting (known_of h r told here).0 told k req place polls (follows_at r k told (step_report (Wait req) Unfinished place polls) here at_k);
   }
 
   pub revoked_pairs_none : RevokedPairsNone reports
   revoked_pairs_none d i b told front rest pattern pairing here whole revoked law posted pairs =
-      let known = known_of d told here in
+      let known = known_of h d told here in
       pairs_before told.rank.log front rest pattern pairing i b (h.answers d told known.0 here known.1).paired.well_formed whole revoked law posted pairs

@@ -45,7 +45,7 @@ own_found known rank d h = pick (group_of h.then.ranks h.then.log d.topic.contex
         later ∙ ap Some (sym (h.group ∙ members_found h.then.ranks h.then.log c g found))
 
 module _ {job : JobView} {inboxes : Inboxes} {knows : List Known} {reports : List Report} (h : LawfulReport job inboxes knows reports) where
-  known_of : (r : ℕ) (told : Report) → at reports r told → (known : Known) × at knows r known
+  pub known_of : (r : ℕ) (told : Report) → at reports r told → (known : Known) × at knows r known
   known_of r told here = there knows r (omega (arith, slice_get_within reports r told here, h.each, h.known_each))
 
   counted : (r : ℕ) (told : Report) → at reports r told → told.rank.ranks ≡ length reports
