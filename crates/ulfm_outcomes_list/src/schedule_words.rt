@@ -2,15 +2,13 @@
 ghost use Rattle.std.specs.Prelude.{◌≡◌, ◌++◌, OnOk, codes, string_bytes};
 ghost use Rattle.std.specs.List.{flat_map};
 ghost use Rattle.ulfm_outcomes_list.specs.ScheduleWords.{answered_in, course_in, deed_in, move_in, left_in, mpi_schedule, placed_call, schedule_in};
-ghost use Rattle.ulfm_schedule.specs.Words.{end_text, open_text, passed_text};
-ghost use Rattle.ulfm_schedule.specs.Values.{wait_text};
 
 use std::alloc::AllocError;
-use ulfm_answer::{StepAnswer, push_closing};
+use ulfm_answer::StepAnswer;
 use ulfm_forms::{Wording, push_answer_in, push_call_at, push_line_in, push_lines_in};
 use ulfm_job::{Job, NotedStep};
 use ulfm_schedule::{
-    Cargo, Course, Deed, End, Move, Schedule, Wait, push_cargo, push_schedule, push_wait,
+    Course, Deed, Move, Schedule, push_end, push_passed, push_schedule, push_waits,
 };
 
 /// Puts the step `k` of the rank `r` of a job, by its place.
@@ -55,25 +53,6 @@ fn push_answered(
     push_placed(text, wording, job, r, k)?;
     text.push_str(": ")?;
     push_answer_in(text, wording, answer)?;
-    text.push_str("\n")
-}
-
-/// Puts the line of an item that goes from the rank `s` to `d`.
-fn push_passed(
-    text: &mut String,
-    s: u8,
-    d: u8,
-    is_taken: bool,
-    cargo: Cargo,
-) -> Result<(), AllocError>
-    ensures { OnOk result (string_bytes text.new ≡ string_bytes text.old ++ passed_text s is_taken d cargo) }
-{
-    if is_taken {
-        write!(text, "{s} -> {d}: ")?;
-    } else {
-        write!(text, "{s} => {d}: ")?;
-    }
-    push_cargo(text, s, cargo)?;
     text.push_str("\n")
 }
 
@@ -127,17 +106,6 @@ fn push_left(
     }
 }
 
-/// Puts the line of how a rank ended.
-fn push_end(text: &mut String, r: u8, end: End) -> Result<(), AllocError>
-    ensures { OnOk result (string_bytes text.new ≡ string_bytes text.old ++ end_text r end) }
-{
-    match end {
-        End::Done => push_closing(text, r, false, 0),
-        End::Stopped => push_closing(text, r, true, 0),
-        End::Unreached => write!(text, "{r} end: not reached\n"),
-    }
-}
-
 /// Puts the lines of a rank.
 fn push_course(
     text: &mut String,
@@ -166,34 +134,6 @@ fn push_courses(
         push_course(text, wording, job, course)?;
     }
     Ok(())
-}
-
-/// Puts the lines of what steps wait for.
-fn push_lines(text: &mut String, waits: &[Wait]) -> Result<(), AllocError>
-    ensures { OnOk result (string_bytes text.new ≡ string_bytes text.old ++ flat_map wait_text waits.now) }
-{
-    for wait in waits {
-        push_wait(text, wait)?;
-    }
-    Ok(())
-}
-
-/// Puts what steps wait for, below a line that says so.
-fn push_open_steps(text: &mut String, waits: &[Wait]) -> Result<(), AllocError>
-    ensures { OnOk result (string_bytes text.new ≡ string_bytes text.old ++ codes "open steps:\n" ++ flat_map wait_text waits.now) }
-{
-    text.push_str("open steps:\n")?;
-    push_lines(text, waits)
-}
-
-/// Puts what steps wait for, if that is told.
-fn push_waits(text: &mut String, waits: &Option<Vec<Wait>>) -> Result<(), AllocError>
-    ensures { OnOk result (string_bytes text.new ≡ string_bytes text.old ++ open_text waits.now) }
-{
-    match waits {
-        Some(waits) => push_open_steps(text, waits.as_slice()),
-        None => Ok(()),
-    }
 }
 
 /// Puts a schedule of a job in MPI's words.

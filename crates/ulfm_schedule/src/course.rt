@@ -3,7 +3,7 @@ ghost use Rattle.std.specs.Prelude.{◌≡◌, ◌++◌, OnOk, string_bytes};
 ghost use Rattle.ulfm_schedule.specs.Words.{course_text, end_text, open_line};
 
 use std::alloc::AllocError;
-use ulfm_answer::{StepReport, push_steps};
+use ulfm_answer::{StepReport, push_closing, push_steps};
 use ulfm_job::NotedStep;
 
 /// How a rank ended.
@@ -41,12 +41,16 @@ fn push_open(text: &mut String, r: u8, k: usize, open: &Option<NotedStep>) -> Re
 }
 
 /// Puts the line of how a rank ended.
-fn push_end(text: &mut String, r: u8, end: End) -> Result<(), AllocError>
+///
+/// # Errors
+///
+/// `AllocError` where a growth was refused.
+pub fn push_end(text: &mut String, r: u8, end: End) -> Result<(), AllocError>
     ensures { OnOk result (string_bytes text.new ≡ string_bytes text.old ++ end_text r end) }
 {
     match end {
-        End::Done => write!(text, "{r} end: done\n"),
-        End::Stopped => write!(text, "{r} end: stopped\n"),
+        End::Done => push_closing(text, r, false, 0),
+        End::Stopped => push_closing(text, r, true, 0),
         End::Unreached => write!(text, "{r} end: not reached\n"),
     }
 }

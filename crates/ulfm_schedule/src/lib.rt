@@ -9,7 +9,8 @@
 //!
 //! It promises, each call by one clause:
 //!
-//! - [`push_schedule`]: the words of a schedule: its moves, a line each, the trace that it leaves, and what steps wait for (Words.antt).
+//! - [`push_schedule`]: the words of a schedule: its moves, a line each, the trace that it leaves, and what steps wait for (Words.antt);
+//!   [`push_passed`], [`push_end`], [`push_waits`]: those of its lines that name no step.
 //! - [`awaited`], [`due_of`], [`would_bring`]: what a step waits for that stands open, of which ranks, and which step of a rank would bring it
 //!   (Waits.antt).
 //! - `Wait::of`, [`push_wait`]: the same as a value, and in words (Values.antt).
@@ -48,13 +49,13 @@ pub use awaiting::{awaited, position_by};
 pub use bearer::{Bearer, Fate};
 pub use bearing::{due_of, need_of, would_bring};
 pub use cargo::{Cargo, push_cargo};
-pub use course::{Course, End};
-pub use moved::{Deed, Move};
+pub use course::{Course, End, push_end};
+pub use moved::{Deed, Move, push_passed};
 pub use need::Need;
 pub use numbers::{Before, Numbers};
 pub use parcel::Parcel;
 pub use remark::Remark;
 pub use replaying::replayed;
-pub use schedule::{Schedule, push_schedule};
+pub use schedule::{Schedule, push_schedule, push_waits};
 pub use wait::{Wait, WaitingStep};
 pub use wait_words::{push_bringing, push_named, push_needed, push_wait};

@@ -36,7 +36,11 @@ pub struct Move {
 }
 
 /// Puts the line of an item of the rank `s` that goes to the rank `d`: to the rank itself, or on its way there.
-fn push_passed(
+///
+/// # Errors
+///
+/// `AllocError` where a growth was refused.
+pub fn push_passed(
     text: &mut String,
     s: u8,
     d: u8,

@@ -62,7 +62,11 @@ fn push_open_steps(text: &mut String, waits: &[Wait]) -> Result<(), AllocError>
 }
 
 /// Puts what steps wait for, if that is told.
-fn push_waits(text: &mut String, waits: &Option<Vec<Wait>>) -> Result<(), AllocError>
+///
+/// # Errors
+///
+/// `AllocError` where a growth was refused.
+pub fn push_waits(text: &mut String, waits: &Option<Vec<Wait>>) -> Result<(), AllocError>
     ensures { OnOk result (string_bytes text.new ≡ string_bytes text.old ++ open_text waits.now) }
 {
     match waits {
