@@ -2,11 +2,11 @@
 ghost use Rattle.std.specs.Prelude.{◌≡◌, IfOk, option_map};
 ghost use Rattle.std.specs.List.{list_all};
 ghost use Rattle.ulfm_command_line.specs.Naming.{is_labelled, is_place_byte, may_name, only_stop, place_named, stop_by_name, stop_named};
-ghost use Rattle.ulfm_job.specs.Text.{is_starred, two_by, unstarred};
+ghost use Rattle.ulfm_job.specs.Text.{two_by};
 ghost use Rattle.ulfm_job.specs.declared.place.Place.TheVariants.{One};
 
 use std::alloc::{AllocError, Global};
-use ulfm_job::{Place, Stop};
+use ulfm_job::{Place, Stop, unstarred};
 use ulfm_reader::Name;
 
 /// Whether a byte may stand in a place: one of a name, a dot, a star or a plus.
@@ -137,20 +137,4 @@ fn is_labelled(alloc: Global, text: &str, name: &Name) -> Result<bool, AllocErro
     let step = name.text.as_str();
     let label = format!(in alloc; "{rank}.{step}")?;
     Ok(label.as_str() == text)
-}
-
-/// What stands before the star with which a text ends, if it ends with one, and whether it does.
-fn unstarred(text: &str) -> (&str, bool)
-    ensures kept { result.0.now ≡ unstarred text.now }
-    ensures starred { result.1 ≡ is_starred text.now }
-{
-    match text.split_once('*') {
-        Some((front, rest)) => {
-            if rest.is_empty() {
-                return (front, true);
-            }
-            (text, false)
-        }
-        None => (text, false),
-    }
 }

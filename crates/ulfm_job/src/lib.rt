@@ -24,7 +24,8 @@
 //!   rank dies inside it, and the step may be given up. It is refused where it would have more than 256 steps (`job_at`, Place.antt).
 //! - [`places`]: the places of a job are listed in their order, up to a stop of each rank that is always played (`places_of`, Places.antt). Each is
 //!   inside the job (`IsPlaceOf`, Place.antt).
-//! - [`Place`], `parse`: a text is read as the place that is written so, or as none (`place_of_text`, `place_text`, Text.antt).
+//! - [`Place`], `parse`: a text is read as the place that is written so, or as none (`place_of_text`, `place_text`, Text.antt); [`unstarred`]: what
+//!   stands before its star.
 //!
 //! Files:
 //!
@@ -80,6 +81,7 @@ pub use limits::MOST_STEPS;
 pub use noted_step::NotedStep;
 pub use op::{OPS, Op};
 pub use place::Place;
+pub use place_text::unstarred;
 pub use step::Step;
 pub use stop::Stop;
 pub use text::Text;

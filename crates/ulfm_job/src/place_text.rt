@@ -49,7 +49,7 @@ fn stop_of_parts(rank: &str, step: &str) -> Option<Stop>
 }
 
 /// What stands before the star with which a text ends, if it ends with one, and whether it does.
-fn unstarred(text: &str) -> (&str, bool)
+pub fn unstarred(text: &str) -> (&str, bool)
     ensures kept { result.0.now ≡ unstarred text.now }
     ensures starred { result.1 ≡ is_starred text.now }
 {
