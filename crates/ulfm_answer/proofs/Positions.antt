@@ -30,7 +30,7 @@ pub few_more : (found : Option ℕ) (old new : List ℕ) (k : ℕ) → MatchOpti
 few_more None old new k pushed few = omega (arith, ap length pushed)
 few_more (Some p) old new k pushed few = omega (arith, simp length-append at (ap length pushed))
 
--- the same positions with as many places
+-- two lists of the same positions with room for as many are equal
 pub same_positions : (v w : SmallVec ℕ) → w.items ≡ v.items → w.capacity ≡ v.capacity → w ≡ v
 same_positions v w items capacity =
     let there : ◌≡◌ {A = SmallVec ℕ} w (record { items = w.items; capacity = v.capacity }) = subst (λ k. ◌≡◌ {A = SmallVec ℕ} w (record { items = w.items; capacity = k })) capacity refl in

@@ -72,7 +72,7 @@ SkipsRightly conditions r done =
 abbrev pub is_met : List Clause → ℕ → ℕ → List StepReport → StepReport → Bool
 is_met expected r k done report = is_skipped report.answer || one_holds expected r k done
 
--- the same of each of these steps of a rank, of which the first is numbered k
+-- each of these steps of a rank, the first of which is numbered k, was skipped, or its answer is one that it expects
 abbrev pub each_met : List Clause → ℕ → ℕ → List StepReport → List StepReport → Bool
 each_met expected r k done [] = true
 each_met expected r k done (report ∷ reports) = is_met expected r k done report && each_met expected r (k + 1) done reports

@@ -23,11 +23,11 @@ nothing_known rounds = replicate (63 * suc rounds) None
 abbrev pub known_at : List (Option Decision) → Topic → Option Decision
 known_at known topic = slice_index_or known (cell_of topic) None
 
--- the same cells, and empty ones up to this number of cells
+-- the cells that are known, and empty ones up to this number of cells
 abbrev pub padded : List (Option Decision) → ℕ → List (Option Decision)
 padded known count = known ++ replicate (count - length known) None
 
--- the same with this decision on a topic
+-- what is known, with this decision on a topic
 abbrev pub with_known : List (Option Decision) → Topic → Decision → List (Option Decision)
 with_known known topic held = slice_set (padded known (suc (cell_of topic))) (cell_of topic) (Some held)
 

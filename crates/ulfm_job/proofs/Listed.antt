@@ -22,7 +22,7 @@ flat_more f n =
     let more : range_with_len 0 (n + 1) ≡ range_with_len 0 n ++ n ∷ [] = sym (map-id _) ∙ map-range_with_len_more (λ k. k) 0 n n (omega arith) ∙ ap (λ (ks : List ℕ). ks ++ n ∷ []) (map-id _) in
     ap (flat_map f) more ∙ flat_map-append f (range_with_len 0 n) (n ∷ []) ∙ ap (λ (s : List Stop). flat_map f (range_with_len 0 n) ++ s) (append-nil (f n))
 
--- the same behind others
+-- what one more number gives, behind other stops
 pub flat_next : (f : ℕ → List Stop) (k : ℕ) (stops front : List Stop) → stops ≡ front ++ flat_map f (range_with_len 0 k) → stops ++ f k ≡ front ++ flat_map f (range_with_len 0 (k + 1))
 flat_next f k stops front so_far =
     ap (λ (s : List Stop). s ++ f k) so_far ∙ append_assoc front (flat_map f (range_with_len 0 k)) (f k)

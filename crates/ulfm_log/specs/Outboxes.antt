@@ -81,7 +81,7 @@ item_of_word (WordOfEnter entrance) = Enter entrance
 abbrev pub for_each : (ℕ → Bool) → Item → ℕ → List Item
 for_each to item d = if to d then item ∷ [] else []
 
--- the same outbox, with these items at its end
+-- an outbox grows by these items at its end
 pub record Grows (old new : Box) (items : List Item) : Type 0 where
   pub grown : new.items ≡ old.items ++ items
   pub items_out : new.items_out ≡ old.items_out

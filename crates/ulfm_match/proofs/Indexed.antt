@@ -112,7 +112,7 @@ module _ {X : Type 0} {K : X → ℕ → Type 0} {top : ℕ} {es : Entries X} {b
   pub out_indexed : {n : ℕ} {es' : Entries X} {bs' : Buckets} → TakesOut n es es' bs bs' → IsIndexed K top es' bs'
   out_indexed t = less_indexed t.unique (out_less t) t.sweeps
 
-  -- the same entries, and the same numbers in buckets
+  -- entries with a copy of their buckets stay indexed
   pub copied_indexed : {es' : Entries X} {bs' : Buckets} → es'.entries ≡ es.entries → IsUnique nat_eq es' → ((k : ℕ) → numbers_at bs' k ≡ numbers_at bs k) → IsIndexed K top es' bs'
   copied_indexed {es'} e u b = less_indexed u (λ n x f. subst (λ xs. lookup (nat_eq n) xs ≡ Some x) e f) (λ k. subst (SweepsFor es' (numbers_at bs k)) (sym (b k)) (sweeps_none _ (numbers_at bs k)))
 

@@ -137,7 +137,7 @@ module _ {X : Type 0} {K : X → ℕ → Type 0} {count : ℕ} {pool : Pool X} (
   pub same_pool : (new : Pool X) → new.wild ≡ pool.wild → new.early ≡ pool.early → new.buckets ≡ pool.buckets → new.recent.items ≡ pool.recent.items → IsPool K count new
   same_pool new w e f g = later_pool new w e f (rw g i.ascending) (λ y c. rw (sym g) c) (same_len pool new g)
 
-  -- the same entries, in other tables
+  -- a copy of a pool in other tables is a pool
   pub copied_pool : (new : Pool X) → IsSamePool pool new → IsPool K count new
   copied_pool new s = record {
     top = i.top;

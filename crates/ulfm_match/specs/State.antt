@@ -15,7 +15,7 @@ pub record Matching : Type 0 where
   pub cleared : List Bool
   pub prepared : Bool
 
--- the same, with no room made
+-- a matching with no room made
 abbrev pub unprepared : Matching → Matching
 unprepared state = record { waiting = state.waiting; kept = state.kept; count = state.count; cleared = state.cleared; prepared = false }
 

@@ -9,7 +9,7 @@ drop-get_or (y ∷ xs) (suc i) d low =
     let next : suc i + 1 ≡ suc (i + 1) = omega arith in
     rw next (drop-get_or xs i d (omega (arith, low)))
 
--- the same by the item that stands there
+-- what is left of a list from the place of an item: the item, and what is left from the next one
 pub drop-item : {X : Type 0} (xs : List X) (i : ℕ) (x : X) → i < length xs → x ≡ get_or xs i x → drop i xs ≡ x ∷ drop (i + 1) xs
 drop-item xs i x low is = drop-get_or xs i x low ∙ ap (λ y. y ∷ drop (i + 1) xs) (sym is)
 

@@ -42,7 +42,7 @@ took_json r s cargo = codes "{\"rank\":" ++ decimal r ++ codes ",\"event\":\"too
 abbrev pub opened_json : List Name → JobView → ℕ → ℕ → List ℕ
 opened_json names job r k = head_json names r k (slice_get (script_at job r) k) ++ codes ",\"event\":\"opened\""
 
--- the same with an answer
+-- the step k of the rank r that is answered
 abbrev pub done_json : List Name → JobView → ℕ → ℕ → StepAnswer → List ℕ
 done_json names job r k answer = answered_json names r k (slice_get (script_at job r) k) answer ++ codes ",\"event\":\"answered\""
 

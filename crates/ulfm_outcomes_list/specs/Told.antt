@@ -51,7 +51,7 @@ unmet_words at unmet = codes "not as expected: " ++ decimal unmet.rank ++ codes 
 abbrev pub place_json : Unmet → List ℕ
 place_json unmet = codes "{\"rank\":" ++ decimal unmet.rank ++ codes ",\"step\":" ++ decimal unmet.step ++ codes "},"
 
--- the same as the first key of an object
+-- the step, as the first key of an object
 abbrev pub unmet_json : Unmet → List ℕ
 unmet_json unmet = codes "{\"not_as_expected\":" ++ place_json unmet
 
@@ -74,7 +74,7 @@ row_key (Many limit) = codes "{\"not_known\":"
 abbrev pub row_head : ℕ → Told → List ℕ
 row_head number told = row_saying told ++ decimal number ++ codes "]"
 
--- the same in words
+-- the beginning of a line in words: what is said of a row by its number, and at which place
 abbrev pub row_words : Option Place → ℕ → Told → List ℕ
 row_words at number told = row_head number told ++ at_words at
 

@@ -19,7 +19,7 @@ is_row r k code _ = false
 abbrev pub is_told : List (List ℕ) → ℕ → ℕ → List ℕ → Bool
 is_told found r k code = list_any (is_row r k code) found
 
--- the same of the step k of the file
+-- the list of a place tells it of the step k of the file
 abbrev pub is_told_at : JobView → ℕ → ℕ → List ℕ → Listed → Bool
 is_told_at j r k code one = is_told one.found r (number_at one.place j r k) code
 

@@ -43,7 +43,7 @@ module _ (v w : World) (same : AnswerTheSame v w) where
         step = ap (λ (done : List StepReport). length done) there.done ∙ stands.step;
       }
 
-  -- the same goals are shown
+  -- goals that the world v shows are shown by the world w
   pub still_shown : (goals : Goals) → Shows goals v → Shows goals w
   still_shown goals shows = record {
     answers = same_answers goals.answers.items ∙ shows.answers;

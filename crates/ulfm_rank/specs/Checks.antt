@@ -31,7 +31,7 @@ Passes checks = first_refusal checks ≡ None
 abbrev pub Fails : List Check → CallError → Type 0
 Fails checks e = first_refusal checks ≡ Some e
 
--- the same for a call that may answer out of memory: it does so only where no check refuses
+-- the error of the first check that refuses, or out of memory, but that only where no check refuses
 abbrev pub FailsOrStarves : List Check → CallError → Type 0
 FailsOrStarves checks e = Fails checks e ⊎ (Passes checks × (e ≡ OutOfMemory))
 

@@ -52,10 +52,10 @@ may_tell op words = nat_le (length words) 1024 && (is_own op words || (not (is_n
 abbrev pub may_expect : Order → List ℕ → Bool
 may_expect order words = may_tell (op_in order) words
 
--- the same for a condition, which may also ask whether the step was skipped or is unfinished
+-- words with which an answer that a condition asks for may begin: it may also ask whether the step was skipped or is unfinished
 abbrev pub may_ask : Order → List ℕ → Bool
 may_ask order words = is_alike not_answered words || may_expect order words
 
--- the same for an answer that must not go with others: the step may also be skipped
+-- words with which an answer that must not go with others may begin: the step may also be skipped
 abbrev pub may_answer : Order → List ℕ → Bool
 may_answer order words = is_alike (codes "skipped" ∷ []) words || may_expect order words

@@ -84,7 +84,7 @@ abbrev pub lines_by : ℕ → ℕ → Data → Option Block → List Line
 lines_by ranks place d None = step_lines ranks place d
 lines_by ranks place d (Some block) = lines_of_block ranks place block
 
--- the same with these items behind it
+-- the lines of an item, with these items behind it
 abbrev pub item_lines : ℕ → ℕ → List Data → Data → List Line
 item_lines ranks place behind d = lines_by ranks place d (block_in behind d)
 

@@ -12,7 +12,7 @@ abbrev pub ranks_or_eight : Option ℤ → ℕ
 ranks_or_eight (Some (pos n)) = if nat_le 1 n && nat_le n 8 then n else 8
 ranks_or_eight _ = 8
 
--- the same of a job's table
+-- how many ranks a job's table says that the job has; eight where it doesn't
 abbrev pub ranks_in : Members → ℕ
 ranks_in ms = ranks_or_eight (option_and_then as_integer (get_member (codes "ranks") ms))
 

@@ -30,7 +30,7 @@ in_words words c = clause c.rank c.at c.step words
 unfoldable pub goal_in : List (List Order) → List Name → List ℕ → Result Clause Fault
 goal_in scripts names text = parted 32 text >>= (λ parts. claim_of scripts names parts.0 (trace_words parts.1) >>= (λ claim. Ok (in_words parts.1 claim)))
 
--- the same, or the text that names no answer
+-- the clause of a text, or the text that names no answer
 abbrev pub goal_or : List ℕ → Result Clause Fault → Result Clause (List ℕ)
 goal_or text (Ok goal) = Ok goal
 goal_or text (Err fault) = Err text
@@ -44,7 +44,7 @@ goals_onto scripts names before (text ∷ texts) = goal_or text (goal_in scripts
 abbrev pub goals_of : Reading → List ℕ → Result (List Clause) (List ℕ)
 goals_of reading text = goals_onto reading.plan.scripts reading.names [] (parts_of text)
 
--- the same, where a job was read
+-- the answers that a text names, where a job was read
 abbrev pub goals_in : Result Reading JobFault → List ℕ → Result (List Clause) (List ℕ)
 goals_in (Ok reading) text = goals_of reading text
 goals_in (Err fault) text = Err text

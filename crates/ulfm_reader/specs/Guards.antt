@@ -31,7 +31,7 @@ answers_of (Some name) = good_answers (unwrap_or (op_named name) Stop)
 abbrev pub goal_of : List Data → Line → Option (List ℕ)
 goal_of items l = option_and_then goal_in (slice_get items l.place)
 
--- the same of the line with this number
+-- the name to which an error in the line with this number leads
 abbrev pub goal_at : List Data → List Line → ℕ → Option (List ℕ)
 goal_at items lines k = option_and_then (goal_of items) (slice_get lines k)
 
@@ -97,7 +97,7 @@ abbrev pub guarded_by : List Line → Members → List Guard → Members
 guarded_by lines ms [] = ms
 guarded_by lines ms (g ∷ gs) = put (codes "if") (asks_with (map (asked lines) (g ∷ gs)) (get_member (codes "if") ms)) ms
 
--- the same behind so many lines, where the step has a rank
+-- a step's members, with the conditions of its guards behind so many lines, where the step has a rank
 abbrev pub guarded_for : List Data → List Line → ℕ → Members → Option ℤ → Members
 guarded_for items lines k ms None = ms
 guarded_for items lines k ms (Some rank) = guarded_by lines ms (open_guards items lines (text_at (codes "name") ms) (guards_in items lines rank k))

@@ -165,7 +165,7 @@ never_of h never draft =
 abbrev pub lines_of : Head → List Line
 lines_of h = written_out h.ranks (listed h.steps)
 
--- the same, where they are still to be written out
+-- what was read of the job's own keys and of its steps, where the rows are still to be written out
 abbrev pub rest_of : Head → Draft → Result Reading JobFault
 rest_of h draft = in_job (never_out (lines_of h) h.ranks h.never) >>= (λ never. never_of h never draft)
 

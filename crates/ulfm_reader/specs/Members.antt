@@ -9,7 +9,7 @@ abbrev pub put : List ℕ → Data → Members → Members
 put key d no_members = member key d no_members
 put key d (member k e ms) = match_ordering (slice_cmp nat_cmp key k) (member key d (member k e ms)) (member k d ms) (member k e (put key d ms))
 
--- the same, where there is a value to put
+-- the members, with a value at a key where there is one to put
 abbrev pub put_if_some : List ℕ → Option Data → Members → Members
 put_if_some key None ms = ms
 put_if_some key (Some d) ms = put key d ms

@@ -20,7 +20,7 @@ further ranks text =
     else if bytes_eq text (codes "me+7") then Some 7
     else None
 
--- the same of the text at a key
+-- how many ranks further on the text at a key names, where it names one
 abbrev pub further_at : ℕ → List ℕ → Members → Option ℕ
 further_at ranks key ms = option_and_then (further ranks) (option_and_then as_str (get_member key ms))
 
@@ -42,7 +42,7 @@ put_neighbour ranks rank key ms (Some n) = put key (integer (pos (neighbour rank
 abbrev pub with_neighbour : ℕ → ℤ → List ℕ → Members → Members
 with_neighbour ranks rank key ms = put_neighbour ranks rank key ms (further_at ranks key ms)
 
--- the same, where the step has a rank
+-- the members with the numbers of the ranks that `to` and `from` name, where the step has a rank
 abbrev pub placed_for : ℕ → Members → Option ℤ → Members
 placed_for ranks ms None = ms
 placed_for ranks ms (Some rank) = with_neighbour ranks rank (codes "from") (with_neighbour ranks rank (codes "to") ms)

@@ -136,7 +136,7 @@ unfoldable pub tables_onto : (ℕ → List Condition → Option Members → Resu
 tables_onto read k before no_items = Ok before
 tables_onto read k before (item d ds) = read k before (as_table d) >>= (λ more. tables_onto read (k + 1) more ds)
 
--- the same, where there are 1 to 16 of them
+-- what one item after another of a list of 1 to 16 gives, behind these conditions
 abbrev pub few_tables : (ℕ → List Condition → Option Members → Result (List Condition) Fault) → List Condition → Items → Result (List Condition) Fault
 few_tables read before ds = if are_few ds then tables_onto read 0 before ds else Err OutOfRange
 

@@ -34,7 +34,7 @@ abbrev pub opened_by : ℕ → ℕ → Option (List ℕ × List ℕ) → Option 
 opened_by r s None = None
 opened_by r s (Some parts) = option_map (λ rank. (rank, parts.1)) (rank_by r s parts.0)
 
--- the same of a text of a row
+-- the rank of a text of a row whose word stands for one, with what is said behind the dot
 abbrev pub opened : ℕ → ℕ → Data → Option (ℕ × List ℕ)
 opened r s d = opened_by r s (answer_parts d)
 
@@ -42,7 +42,7 @@ opened r s d = opened_by r s (answer_parts d)
 abbrev pub has_step : List Line → ℤ → List ℕ → Bool
 has_step lines rank name = list_any (λ (line : Line). is_named rank name (as_table line.step)) lines
 
--- the same of the name that stands first
+-- a rank has a step of the name that stands before the dot
 abbrev pub has_first : List Line → ℤ → Option (List ℕ × List ℕ) → Bool
 has_first lines rank None = false
 has_first lines rank (Some parts) = has_step lines rank parts.0

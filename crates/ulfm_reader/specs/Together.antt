@@ -24,7 +24,7 @@ alternative_with more ms =
     if is_none (get_member (codes "all") ms) then together (table ms ∷ more)
     else table (put_if_some (codes "all") (all_with more (list_at (codes "all") ms)) ms)
 
--- the same of what may be no table
+-- an alternative that holds where these tables hold too; what is no table stays
 abbrev pub condition_with : List Data → Data → Data
 condition_with more (table ms) = alternative_with more ms
 condition_with more d = d

@@ -16,7 +16,7 @@ use Rattle.ulfm_script.specs.inside.Underway.{FollowsSoFar, GoesThrough}
 use Rattle.ulfm_script.proofs.Reacting.{gives-push}
 use Rattle.std.proofs.lemmas.Option.{none-some, slice_get_within}
 
--- the same answers, and then a step given up that was to be played
+-- steps that were skipped rightly still are, behind one that was to be played and wasn't skipped
 spent : (conditions : List Condition) (r : ℕ) (done : List StepReport) (x : StepReport) → SkipsRightly conditions r done → is_played conditions r done ≡ true → is_skipped x.answer ≡ false → SkipsRightly conditions r (done ++ x ∷ [])
 spent conditions r done x h played given k report g = elim (get_cases done x k report g) [
   | inl before ↦

@@ -24,7 +24,7 @@ abbrev pub ends_round_by : Context → Step → StepAnswer → Bool
 ends_round_by comm (Agree flag on) (Agreed value missing) = on.number == comm.number
 ends_round_by comm _ _ = false
 
--- the same of a step of a report
+-- the step of a report is an agreement on this communicator, and was told its value
 abbrev pub ends_round_in : Context → StepReport → Bool
 ends_round_in comm report = ends_round_by comm report.step report.answer
 

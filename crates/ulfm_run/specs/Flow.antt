@@ -22,7 +22,7 @@ pub record PairMatchesLogs {E : Type 0} (pushed taken : E → ℕ → List Item)
   pub same_taken : taken inlet s ≡ took receiver.log s
   pub same_pushed : pushed out d ≡ took receiver.log s ++ left
 
--- the same for each ordered pair of ranks
+-- what was pushed and taken between each ordered pair of ranks is what the logs say
 abbrev pub EndsMatchLogs : {E : Type 0} → (E → ℕ → List Item) → (E → ℕ → List Item) → List Report → List E
     → List (Vec (WorldRank × Item) Global) → Type 0
 EndsMatchLogs {E} pushed taken reports ends inboxes =

@@ -3,7 +3,7 @@ use Rattle.std.proofs.Common.{◌≡◌, ℕ, ◌+◌, ◌≤◌, List, [], ◌�
 use Rattle.std.proofs.Math.Seq.{take-append_seam}
 use Rattle.ulfm_script.proofs.Common.{EntersBetween, Step, Topic, Entry, IsTook, OnlyTook, State, StoodAt, All-nil, All-append}
 
--- the same rank with a longer log
+-- a rank's log grew
 pub record Grew (old new : State) : Type 0 where
   pub me : new.me ≡ old.me
   pub ranks : new.ranks ≡ old.ranks

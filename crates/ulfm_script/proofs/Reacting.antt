@@ -35,7 +35,7 @@ gives-push j r done x h e k report g given = elim (get_cases done x k report g) 
       (subst (λ (y : StepReport). (y.polls ≡ j.turns) ⊎ (may_leave j r (length done) ≡ true)) last.1 (e (ap (λ (y : StepReport). is_unfinished y.answer) last.1 ∙ given)))
 ]
 
--- the same of a player that has one more answer, and no step open
+-- a player still goes through its script with one more answer, and no step open
 goes-closed : {j : JobView} {r : ℕ} {old new : Player} (x : StepReport) → FollowsSoFar (script_at j r) j.turns new → GoesThrough j r old → new.done ≡ old.done ++ x ∷ [] → new.current ≡ None → is_unfinished x.answer ≡ false → is_skipped x.answer ≡ not (is_played j.conditions r old.done) → GoesThrough j r new
 goes-closed {j} {r} {old} {new} x follows h done none kept e = record {
   follows = follows;

@@ -11,7 +11,7 @@ stays_again done old (Wait req) new h = subst (λ (s : State). LeavesOpen done s
 stays_again done old (Probe source tag comm) new h = subst (λ (s : State). LeavesOpen done s (Probe source tag comm) new) (sym h.2) h
 stays_again done old _ new h = absurd h
 
--- the same where it stood open before
+-- a step that stood open before a poll that left it so stands open after it
 stays_still : (joint : Bool) (done : List StepReport) (old : State) (asked : Step) (new : State) → is_joint asked ≡ joint → StaysOpen joint done old asked new → StaysOpen (is_joint asked) done new asked new
 stays_still true done old asked new is h = subst (λ b. StaysOpen b done new asked new) (sym is) refl
 stays_still false done old asked new is h = stays_again done old asked new h

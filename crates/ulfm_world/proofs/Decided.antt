@@ -45,7 +45,7 @@ module _ (n : ℕ) (w : World) (r : ℕ) (comm : Context) (h : IsWorld w) (settl
         | inr b ↦ ap error_of (sym same ∙ b.refused)
       ]
 
-  -- the same by its answer
+  -- a decision is refused only for want of memory
   pub decided_starves : (players : List Player) (later : List (Option Decision)) (c : DecidesStep w.players w.decided r comm players later) (e : CallError) → c.decided.answer ≡ Refused e → e ≡ OutOfMemory
   decided_starves players later c e is =
       settled_starves players later c.decided.asked e (length (rank_at w r).log) (player_at w r).polls c

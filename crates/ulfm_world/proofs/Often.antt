@@ -46,7 +46,7 @@ often (suc n) w r asked inside running h =
       subst (CallsInVain (suc n) next r asked) (ap (with_players w) (set-set w.players r (after w r asked) (polled_on (player_at next r) (suc n))) ∙ ap (with_player w r) last) more,
     )
 
--- the same of players with their places
+-- polls in vain of a player that stands at its place among others
 pub often_parts : (views : List PlayerView) (inboxes : List (List (WorldRank × Item))) (room : Room) (decided : List (Option Decision)) (r n : ℕ) {old : PlayerView} (new : PlayerView) (asked : Step) → r < length views → old ≡ get_or views r old → new.player ≡ polled_on old.player n → 0 < n
     → IsRunning (parts views inboxes room decided) r → IsPolledInVain (player_at (parts views inboxes room decided) r) asked → CallsInVain n (parts views inboxes room decided) r asked (parts (set views r new) inboxes room decided)
 often_parts views inboxes room decided r zero new asked inside same is some running h = absurd (omega (arith, some))

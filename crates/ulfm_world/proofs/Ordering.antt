@@ -8,7 +8,7 @@ use Rattle.ulfm_report_laws.proofs.Times.{time_else, time_here, with_time}
 use Rattle.ulfm_world.proofs.Common.{Adopted, Decision, Entry, Item, StepReport, Took, WorldRank, at, cases_eq, cases_lt, same_Some, slice_get_within}
 use Rattle.ulfm_world.proofs.Ordered.{AreOrdered, GoesOn, GrowsAt, IsDue, IsMade, IsMadeBefore, IsOwedBefore, front_goes_on, made_come, made_still}
 
--- the same logs
+-- logs that stay as they were keep their order
 ordered_same : {n : ℕ} {old new : ℕ → List Entry} {answered later : ℕ → List StepReport} → ((r : ℕ) → new r ≡ old r) → ((r : ℕ) → GoesOn (answered r) (later r)) → AreOrdered n old answered → AreOrdered n new later
 ordered_same {n} {old} {new} {answered} {later} same steps o = record {
   time = o.time;

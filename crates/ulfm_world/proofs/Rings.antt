@@ -56,7 +56,7 @@ rings-happens w (Decide r comm) w' h k = record { same = Decide r comm; is_same 
 rings-happens w (Leave r) w' h k = record { same = Leave r; is_same = refl; happens = (k.0, k.1, ap on_rings k.2) }
 rings-happens w (Skip r asked) w' h k = record { same = Skip r asked; is_same = refl; happens = (k.0, k.1, ap on_rings k.2) }
 
--- the same schedule on rings, from any world
+-- a schedule of rings for these events, from any world
 abbrev OnRings : World → List Event → World → Type 0
 OnRings w events v = (later : List Event) × AreOnRings events later × Run (on_rings w) later (on_rings v)
 

@@ -71,7 +71,7 @@ found-from s xs =
     at n true lt h = h.0 (ltb-true n (length xs) lt)
     at n false le h = h.1 (ltb-false n (length xs) le)
 
--- the same of what is found
+-- what a search for the first item of s has found
 pub found-as : (s : ℕ) (xs : List (WorldRank × Item)) (o : Option ℕ) → o ≡ position (λ (x : WorldRank × Item). eqb x.0.number s) xs → MatchOption o (items_from s xs ≡ []) (IsFirstOf s xs)
 found-as s xs o is = let M : Option ℕ → Type 0 = λ (k : Option ℕ). MatchOption k (items_from s xs ≡ []) (IsFirstOf s xs) in subst M (sym is) (found-from s xs)
 

@@ -6,11 +6,11 @@ use Rattle.ulfm_world.specs.declared.room.Room.TheVariants.{PerPair}
 use Rattle.ulfm_world.specs.Room.{places}
 use Rattle.ulfm_world.specs.World.{World, start_world, Happens, Run}
 
--- the same players, inboxes and decisions, where each pair of ranks has the places that an inbox had
+-- a world on rings: its players, inboxes and decisions, where each pair of ranks has the places that an inbox had
 abbrev pub on_rings : World → World
 on_rings w = record { players = w.players; inboxes = w.inboxes; room = PerPair (places w.room); decided = w.decided }
 
--- the same event on rings: a take names the sender of what it takes
+-- an event, and what it is on rings: a take names the sender of what it takes
 abbrev pub IsSameOnRings : Event → Event → Type 0
 IsSameOnRings (Take r) same = (s : ℕ) × (same ≡ TakeFrom r s)
 IsSameOnRings event same = same ≡ event

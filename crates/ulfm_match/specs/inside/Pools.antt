@@ -68,7 +68,7 @@ pub record IsPool {X : Type 0} (IsKey : X → ℕ → Type 0) (count : ℕ) (poo
   -- the early ones may have a key of any source or of any tag only where the pool says so
   pub none_wild : pool.wild ≡ false → NoneIsWild IsKey pool.early
 
--- the same entries, and buckets of the same numbers
+-- two pools have the same entries, and buckets of the same numbers
 pub record IsSamePool {X : Type 0} (old new : Pool X) : Type 0 where
   pub early : new.early.entries ≡ old.early.entries
   pub buckets : (k : ℕ) → numbers_at new.buckets k ≡ numbers_at old.buckets k
