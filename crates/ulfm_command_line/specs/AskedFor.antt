@@ -18,7 +18,7 @@ pub record Asked : Type 0 where
   pub filed : List Filed
   pub provisos : List Proviso
 
--- the same by its plan
+-- what was read of a text, with its plan
 abbrev pub reading_as : Asked → Reading
 reading_as asked = record { plan = plan_of asked.job; never = asked.rows; names = asked.names; filed = asked.filed; provisos = asked.provisos }
 

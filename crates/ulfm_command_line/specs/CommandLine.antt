@@ -66,7 +66,7 @@ abbrev pub place_given : Option Text → Option Place
 place_given None = Some Nowhere
 place_given (Some text) = place_written text
 
--- the same by the options of a command
+-- the place of stops that the options of a command name
 abbrev pub place_in : List Row → Option Place
 place_in rows = place_given (first_of (codes "stop") rows)
 
@@ -154,7 +154,7 @@ named_at name rows place =
     else (if bytes_eq name (codes "draw") then Some (Draw (style_of rows) (turns_in rows) place)
     else None)))))))
 
--- the same by the options alone, where `--stop` has a text that may be a place
+-- the command of a name with these options, if `--stop` has a text that may be a place
 abbrev pub named : Text → List Row → Option Wanted
 named name rows = option_and_then (named_at name rows) (place_in rows)
 

@@ -26,6 +26,6 @@ failed_in Json failure = failed_json failure
 abbrev pub out_of_memory_in : Form → List ℕ
 out_of_memory_in form = failed_in form run.OutOfMemory
 
--- the same in words
+-- the line in words for a run that found no memory
 abbrev pub out_of_memory_text : List ℕ
 out_of_memory_text = failed_text run.OutOfMemory

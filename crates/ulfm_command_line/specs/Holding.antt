@@ -74,6 +74,6 @@ held stops asked = record asked {
   rows = map (held_row asked stops) (range_with_len 0 (length asked.rows));
 }
 
--- the same at a place
+-- what was read, as far as it holds at a place
 abbrev pub held_at : Place → Asked → Asked
 held_at place asked = held (stops_at place asked.job) asked

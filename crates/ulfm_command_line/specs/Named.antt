@@ -15,7 +15,7 @@ use Rattle.ulfm_command_line.specs.declared.command.Wanted.TheVariants.{Replay, 
 use Rattle.ulfm_command_line.specs.declared.reply.Reply.{Reply}
 use Rattle.ulfm_job.specs.declared.place.Place.{Place}
 
--- the same asked for with the stops of a place
+-- a command with the stops of a place
 abbrev pub wanted_at : Place → Wanted → Wanted
 wanted_at place (Replay is_strict turns _) = Replay is_strict turns place
 wanted_at place (Run options) = Run (record options { place = place })

@@ -18,7 +18,7 @@ use Rattle.ulfm_command_line.specs.Replies.{refused_in}
 abbrev pub place_line : Place → List ℕ
 place_line place = place_text place ++ codes "\n"
 
--- the same as an object
+-- the line of a place, as an object
 abbrev pub place_json : Place → List ℕ
 place_json place = codes "{\"place\":\"" ++ place_text place ++ codes "\"}\n"
 

@@ -51,7 +51,7 @@ asked_beside stop asked = record {
   provisos = [];
 }
 
--- the same with the stops of a place
+-- what was read and holds at its place, with the stops of a place
 abbrev pub beside_stops : Place → Asked → Asked
 beside_stops Nowhere asked = asked
 beside_stops (One stop) asked = asked_beside stop asked

@@ -9,7 +9,7 @@ use Rattle.ulfm_forms.specs.declared.form.Form.TheVariants.{Words, Json}
 abbrev pub no_place_text : Place → List ℕ
 no_place_text place = codes "place refused: " ++ place_text place ++ codes "\n"
 
--- the same as an object
+-- the line for a place that a job hasn't, as an object
 abbrev pub no_place_json : Place → List ℕ
 no_place_json place = codes "{\"place_refused\":\"" ++ place_text place ++ codes "\"}\n"
 
@@ -22,7 +22,7 @@ no_place_in Json place = no_place_json place
 abbrev pub unnamed_text : List ℕ → List ℕ
 unnamed_text text = codes "place refused: " ++ text ++ codes "\n"
 
--- the same as an object
+-- the line for a text that names no place of a job, as an object
 abbrev pub unnamed_json : List ℕ → List ℕ
 unnamed_json text = codes "{\"place_refused\":\"" ++ text ++ codes "\"}\n"
 

@@ -38,11 +38,11 @@ unnumbered (Some text) = if is_some (place_of_text text) then None else Some tex
 abbrev pub wish_of : List Row → WishView
 wish_of rows = record { show = first_of (codes "show") rows; choice = choice_of rows; stop = unnumbered (first_of (codes "stop") rows) }
 
--- the same by the subcommand: without one, all lines of a list
+-- what a subcommand and its options ask for: without a subcommand, all lines of a list
 abbrev pub wish_in : Option (Text × List Row) → WishView
 wish_in None = record { show = None; choice = record { only = None; has_notes = false }; stop = None }
 wish_in (Some p) = wish_of p.1
 
--- the same by the words
+-- what the words of a command line ask for
 abbrev pub wish_asked : List Text → WishView
 wish_asked words = wish_in (asked words)

@@ -19,7 +19,7 @@ abbrev pub sweep_line : SweepLine → List ℕ
 sweep_line line = codes "stop " ++ decimal line.rank ++ codes " at " ++ decimal line.at ++ codes ": done " ++ decimal line.done ++ codes " over " ++ decimal line.over
     ++ codes " pending " ++ decimal line.pending ++ codes " unfinished " ++ decimal line.unfinished ++ codes " refused " ++ decimal line.refused ++ codes "\n"
 
--- the same as an object
+-- where the stop was put, and how many answers of each kind all ranks got, as an object
 abbrev pub sweep_json : SweepLine → List ℕ
 sweep_json line = codes "{\"stop\":" ++ decimal line.rank ++ codes ",\"at\":" ++ decimal line.at ++ codes ",\"done\":" ++ decimal line.done ++ codes ",\"over\":" ++ decimal line.over
     ++ codes ",\"pending\":" ++ decimal line.pending ++ codes ",\"unfinished\":" ++ decimal line.unfinished ++ codes ",\"refused\":" ++ decimal line.refused ++ codes "}\n"

@@ -36,7 +36,7 @@ tally traces = fold counted_once [] traces
 abbrev pub row_text : ℕ → Row → List ℕ
 row_text times row = decimal row.1 ++ codes " of " ++ decimal times ++ codes " runs:\n" ++ row.0
 
--- the same, where the count is an object
+-- a count, as an object, and its trace, of so many runs
 abbrev pub row_json : ℕ → Row → List ℕ
 row_json times row = codes "{\"count\":" ++ decimal row.1 ++ codes ",\"runs\":" ++ decimal times ++ codes "}\n" ++ row.0
 

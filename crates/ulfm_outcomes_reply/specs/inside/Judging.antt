@@ -49,7 +49,7 @@ abbrev pub IsUnwanted : Form → ListOptions → Option Place → Asked → List
 IsUnwanted form options at asked found None = IsWanted asked
 IsUnwanted form options at asked found (Some told) = IsToldOf form options at asked found told.judgement told.status (string_bytes told.text)
 
--- the same at a place, by a list there
+-- this is wanted at a place, or that is told of it, by a list there
 abbrev pub IsUnwantedAt : Form → ListOptions → Place → Asked → Option Finding → Type 0
 IsUnwantedAt form options place asked None = IsWanted asked
 IsUnwantedAt form options place asked (Some told) = IsToldAt form options place asked told.judgement told.status (string_bytes told.text)

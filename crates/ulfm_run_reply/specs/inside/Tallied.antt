@@ -20,7 +20,7 @@ spots_told is_brief job = if is_brief then spots job else []
 abbrev pub AreFew : ℕ → List Counted → Type 0
 AreFew done rows = All (λ (row : Counted). row.count ≤ done) rows
 
--- the same of the lines at each place
+-- at each place no text is of more than so many runs
 abbrev pub AreFewAt : ℕ → List LinesAt → Type 0
 AreFewAt done places = All (λ (lines : LinesAt). AreFew done lines.rows.items) places
 
