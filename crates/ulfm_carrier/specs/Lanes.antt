@@ -1,5 +1,5 @@
 -- What contracts see of the ends of rings.
-use Rattle.std.specs.Prelude.{◌≡◌, ◌<◌, ◌≤◌, ℕ, List, [], length, map, sum, vec_capacity, None, slice_index_or, slice_get, ◌+◌, ◌%◌}
+use Rattle.std.specs.Prelude.{◌≡◌, ◌≢◌, ◌<◌, ◌≤◌, ◌+◌, ◌%◌, ℕ, List, [], ◌∷◌, ◌++◌, length, map, sum, vec_len, vec_capacity, slice_index_or, slice_get, ⊤, Option, None, Result, MatchOption, MatchResult, IfNone, IfSome, IsOk, OnOk, OnErr}
 use Rattle.std.specs.declared.alloc.Global.{Global}
 use Rattle.rtrb.specs.declared.AnyItems.{AnyItems}
 use Rattle.rtrb.specs.declared.producer.Producer.{Producer}
@@ -16,6 +16,7 @@ use Rattle.ulfm_carrier.specs.Carried.{item_from}
 use Rattle.ulfm_carrier.specs.Head.{head_in}
 use Rattle.ulfm_carrier.specs.declared.head.Head.{Head}
 use Rattle.ulfm_carrier.specs.Family.{shown}
+use Rattle.ulfm_base.specs.Items.{ComesFrom}
 use Rattle.ulfm_base.specs.Lists.{at}
 
 -- the sender's end of a ring
@@ -109,6 +110,33 @@ pub record IsFoundInTurn (before after : LaneEnds) (found : ℕ) : Type 0 where
   pub turn : found ≡ in_turn before passed
   pub nothing_seen : (j : ℕ) → j < passed → seen_from after (in_turn before j) ≡ []
   pub next : after.next ≡ found + 1
+
+-- An item is pushed to the rank dest, or comes back: it is if the end knows of a free place there. No other ring changes, and nothing is taken.
+pub record IsPush (before after : LaneEnds) (dest : ℕ) (item : Item) (answer : Result ⊤ Item) : Type 0 where
+  pub name : (lane_name after ≡ lane_name before) × (after.me ≡ before.me) × (vec_len after.outs ≡ vec_len before.outs) × IsReady after
+  pub taken : (p : ℕ) → lane_taken after p ≡ lane_taken before p
+  pub others : (p : ℕ) → p ≢ dest → lane_pushed after p ≡ lane_pushed before p
+  pub pushed : MatchResult answer (λ _. lane_pushed after dest ≡ lane_pushed before dest ++ item ∷ []) (λ back. (back ≡ item) × (lane_pushed after dest ≡ lane_pushed before dest))
+  pub full : OnErr answer (known_room after dest ≡ 0)
+  pub succeeds : 0 < known_room before dest → IsOk answer
+  pub one_place : OnOk answer (known_room before dest ≤ known_room after dest + 1)
+  pub other_rooms : (p : ℕ) → p ≢ dest → known_room after p ≡ known_room before p
+  pub inbox : (after.ins ≡ before.ins) × (after.next ≡ before.next)
+
+-- An item is taken out of the ring of the first rank in turn in which one is found, or none is found, and all was taken that the rank pushed to itself.
+-- Nothing is pushed.
+pub record IsPop (before after : LaneEnds) (answer : Option (WorldRank × Item)) : Type 0 where
+  pub name : (lane_name after ≡ lane_name before) × (after.me ≡ before.me) × (vec_len after.outs ≡ vec_len before.outs) × IsReady after
+  pub pushed : (p : ℕ) → lane_pushed after p ≡ lane_pushed before p
+  pub sender : IfSome answer (λ found. (found.0.number < vec_len before.outs) × ComesFrom found.0.number found.1)
+  pub taken : MatchOption answer ((p : ℕ) → lane_taken after p ≡ lane_taken before p)
+      (λ found. (lane_taken after found.0.number ≡ lane_taken before found.0.number ++ found.1 ∷ []) × ((p : ℕ) → p ≢ found.0.number → lane_taken after p ≡ lane_taken before p))
+  pub nothing_seen : IfNone answer ((p : ℕ) → seen_from after p ≡ [])
+  pub own : IfNone answer (lane_pushed after before.me.number ≡ lane_taken after before.me.number)
+  pub in_turn : IfSome answer (λ found. IsFoundInTurn before after found.0.number)
+  pub same_turn : IfNone answer (after.next ≡ before.next)
+  pub rooms : (p : ℕ) → known_room before p ≤ known_room after p
+  pub other_rooms : (p : ℕ) → p ≢ before.me.number → known_room after p ≡ known_room before p
 
 -- These are all ends of one call, by their places: the ring from i to j is one ring at both.
 pub record OneCall (names : List LaneName) : Type 0 where

@@ -1,5 +1,5 @@
 //! A rank's ends of the rings to and from each rank.
-ghost use Rattle.std.specs.Prelude.{◌≡◌, ◌≢◌, ◌<◌, ◌≤◌, ◌+◌, ◌++◌, ◌↔◌, [], ◌∷◌, ℕ, length, map, slice_get, vec_len, IsTrue, MatchResult, MatchOption, OnOk, OnErr, IsOk, IfNone, IfSome};
+ghost use Rattle.std.specs.Prelude.{◌≡◌, ◌≢◌, ◌<◌, ◌≤◌, ◌++◌, ◌↔◌, [], ◌∷◌, ℕ, length, map, slice_get, vec_len, IsTrue, MatchOption, IfNone, IfSome};
 ghost use mathlib.Core.List.{IsPrefix};
 
 use crate::carried::Carried;
@@ -50,7 +50,7 @@ impl LaneEnds {
     ghost use Rattle.ulfm_base.specs.Items.{ComesFrom};
     ghost use Rattle.ulfm_carrier.specs.Carried.{item_from};
     ghost use Rattle.ulfm_carrier.specs.Head.{head_of};
-    ghost use Rattle.ulfm_carrier.specs.Lanes.{heads_from, lane_name, lane_pushed, lane_taken, known_room, seen_from, IsReady, IsFoundInTurn};
+    ghost use Rattle.ulfm_carrier.specs.Lanes.{heads_from, lane_name, lane_pushed, lane_taken, known_room, seen_from, IsReady, IsPush, IsPop};
 
     /// `push` without an `rt`, so it waits for nobody.
     ///
@@ -61,15 +61,7 @@ impl LaneEnds {
         requires ready { IsReady self.old }
         requires dest { dest < vec_len self.old.outs }
         requires item { ComesFrom self.old.me.number item }
-        ensures name { (lane_name self.new ≡ lane_name self.old) × (self.new.me ≡ self.old.me) × (vec_len self.new.outs ≡ vec_len self.old.outs) × IsReady self.new }
-        ensures taken { (p : ℕ) → lane_taken self.new p ≡ lane_taken self.old p }
-        ensures others { (p : ℕ) → p ≢ dest → lane_pushed self.new p ≡ lane_pushed self.old p }
-        ensures pushed { MatchResult result (λ _. lane_pushed self.new dest ≡ lane_pushed self.old dest ++ item ∷ []) (λ back. (back ≡ item) × (lane_pushed self.new dest ≡ lane_pushed self.old dest)) }
-        ensures full { OnErr result (known_room self.new dest ≡ 0) }
-        ensures succeeds { 0 < known_room self.old dest → IsOk result }
-        ensures one_place { OnOk result (known_room self.old dest ≤ known_room self.new dest + 1) }
-        ensures other_rooms { (p : ℕ) → p ≢ dest → known_room self.new p ≡ known_room self.old p }
-        ensures inbox { (self.new.ins ≡ self.old.ins) × (self.new.next ≡ self.old.next) }
+        ensures { IsPush self.old self.new dest item result }
     {
         let out = &mut self.outs[dest as usize];
         if out.is_full() {
@@ -84,17 +76,7 @@ impl LaneEnds {
     /// pushed to itself was taken.
     pub fn pop_now(&mut self) -> Option<(WorldRank, Item)>
         requires ready { IsReady self.old }
-        ensures name { (lane_name self.new ≡ lane_name self.old) × (self.new.me ≡ self.old.me) × (vec_len self.new.outs ≡ vec_len self.old.outs) × IsReady self.new }
-        ensures pushed { (p : ℕ) → lane_pushed self.new p ≡ lane_pushed self.old p }
-        ensures sender { MatchOption result (Unit {0}) (λ found. (found.0.number < vec_len self.old.outs) × ComesFrom found.0.number found.1) }
-        ensures taken { MatchOption result ((p : ℕ) → lane_taken self.new p ≡ lane_taken self.old p)
-            (λ found. (lane_taken self.new found.0.number ≡ lane_taken self.old found.0.number ++ found.1 ∷ []) × ((p : ℕ) → p ≢ found.0.number → lane_taken self.new p ≡ lane_taken self.old p)) }
-        ensures nothing_seen { IfNone result ((p : ℕ) → seen_from self.new p ≡ []) }
-        ensures own { IfNone result (lane_pushed self.new self.old.me.number ≡ lane_taken self.new self.old.me.number) }
-        ensures in_turn { IfSome result (λ found. IsFoundInTurn self.old self.new found.0.number) }
-        ensures same_turn { IfNone result (self.new.next ≡ self.old.next) }
-        ensures rooms { (p : ℕ) → known_room self.old p ≤ known_room self.new p }
-        ensures other_rooms { (p : ℕ) → p ≢ self.old.me.number → known_room self.new p ≡ known_room self.old p }
+        ensures { IsPop self.old self.new result }
     {
         let count = self.ins.len() as u8;
         let start = self.next;
@@ -197,11 +179,11 @@ impl LaneEnds {
 }
 
 impl Ends for LaneEnds {
-    ghost use Rattle.std.specs.Prelude.{◌≡◌, ℕ, vec_len};
+    ghost use Rattle.std.specs.Prelude.{ℕ, vec_len};
     ghost use Rattle.ulfm_carrier.specs.Family.{Keeps, IsGathered};
     ghost use Rattle.ulfm_base.specs.Items.{ComesFrom};
     ghost use Rattle.ulfm_base.specs.Lists.{at};
-    ghost use Rattle.ulfm_carrier.specs.Lanes.{lane_name, lane_pushed, lane_taken, known_room, seen_from, IsReady, IsFoundInTurn, OneCall};
+    ghost use Rattle.ulfm_carrier.specs.Lanes.{lane_name, lane_pushed, lane_taken, IsReady, IsPush, IsPop, OneCall};
 
     type Name = LaneName;
 
@@ -223,38 +205,18 @@ impl Ends for LaneEnds {
         self.me
     }
 
-    // The clauses of the trait and, beside them, those of `push_now` on room and turn.
     fn push<R: Wait>(&mut self, _rt: &R, dest: u8, item: Item) -> Result<(), Item>
         requires ready { IsReady self.old }
         requires dest { dest < vec_len self.old.outs }
         requires item { ComesFrom self.old.me.number item }
-        ensures name { (lane_name self.new ≡ lane_name self.old) × (self.new.me.number ≡ self.old.me.number) × (vec_len self.new.outs ≡ vec_len self.old.outs) × IsReady self.new }
-        ensures taken { (p : ℕ) → lane_taken self.new p ≡ lane_taken self.old p }
-        ensures others { (p : ℕ) → p ≢ dest → lane_pushed self.new p ≡ lane_pushed self.old p }
-        ensures pushed { MatchResult result (λ _. lane_pushed self.new dest ≡ lane_pushed self.old dest ++ item ∷ []) (λ back. (back ≡ item) × (lane_pushed self.new dest ≡ lane_pushed self.old dest)) }
-        ensures full { OnErr result (known_room self.new dest ≡ 0) }
-        ensures succeeds { 0 < known_room self.old dest → IsOk result }
-        ensures one_place { OnOk result (known_room self.old dest ≤ known_room self.new dest + 1) }
-        ensures other_rooms { (p : ℕ) → p ≢ dest → known_room self.new p ≡ known_room self.old p }
-        ensures inbox { (self.new.ins ≡ self.old.ins) × (self.new.next ≡ self.old.next) }
+        ensures { IsPush self.old self.new dest item result }
     {
         self.push_now(dest, item)
     }
 
-    // The clauses of the trait and, beside them, those of `pop_now` on what was seen, on the turn and on room.
     fn pop<R: Wait>(&mut self, _rt: &R) -> Option<(WorldRank, Item)>
         requires ready { IsReady self.old }
-        ensures name { (lane_name self.new ≡ lane_name self.old) × (self.new.me.number ≡ self.old.me.number) × (vec_len self.new.outs ≡ vec_len self.old.outs) × IsReady self.new }
-        ensures pushed { (p : ℕ) → lane_pushed self.new p ≡ lane_pushed self.old p }
-        ensures sender { MatchOption result (Unit {0}) (λ found. (found.0.number < vec_len self.old.outs) × ComesFrom found.0.number found.1) }
-        ensures taken { MatchOption result ((p : ℕ) → lane_taken self.new p ≡ lane_taken self.old p)
-            (λ found. (lane_taken self.new found.0.number ≡ lane_taken self.old found.0.number ++ found.1 ∷ []) × ((p : ℕ) → p ≢ found.0.number → lane_taken self.new p ≡ lane_taken self.old p)) }
-        ensures nothing_seen { IfNone result ((p : ℕ) → seen_from self.new p ≡ []) }
-        ensures own { IfNone result (lane_pushed self.new self.old.me.number ≡ lane_taken self.new self.old.me.number) }
-        ensures in_turn { IfSome result (λ found. IsFoundInTurn self.old self.new found.0.number) }
-        ensures same_turn { IfNone result (self.new.next ≡ self.old.next) }
-        ensures rooms { (p : ℕ) → known_room self.old p ≤ known_room self.new p }
-        ensures other_rooms { (p : ℕ) → p ≢ self.old.me.number → known_room self.new p ≡ known_room self.old p }
+        ensures { IsPop self.old self.new result }
     {
         self.pop_now()
     }

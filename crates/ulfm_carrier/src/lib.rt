@@ -12,6 +12,8 @@
 //! - [`Ends`], `gather` (`residue`, `same`): once all ends are gathered, what was pushed is what was taken and then what is left, in order, for each
 //!   ordered pair of ranks (`IsGathered`, Family.antt, which also says that ends were made together).
 //! - Both carriers (`own`): if a pop finds nothing, all that the rank had pushed to itself was taken.
+//! - [`LaneEnds`], `push` and `pop`, and `push_now` and `pop_now` of callers that have no `rt`: what else a push or a pop of rings does, of room and of
+//!   the turn of ranks (`IsPush`, `IsPop`, Lanes.antt).
 //!
 //! Files:
 //!

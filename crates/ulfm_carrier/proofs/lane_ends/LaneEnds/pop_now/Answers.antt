@@ -1,4 +1,4 @@
-use Rattle.std.proofs.Common.{◌≡◌, ◌<◌, ◌+◌, ◌%◌, inl, inr, [], get_or, map, length, refl, ap, sym, ◌∙◌, arith, subst}
+use Rattle.std.proofs.Common.{◌≡◌, ◌<◌, ◌+◌, ◌%◌, ◌++◌, ◌∷◌, inl, inr, [], get_or, map, length, refl, ap, sym, ◌∙◌, arith, subst}
 use Rattle.std.proofs.lemmas.Nat.{mod_below}
 use Rattle.ulfm_carrier.proofs.Common.{cases_lt, lane_pushed, lane_taken, seen_from, seen_in}
 use Rattle.ulfm_carrier.proofs.Turns.{turns_apart, turn_of, none_seen}
@@ -9,17 +9,41 @@ pop_from-requires-clause-source c =
     let was = c.loop-step.invariant in let low = mod_below (c.args.self.now.next + c.loop-step.step) c.len-count.result (omega (arith, c.loop-step-test.true)) in
     omega (arith, low, was.many, was.ready.rings.square, c.loop-step.self.outs.ok)
 
-pub returns-in-Some-clause-in_turn : goal.returns-in-Some-clause-in_turn
-returns-in-Some-clause-in_turn c =
-    let e = c.args.self.now in let count = c.len-count.result in
-    let many : count ≡ length e.ins.items = omega (arith, c.len-count.ensures, e.ins.ok) in record {
-      passed = c.loop-step.step;
-      turn = ap (λ n. (e.next + c.loop-step.step) % n) many;
-      nothing_seen = λ j low.
-          let place = (e.next + j) % count in
-          let apart = turns_apart e.next j c.loop-step.step count low c.loop-step-test.true in
-          ap (λ n. get_or (map seen_in c.pop_from.new.self.ins.items) ((e.next + j) % n) []) (sym many) ∙ c.in-Some.ensures.others_seen place apart ∙ c.loop-step.invariant.nothing_seen j low;
-      next = refl;
+pub returns-in-Some : goal.returns-in-Some
+returns-in-Some c =
+    let e = c.args.self.now in let was = c.loop-step.invariant in let found = c.in-Some.ensures in let count = c.len-count.result in
+    let low = mod_below (e.next + c.loop-step.step) count (omega (arith, c.loop-step-test.true)) in
+    let many : count ≡ length e.ins.items = omega (arith, c.len-count.ensures, e.ins.ok) in
+    let before_me : c.loop-step.self.me.number ≡ e.me.number = ap (λ r. r.number) was.me in
+    let ready = found.name.3 in record {
+      name = (
+        found.name.0 ∙ was.name,
+        found.name.1 ∙ was.me,
+        found.name.2 ∙ was.rows,
+        record {
+          rings = record { square = ready.rings.square; inside = ready.rings.inside; few = ready.rings.few; live = ready.rings.live; empty = ready.rings.empty; room = ready.rings.room };
+          own_ring = ready.own_ring;
+          no_inbox = ready.no_inbox;
+          inbox_for_each = ready.inbox_for_each;
+        },
+      );
+      pushed = λ p. found.pushed p ∙ was.pushed p;
+      sender = (omega (arith, low, was.many, was.ready.rings.square, was.rows, c.loop-step.self.outs.ok, e.outs.ok), found.sender);
+      taken = (found.taken.0 ∙ ap (λ l. l ++ c.in-Some.item ∷ []) (was.taken ((e.next + c.loop-step.step) % count)), λ p apart. found.taken.1 p apart ∙ was.taken p);
+      nothing_seen = tt;
+      own = tt;
+      in_turn = record {
+        passed = c.loop-step.step;
+        turn = ap (λ n. (e.next + c.loop-step.step) % n) many;
+        nothing_seen = λ j less.
+            let place = (e.next + j) % count in
+            let apart = turns_apart e.next j c.loop-step.step count less c.loop-step-test.true in
+            ap (λ n. get_or (map seen_in c.pop_from.new.self.ins.items) ((e.next + j) % n) []) (sym many) ∙ found.others_seen place apart ∙ was.nothing_seen j less;
+        next = refl;
+      };
+      same_turn = tt;
+      rooms = λ p. omega (arith, was.rooms p, found.rooms p);
+      other_rooms = λ p apart. found.other_rooms p (λ x. apart (x ∙ before_me)) ∙ was.other_rooms p apart;
     }
 
 pub loop-step-preserved : goal.loop-step-preserved
@@ -52,11 +76,19 @@ loop-step-preserved c =
       other_rooms = λ p apart. found.other_rooms p (λ x. apart (x ∙ before_me)) ∙ was.other_rooms p apart;
     }
 
-pub returns-clause-own : goal.returns-clause-own
-returns-clause-own c =
-    let e = c.args.self.now in let count = c.len-count.result in
+pub returns : goal.returns
+returns c =
+    let e = c.args.self.now in let was = c.loop-step.invariant in let count = c.len-count.result in
     let inside : e.me.number < count = omega (arith, c.requires.ready.rings.inside, c.requires.ready.rings.square, c.len-count.ensures, e.ins.ok) in
-    let t = turn_of e.next count e.me.number inside in c.loop-step.invariant.own t.0 (omega (arith, t.1, c.loop-step-test.false)) t.2
-
-pub returns-clause-nothing_seen : goal.returns-clause-nothing_seen
-returns-clause-nothing_seen c = none_seen c.loop-step.self c.args.self.now.next c.loop-step.invariant.many (λ j low. c.loop-step.invariant.nothing_seen j (omega (arith, low, c.loop-step-test.false)))
+    let turn = turn_of e.next count e.me.number inside in record {
+      name = (was.name, was.me, was.rows, was.ready);
+      pushed = was.pushed;
+      sender = tt;
+      taken = was.taken;
+      nothing_seen = none_seen c.loop-step.self e.next was.many (λ j low. was.nothing_seen j (omega (arith, low, c.loop-step-test.false)));
+      own = was.own turn.0 (omega (arith, turn.1, c.loop-step-test.false)) turn.2;
+      in_turn = tt;
+      same_turn = was.next;
+      rooms = was.rooms;
+      other_rooms = was.other_rooms;
+    }
