@@ -48,7 +48,7 @@ Refused old new code kept why = (e : CallError) × (code ≡ number_of e) × why
 abbrev pub Answers : ProcessView → ProcessView → ℕ → Type 0 → Type 0 → (CallError → Type 0) → Type 0
 Answers old new code kept done why = ((code ≡ 0) × done) ⊎ Refused old new code kept why
 
--- the same of a call that passes these checks, or is refused by them or by a growth that was refused
+-- the answer of a call that passes these checks and does this, or is refused by them or by a growth that was refused
 abbrev pub Checked : ProcessView → ProcessView → ℕ → Type 0 → List Check → Type 0 → Type 0
 Checked old new code kept checks done = Answers old new code kept (Passes checks × done) (FailsOrStarves checks)
 

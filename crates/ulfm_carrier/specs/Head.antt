@@ -13,6 +13,6 @@ head_of item.Gone = Gone
 head_of (item.Revoke context) = Revoke context
 head_of (item.Enter entrance) = Enter entrance.topic
 
--- the same of what a ring carries
+-- what is told of an item that a ring carries
 abbrev pub head_in : Carried → Head
 head_in carried = head_of carried.item

@@ -35,7 +35,7 @@ outlet_name p = record { words = p.end.words; slots = p.end.slots; names = p.end
 abbrev pub reader_name : Reader → RingName
 reader_name c = record { words = c.end.words; slots = c.end.slots; names = c.end.names; heap = c.end.heap }
 
--- the same, of the ring from a rank
+-- the name of the ring that a receiver reads from a rank
 abbrev pub inlet_name : Inlet → RingName
 inlet_name i = reader_name i.ring
 

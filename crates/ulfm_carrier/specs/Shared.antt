@@ -62,7 +62,7 @@ pub record IsReceiver (e : SharedEnds) : Type 0 where
   pub live : e.gathered ≡ None
   pub empty : e.left.items ≡ []
 
--- the same, and no sender has closed
+-- an end that may receive: it holds the receiver, and no sender has closed
 pub record MayReceive (e : SharedEnds) : Type 0 where
   pub receiver : IsReceiver e
   pub receipts : (view e.inlet).receipts ≡ []

@@ -28,7 +28,7 @@ pub record IsOpenFrom (d k : ℕ) (e : SharedEnds) : Type 0 where
   pub senders : (j : ℕ) → d ≤ j → MaySend e j
   pub receiver : d ≤ k → MayReceive e
 
--- the same, of all ends by their places
+-- of all ends by their places, the inboxes below d are gathered, and no others
 abbrev pub AreOpenFrom : ℕ → List SharedEnds → Type 0
 AreOpenFrom d ends = (k : ℕ) (e : SharedEnds) → at ends k e → IsOpenFrom d k e
 

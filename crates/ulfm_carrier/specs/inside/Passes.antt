@@ -27,7 +27,7 @@ after_all v xs = record v { taken = v.taken ++ xs }
 abbrev pub one_more : PassView → PassView
 one_more v = record v { made = v.made + 1 }
 
--- the same in another role
+-- what a pass holds, in another role
 abbrev pub in_role : Role → PassView → PassView
 in_role r v = record v { role = r }
 
