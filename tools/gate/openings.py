@@ -30,8 +30,8 @@ PARTS = re.compile(r"\n\s*\n|\n(?= *(?:[-*]|\d+\.) )|\|")
 BULLET = re.compile(r"^([-*]|\d+\.)\s+")
 # A comment of C, or of a function in Python, and one that is refused.
 LEANING = re.compile(r"(?:/\* |\"\"\")(The same\b.*)")
-# A comment of Rattle or of a definition. A copy may be the same value once more.
-LEANING_IN_RATTLE = re.compile(r"^ *(?://[/!]|--) (The same(?:,| (?:as|at|by|for|if|in|of|on|to|where|with)\b).*)", re.MULTILINE)
+# A comment of Rattle, or of a definition or a lemma, whose comments may begin with a small letter. A copy may be the same value once more.
+LEANING_IN_RATTLE = re.compile(r"^ *(?://[/!] (?=T)|-- )([Tt]he same(?:,|$| (?:as|at|behind|by|for|if|in|of|on|to|where|with)\b).*)", re.MULTILINE)
 LEANS = "The same of texts."
 COPIES = "The same job once more."
 END = re.compile(r"(?<=[.:;?!])\s+(?=[A-Z`])")
@@ -58,5 +58,5 @@ def leaning(code):
 
 
 def leaning_in_rattle(code):
-    """The comments of a file of Rattle or of definitions that can't be read alone."""
+    """The comments of a file of Rattle, definitions or proofs that can't be read alone."""
     return LEANING_IN_RATTLE.findall(code)
