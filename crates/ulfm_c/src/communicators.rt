@@ -5,7 +5,7 @@ ghost use Rattle.ulfm_c.specs.Communicators.{DupCall, GroupCall, PositionCall};
 
 use crate::Process;
 use crate::c_status::{CGroup, list};
-use crate::handle::Handle;
+use crate::handle::{Handle, with};
 use crate::words::{comm_of, number_of};
 use std::alloc::Global;
 
@@ -35,14 +35,7 @@ pub extern "C" fn ulfm_c_group_of(
 ) -> u32
     ensures { Call handle.old.slot.held handle.new.slot.held result (group.new ≡ group.old) (λ old new. GroupCall old new comm group.old group.new result) }
 {
-    match handle.take(alloc) {
-        Some(process) => {
-            let code = group_of(&process, comm, group);
-            handle.put(process);
-            code
-        }
-        None => 16,
-    }
+    with!(handle, alloc, |process| group_of(&process, comm, group))
 }
 
 fn dup(process: &mut Process, comm: u32, made: &mut u32) -> u32
@@ -66,14 +59,7 @@ fn dup(process: &mut Process, comm: u32, made: &mut u32) -> u32
 pub extern "C" fn ulfm_c_dup(alloc: Global, handle: &mut Handle, comm: u32, made: &mut u32) -> u32
     ensures { Call handle.old.slot.held handle.new.slot.held result (made.new ≡ made.old) (λ old new. DupCall old new comm made.old made.new result) }
 {
-    match handle.take(alloc) {
-        Some(mut process) => {
-            let code = dup(&mut process, comm, made);
-            handle.put(process);
-            code
-        }
-        None => 16,
-    }
+    with!(handle, alloc, |process| dup(&mut process, comm, made))
 }
 
 /// This rank's position in a communicator. 11: it is no member.
@@ -107,12 +93,5 @@ pub extern "C" fn ulfm_c_position(
 ) -> u32
     ensures { Call handle.old.slot.held handle.new.slot.held result (at.new ≡ at.old) (λ old new. PositionCall old new comm at.old at.new result) }
 {
-    match handle.take(alloc) {
-        Some(process) => {
-            let code = position(&process, comm, at);
-            handle.put(process);
-            code
-        }
-        None => 16,
-    }
+    with!(handle, alloc, |process| position(&process, comm, at))
 }

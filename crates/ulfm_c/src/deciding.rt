@@ -5,7 +5,7 @@ ghost use Rattle.ulfm_c.specs.Deciding.{AgreeCall, ShrinkCall};
 
 use crate::Process;
 use crate::c_status::{CGroup, list};
-use crate::handle::Handle;
+use crate::handle::{Handle, with};
 use crate::words::{comm_of, number_of};
 use std::alloc::Global;
 
@@ -37,14 +37,11 @@ pub extern "C" fn ulfm_c_poll_shrink(
 ) -> u32
     ensures { Call handle.old.slot.held handle.new.slot.held result (made.new ≡ made.old) (λ old new. ShrinkCall old new comm made.old made.new result) }
 {
-    match handle.take(alloc) {
-        Some(mut process) => {
-            let code = poll_shrink(&mut process, comm, made);
-            handle.put(process);
-            code
-        }
-        None => 16,
-    }
+    with!(
+        handle,
+        alloc,
+        |process| poll_shrink(&mut process, comm, made)
+    )
 }
 
 /// The decision of an agreement.
@@ -77,12 +74,9 @@ pub extern "C" fn ulfm_c_poll_agree(
 ) -> u32
     ensures { Call handle.old.slot.held handle.new.slot.held result (AreKept value.old value.new missing.old missing.new) (λ old new. AgreeCall old new comm value.old value.new missing.old missing.new result) }
 {
-    match handle.take(alloc) {
-        Some(mut process) => {
-            let code = poll_agree(&mut process, comm, value, missing);
-            handle.put(process);
-            code
-        }
-        None => 16,
-    }
+    with!(
+        handle,
+        alloc,
+        |process| poll_agree(&mut process, comm, value, missing)
+    )
 }

@@ -6,6 +6,22 @@ use crate::Process;
 use crate::slot::Slot;
 use std::alloc::Global;
 
+/// The code of a call of the process that a handle holds, and holds again after it. 16: it holds none, and nothing is called.
+macro_rules! with {
+    ($handle:ident, $alloc:ident, |$process:ident| $call:expr) => {
+        match $handle.take($alloc) {
+            Some(mut $process) => {
+                let code = $call;
+                $handle.put($process);
+                code
+            }
+            None => 16,
+        }
+    };
+}
+
+pub(crate) use with;
+
 /// A process, or none: all zeros are none. Nobody copies it while it has one.
 #[repr(C)]
 pub struct Handle {

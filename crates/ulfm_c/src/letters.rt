@@ -5,7 +5,7 @@ ghost use Rattle.ulfm_c.specs.Letters.{CancelCall, ReceiveCall, SendCall, TestCa
 
 use crate::Process;
 use crate::c_status::{CStatus, ended, tell};
-use crate::handle::Handle;
+use crate::handle::{Handle, with};
 use crate::words::{comm_of, number_of, position_of, room_of, source_of, tag_of};
 use std::alloc::Global;
 use ulfm_base::{RequestId, Tag};
@@ -41,14 +41,11 @@ pub extern "C" fn ulfm_c_isend(
 ) -> u32
     ensures { Call handle.old.slot.held handle.new.slot.held result ⊤ (λ old new. SendCall old new comm dest tag body.now result) }
 {
-    match handle.take(alloc) {
-        Some(mut process) => {
-            let code = send(&mut process, comm, dest, tag, body);
-            handle.put(process);
-            code
-        }
-        None => 16,
-    }
+    with!(
+        handle,
+        alloc,
+        |process| send(&mut process, comm, dest, tag, body)
+    )
 }
 
 /// A receive from a position or any.
@@ -92,14 +89,11 @@ pub extern "C" fn ulfm_c_irecv(
 ) -> u32
     ensures { Call handle.old.slot.held handle.new.slot.held result (request.new ≡ request.old) (λ old new. ReceiveCall old new comm source tag room request.old request.new result) }
 {
-    match handle.take(alloc) {
-        Some(mut process) => {
-            let code = receive(&mut process, comm, source, tag, room, request);
-            handle.put(process);
-            code
-        }
-        None => 16,
-    }
+    with!(
+        handle,
+        alloc,
+        |process| receive(&mut process, comm, source, tag, room, request)
+    )
 }
 
 /// A test of a receive.
@@ -123,14 +117,11 @@ pub extern "C" fn ulfm_c_test(
 ) -> u32
     ensures { Call handle.old.slot.held handle.new.slot.held result (AreKept status.old status.new body.old body.new) (λ old new. TestCall old new request status.old status.new body.old body.new result) }
 {
-    match handle.take(alloc) {
-        Some(mut process) => {
-            let code = test(&mut process, request, status, body);
-            handle.put(process);
-            code
-        }
-        None => 16,
-    }
+    with!(
+        handle,
+        alloc,
+        |process| test(&mut process, request, status, body)
+    )
 }
 
 /// A cancel of a receive.
@@ -158,12 +149,9 @@ pub extern "C" fn ulfm_c_cancel(
 ) -> u32
     ensures { Call handle.old.slot.held handle.new.slot.held result (AreKept status.old status.new body.old body.new) (λ old new. CancelCall old new request status.old status.new body.old body.new result) }
 {
-    match handle.take(alloc) {
-        Some(mut process) => {
-            let code = cancel(&mut process, request, status, body);
-            handle.put(process);
-            code
-        }
-        None => 16,
-    }
+    with!(
+        handle,
+        alloc,
+        |process| cancel(&mut process, request, status, body)
+    )
 }

@@ -57,7 +57,7 @@
 //!   next
 //! - exports: `letters.rt`, `probes.rt`, `communicators.rt`, `recovery.rt`, `deciding.rt`, `progress.rt`, `steps.rt`, `worlds.rt`; `c_status.rt`,
 //!   `words.rt`: what C is told, and its types
-//! - `handle.rt`, `slot.rt`, `loose.rt`: how C holds a process
+//! - `handle.rt`, `slot.rt`, `loose.rt`: how C holds a process, and `with`, of which exports are made
 //!
 //! Not here: that a decision was proposed, or is true of what ranks did; that memory comes back when a slot ends; and the C above this
 //! (docs/LIMITS.md).

@@ -5,7 +5,7 @@ ghost use Rattle.ulfm_c.specs.Probes.{LookCall, MessageCall, ProbeCall};
 
 use crate::Process;
 use crate::c_status::{CStatus, status_of, tell};
-use crate::handle::Handle;
+use crate::handle::{Handle, with};
 use crate::words::{comm_of, number_of, source_of, tag_of};
 use std::alloc::Global;
 use ulfm_log::{MessageId, Probed};
@@ -44,14 +44,11 @@ pub extern "C" fn ulfm_c_iprobe(
 ) -> u32
     ensures { Call handle.old.slot.held handle.new.slot.held result (status.new ≡ status.old) (λ old new. LookCall old new comm source tag status.old status.new result) }
 {
-    match handle.take(alloc) {
-        Some(process) => {
-            let code = iprobe(&process, comm, source, tag, status);
-            handle.put(process);
-            code
-        }
-        None => 16,
-    }
+    with!(
+        handle,
+        alloc,
+        |process| iprobe(&process, comm, source, tag, status)
+    )
 }
 
 /// A probe that makes what it finds a message.
@@ -97,14 +94,11 @@ pub extern "C" fn ulfm_c_improbe(
 ) -> u32
     ensures { Call handle.old.slot.held handle.new.slot.held result (AreKept message.old message.new status.old status.new) (λ old new. ProbeCall old new comm source tag message.old message.new status.old status.new result) }
 {
-    match handle.take(alloc) {
-        Some(mut process) => {
-            let code = improbe(&mut process, comm, source, tag, message, status);
-            handle.put(process);
-            code
-        }
-        None => 16,
-    }
+    with!(
+        handle,
+        alloc,
+        |process| improbe(&mut process, comm, source, tag, message, status)
+    )
 }
 
 /// The receive of a message.
@@ -129,12 +123,9 @@ pub extern "C" fn ulfm_c_mrecv(
 ) -> u32
     ensures { Call handle.old.slot.held handle.new.slot.held result (AreKept status.old status.new body.old body.new) (λ old new. MessageCall old new message status.old status.new body.old body.new result) }
 {
-    match handle.take(alloc) {
-        Some(mut process) => {
-            let code = mrecv(&mut process, message, status, body);
-            handle.put(process);
-            code
-        }
-        None => 16,
-    }
+    with!(
+        handle,
+        alloc,
+        |process| mrecv(&mut process, message, status, body)
+    )
 }

@@ -6,7 +6,7 @@ ghost use Rattle.ulfm_c.specs.View.{with_rank};
 ghost use Rattle.ulfm_rank.specs.Calls.{stopping};
 
 use crate::Process;
-use crate::handle::Handle;
+use crate::handle::{Handle, with};
 use std::alloc::Global;
 
 /// A turn: 12 where the rank runs and a growth was refused.
@@ -31,14 +31,7 @@ fn turn(process: &mut Process, moved: &mut u32) -> u32
 pub extern "C" fn ulfm_c_turn(alloc: Global, handle: &mut Handle, moved: &mut u32) -> u32
     ensures { Call handle.old.slot.held handle.new.slot.held result (moved.new ≡ moved.old) (λ old new. TurnCall old new moved.old moved.new result) }
 {
-    match handle.take(alloc) {
-        Some(mut process) => {
-            let code = turn(&mut process, moved);
-            handle.put(process);
-            code
-        }
-        None => 16,
-    }
+    with!(handle, alloc, |process| turn(&mut process, moved))
 }
 
 /// Whether nothing waits to go out.
@@ -58,14 +51,7 @@ fn flushed(process: &Process, flushed: &mut u32) -> u32
 pub extern "C" fn ulfm_c_flushed(alloc: Global, handle: &mut Handle, all: &mut u32) -> u32
     ensures { Call handle.old.slot.held handle.new.slot.held result (all.new ≡ all.old) (λ old new. (new ≡ old) × (result ≡ 0) × TellsFlushed old all.new) }
 {
-    match handle.take(alloc) {
-        Some(process) => {
-            let code = flushed(&process, all);
-            handle.put(process);
-            code
-        }
-        None => 16,
-    }
+    with!(handle, alloc, |process| flushed(&process, all))
 }
 
 /// The rank's number.
@@ -81,14 +67,7 @@ fn me(process: &Process, rank: &mut u32) -> u32
 pub extern "C" fn ulfm_c_me(alloc: Global, handle: &mut Handle, rank: &mut u32) -> u32
     ensures { Call handle.old.slot.held handle.new.slot.held result (rank.new ≡ rank.old) (λ old new. (new ≡ old) × (result ≡ 0) × (rank.new ≡ old.rank.me)) }
 {
-    match handle.take(alloc) {
-        Some(process) => {
-            let code = me(&process, rank);
-            handle.put(process);
-            code
-        }
-        None => 16,
-    }
+    with!(handle, alloc, |process| me(&process, rank))
 }
 
 /// The stop.
@@ -104,12 +83,5 @@ fn stop(process: &mut Process) -> u32
 pub extern "C" fn ulfm_c_stop(alloc: Global, handle: &mut Handle) -> u32
     ensures { Call handle.old.slot.held handle.new.slot.held result ⊤ (λ old new. (result ≡ 0) × (new ≡ with_rank old (stopping old.rank))) }
 {
-    match handle.take(alloc) {
-        Some(mut process) => {
-            let code = stop(&mut process);
-            handle.put(process);
-            code
-        }
-        None => 16,
-    }
+    with!(handle, alloc, |process| stop(&mut process))
 }

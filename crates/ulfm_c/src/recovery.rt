@@ -5,7 +5,7 @@ ghost use Rattle.ulfm_c.specs.Recovery.{AckCall, EnterAgreeCall, EnterShrinkCall
 
 use crate::Process;
 use crate::c_status::{CGroup, list};
-use crate::handle::Handle;
+use crate::handle::{Handle, with};
 use crate::words::{comm_of, number_of, position_of};
 use std::alloc::Global;
 
@@ -29,14 +29,7 @@ fn revoke(process: &mut Process, comm: u32) -> u32
 pub extern "C" fn ulfm_c_revoke(alloc: Global, handle: &mut Handle, comm: u32) -> u32
     ensures { Call handle.old.slot.held handle.new.slot.held result ⊤ (λ old new. RevokeCall old new comm result) }
 {
-    match handle.take(alloc) {
-        Some(mut process) => {
-            let code = revoke(&mut process, comm);
-            handle.put(process);
-            code
-        }
-        None => 16,
-    }
+    with!(handle, alloc, |process| revoke(&mut process, comm))
 }
 
 fn enter_shrink(process: &mut Process, comm: u32) -> u32
@@ -59,14 +52,7 @@ fn enter_shrink(process: &mut Process, comm: u32) -> u32
 pub extern "C" fn ulfm_c_enter_shrink(alloc: Global, handle: &mut Handle, comm: u32) -> u32
     ensures { Call handle.old.slot.held handle.new.slot.held result ⊤ (λ old new. EnterShrinkCall old new comm result) }
 {
-    match handle.take(alloc) {
-        Some(mut process) => {
-            let code = enter_shrink(&mut process, comm);
-            handle.put(process);
-            code
-        }
-        None => 16,
-    }
+    with!(handle, alloc, |process| enter_shrink(&mut process, comm))
 }
 
 fn enter_agree(process: &mut Process, comm: u32, flag: u32) -> u32
@@ -94,14 +80,11 @@ pub extern "C" fn ulfm_c_enter_agree(
 ) -> u32
     ensures { Call handle.old.slot.held handle.new.slot.held result ⊤ (λ old new. EnterAgreeCall old new comm flag result) }
 {
-    match handle.take(alloc) {
-        Some(mut process) => {
-            let code = enter_agree(&mut process, comm, flag);
-            handle.put(process);
-            code
-        }
-        None => 16,
-    }
+    with!(
+        handle,
+        alloc,
+        |process| enter_agree(&mut process, comm, flag)
+    )
 }
 
 fn ack_failed(process: &mut Process, comm: u32, count: u32, total: &mut u32) -> u32
@@ -131,14 +114,11 @@ pub extern "C" fn ulfm_c_ack_failed(
 ) -> u32
     ensures { Call handle.old.slot.held handle.new.slot.held result (total.new ≡ total.old) (λ old new. AckCall old new comm count total.old total.new result) }
 {
-    match handle.take(alloc) {
-        Some(mut process) => {
-            let code = ack_failed(&mut process, comm, count, total);
-            handle.put(process);
-            code
-        }
-        None => 16,
-    }
+    with!(
+        handle,
+        alloc,
+        |process| ack_failed(&mut process, comm, count, total)
+    )
 }
 
 fn is_revoked(process: &Process, comm: u32, revoked: &mut u32) -> u32
@@ -167,14 +147,7 @@ pub extern "C" fn ulfm_c_is_revoked(
 ) -> u32
     ensures { Call handle.old.slot.held handle.new.slot.held result (revoked.new ≡ revoked.old) (λ old new. IsRevokedCall old new comm revoked.old revoked.new result) }
 {
-    match handle.take(alloc) {
-        Some(process) => {
-            let code = is_revoked(&process, comm, revoked);
-            handle.put(process);
-            code
-        }
-        None => 16,
-    }
+    with!(handle, alloc, |process| is_revoked(&process, comm, revoked))
 }
 
 fn get_failed(process: &Process, comm: u32, failed: &mut CGroup) -> u32
@@ -203,12 +176,5 @@ pub extern "C" fn ulfm_c_get_failed(
 ) -> u32
     ensures { Call handle.old.slot.held handle.new.slot.held result (failed.new ≡ failed.old) (λ old new. FailedCall old new comm failed.old failed.new result) }
 {
-    match handle.take(alloc) {
-        Some(process) => {
-            let code = get_failed(&process, comm, failed);
-            handle.put(process);
-            code
-        }
-        None => 16,
-    }
+    with!(handle, alloc, |process| get_failed(&process, comm, failed))
 }

@@ -3,7 +3,7 @@ ghost use Rattle.std.specs.Prelude.{◌≡◌};
 ghost use Rattle.ulfm_c.specs.Calls.{Call};
 ghost use Rattle.ulfm_c.specs.Steps.{NextCall, PushCall, TakeCall, WouldCall, number_of_outlook};
 
-use crate::handle::Handle;
+use crate::handle::{Handle, with};
 use crate::next_item::{CNextItem, next_item};
 use crate::words::{number_of, position_of};
 use crate::{Outlook, Process};
@@ -23,14 +23,7 @@ fn push(process: &mut Process, moved: &mut u32) -> u32
 pub extern "C" fn ulfm_c_push(alloc: Global, handle: &mut Handle, moved: &mut u32) -> u32
     ensures { Call handle.old.slot.held handle.new.slot.held result (moved.new ≡ moved.old) (λ old new. PushCall old new moved.new result) }
 {
-    match handle.take(alloc) {
-        Some(mut process) => {
-            let code = push(&mut process, moved);
-            handle.put(process);
-            code
-        }
-        None => 16,
-    }
+    with!(handle, alloc, |process| push(&mut process, moved))
 }
 
 /// Takes the first item that came from a rank.
@@ -56,14 +49,7 @@ pub extern "C" fn ulfm_c_take(
 ) -> u32
     ensures { Call handle.old.slot.held handle.new.slot.held result (took.new ≡ took.old) (λ old new. TakeCall old new source took.old took.new result) }
 {
-    match handle.take(alloc) {
-        Some(mut process) => {
-            let code = take(&mut process, source, took);
-            handle.put(process);
-            code
-        }
-        None => 16,
-    }
+    with!(handle, alloc, |process| take(&mut process, source, took))
 }
 
 /// What stands first in the ring from a rank.
@@ -89,14 +75,7 @@ pub extern "C" fn ulfm_c_next(
 ) -> u32
     ensures { Call handle.old.slot.held handle.new.slot.held result (item.new ≡ item.old) (λ old new. NextCall old new source item.old item.new result) }
 {
-    match handle.take(alloc) {
-        Some(mut process) => {
-            let code = next(&mut process, source, item);
-            handle.put(process);
-            code
-        }
-        None => 16,
-    }
+    with!(handle, alloc, |process| next(&mut process, source, item))
 }
 
 /// The code of what a test would come to.
@@ -131,12 +110,5 @@ pub extern "C" fn ulfm_c_would(
 ) -> u32
     ensures { Call handle.old.slot.held handle.new.slot.held result (code.new ≡ code.old) (λ old new. WouldCall old new request code.new result) }
 {
-    match handle.take(alloc) {
-        Some(mut process) => {
-            let answer = would(&mut process, request, code);
-            handle.put(process);
-            answer
-        }
-        None => 16,
-    }
+    with!(handle, alloc, |process| would(&mut process, request, code))
 }
