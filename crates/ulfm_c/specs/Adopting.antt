@@ -42,8 +42,9 @@ pub record FailsAtOnce (old new : ProcessView) (topic : Topic) (e : CallError) :
   pub fails : Fails (proposal_checks old.rank topic) e
   pub only : new ≡ old
 
--- the board found no memory, and nothing changes
+-- a proposal may be asked for, but the board found no memory, and nothing changes
 pub record FindsNoMemory (old new : ProcessView) (topic : Topic) (e : CallError) : Type 0 where
+  pub accepted : Passes (proposal_checks old.rank topic)
   pub proposal : Decision
   pub proposed : Proposes old topic proposal
   pub starves : Starves old.board old.known proposal.topic

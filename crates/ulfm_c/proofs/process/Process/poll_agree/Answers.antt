@@ -14,6 +14,7 @@ returns-in_err-proposal-clause-refused c =
 pub returns-in-Err-clause-refused : goal.returns-in-Err-clause-refused
 returns-in-Err-clause-refused c =
     rw (sym c.self.view_is) (inr (inl (record {
+      accepted = c.in_ok-proposal.ensures.accepted;
       proposal = c.in-Some.proposal;
       proposed = rw c.in-Some.is at c.in_ok-proposal.ensures.verdict;
       starves = c.in-Err.ensures.starves;

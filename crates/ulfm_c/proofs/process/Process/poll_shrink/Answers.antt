@@ -8,6 +8,7 @@ use Rattle.ulfm_c.proofs.process.Process.poll_shrink.Goals as goal
 pub returns-in-Err-clause-refused : goal.returns-in-Err-clause-refused
 returns-in-Err-clause-refused c =
     rw (sym c.self.view_is) (inr (inl (record {
+      accepted = c.in_ok-proposal.ensures.accepted;
       proposal = c.in-Some.proposal;
       proposed = rw c.in-Some.is at c.in_ok-proposal.ensures.proposal;
       starves = c.in-Err.ensures.starves;
