@@ -122,7 +122,7 @@ uint32_t ulfm_stop(ulfm_slot *slot);
 
 /* Takes one item that came, if there is one, and pushes what waits to go out, to each rank as far as its ring has places. Ranks are looked
    at upwards and round, from the one after the last of which one was taken, first of all from rank 0. *moved: 1 where anything moved, else 0: then
-   this rank has nothing to do until another one moves. 16, 12 (of a running rank). */
+   this rank has nothing to do until another one moves, and the next turn, if it is the next call, doesn't answer 12. 16, 12 (of a running rank). */
 uint32_t ulfm_turn(ulfm_slot *slot, uint32_t *moved);
 
 /* *flushed: 1 where nothing waits to go out, to any rank, those that have stopped among them; of a rank that stopped, where its notices went out.

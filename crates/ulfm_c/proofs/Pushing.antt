@@ -3,7 +3,7 @@ use Rattle.std.proofs.Common.{◌≡◌, ◌≢◌, ◌↔◌, ℕ, ◌<◌, ◌
 use Rattle.std.proofs.lemmas.Bool.{cases_lt, false≢true}
 use Rattle.std.proofs.lemmas.List.Sums.{sum_by-append, sum_by-cons}
 use Rattle.ulfm_base.specs.declared.item.Item.{Item}
-use Rattle.ulfm_log.specs.State.{GoesOut, State, mark_at, marked, no_mark, outbox}
+use Rattle.ulfm_log.specs.State.{GoesOut, RankView, State, is_ready, mark_at, marked, no_mark, outbox}
 use Rattle.ulfm_c.specs.Turning.{GoesOn, GoOut, IsSameProcess, TakesNone}
 use Rattle.ulfm_c.specs.View.{ProcessView}
 use Rattle.ulfm_c.specs.inside.Pushing.{PushesOne}
@@ -25,6 +25,10 @@ go-ranks (d ∷ ds) a b h = go-ranks ds h.0 b h.4 ∙ ap (λ (r : State). r.rank
 -- what waits for another rank than that to which an item goes out
 pub box-apart : (old new : State) (d x : ℕ) (item : Item) → GoesOut old new d item → x ≢ d → outbox new x ≡ outbox old x
 box-apart old new d x item k other = rw k.marked (rw (get_or-set_other old.marks d x (marked old (mark_at old d)) no_mark other) refl)
+
+-- a rank with the room of another is as ready
+pub same-room : (v w : RankView) → w.prepared ≡ v.prepared → w.has_place ≡ v.has_place → is_ready w ≡ is_ready v
+same-room v w prepared place = rw (prepared, place) refl
 
 -- nothing goes out
 pub goes-none : (a : ProcessView) → GoesOn a a false

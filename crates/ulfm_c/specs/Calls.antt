@@ -3,7 +3,7 @@ use Rattle.std.specs.Prelude.{◌≡◌, ◌≢◌, ℕ, ◌≤◌, ◌⊎◌, �
 use Rattle.ulfm_base.specs.declared.error.CallError.{CallError}
 use Rattle.ulfm_base.specs.declared.error.CallError.TheVariants.{NoComm, BadRank, BadTag, TooLong, ProcFailed, Revoked, NoRequest, AlreadyMade, NoContext, Stopped, NotMember, OutOfMemory, BadSize, NotEntered, Truncated}
 use Rattle.ulfm_base.specs.declared.tag.Tag.{Tag}
-use Rattle.ulfm_c.specs.View.{ProcessView}
+use Rattle.ulfm_c.specs.View.{ProcessView, ReadyView}
 use Rattle.ulfm_rank.specs.Checks.{Check, FailsOrStarves, Passes}
 use Rattle.ulfm_log.specs.declared.entry.Comm.{Comm}
 
@@ -34,11 +34,16 @@ number_of Truncated = 15
 abbrev pub AreKept : {X Y : Type 0} → X → X → Y → Y → Type 0
 AreKept old new other_old other_new = (new ≡ old) × (other_new ≡ other_old)
 
--- Without a process the code is 16, none comes, and what is written to is kept. Else there is one before and after, and this holds of both.
-abbrev pub Call : Option ProcessView → Option ProcessView → ℕ → Type 0 → (ProcessView → ProcessView → Type 0) → Type 0
-Call None None code kept does = (code ≡ 16) × kept
-Call (Some old) (Some new) code kept does = does old new
-Call _ _ code kept does = ⊥
+-- Without a process the code is 16, none comes, and what is written to is kept. Else there is one before and after, and this holds of both and of
+-- their room.
+abbrev pub RoomCall : Option ReadyView → Option ReadyView → ℕ → Type 0 → (ReadyView → ReadyView → Type 0) → Type 0
+RoomCall None None code kept does = (code ≡ 16) × kept
+RoomCall (Some old) (Some new) code kept does = does old new
+RoomCall _ _ code kept does = ⊥
+
+-- a call of which this holds, whatever the room is
+abbrev pub Call : Option ReadyView → Option ReadyView → ℕ → Type 0 → (ProcessView → ProcessView → Type 0) → Type 0
+Call old new code kept does = RoomCall old new code kept (λ o n. does o.view n.view)
 
 -- The code is that of a refusal, for this cause. Nothing changes, and what is written to is kept.
 abbrev pub Refused : ProcessView → ProcessView → ℕ → Type 0 → (CallError → Type 0) → Type 0

@@ -1,7 +1,7 @@
 -- What a turn by C does, and what is told of what goes out.
 use Rattle.std.specs.Prelude.{◌≡◌, ℕ, ◌<◌, ◌⊎◌, [], Bool, true, false}
-use Rattle.ulfm_c.specs.Turning.{IsTurn}
-use Rattle.ulfm_c.specs.View.{ProcessView}
+use Rattle.ulfm_c.specs.Turning.{IsTurn, LeavesRoom}
+use Rattle.ulfm_c.specs.View.{ProcessView, ReadyView}
 use Rattle.ulfm_log.specs.Facts.{is_stopped}
 use Rattle.ulfm_log.specs.State.{outbox}
 
@@ -9,11 +9,12 @@ use Rattle.ulfm_log.specs.State.{outbox}
 abbrev pub TellsWhether : ℕ → (Bool → Type 0) → Type 0
 TellsWhether told is = ((told ≡ 1) × is true) ⊎ ((told ≡ 0) × is false)
 
--- with 0 the process had a turn, and it is told by 1 or 0 whether anything moved; with 12 the rank runs, and nothing changed
-abbrev pub TurnCall : ProcessView → ProcessView → ℕ → ℕ → ℕ → Type 0
+-- With 0 the process had a turn, and it is told by 1 or 0 whether anything moved: where nothing did, the next turn has room. With 12 the rank
+-- runs and had none, and nothing changed.
+abbrev pub TurnCall : ReadyView → ReadyView → ℕ → ℕ → ℕ → Type 0
 TurnCall old new before moved code =
-    ((code ≡ 0) × TellsWhether moved (IsTurn old new))
-    ⊎ ((code ≡ 12) × (is_stopped old.rank.log ≡ false) × (new ≡ old) × (moved ≡ before))
+    ((code ≡ 0) × TellsWhether moved (IsTurn old.view new.view) × (moved ≡ 0 → LeavesRoom old new))
+    ⊎ ((code ≡ 12) × (is_stopped old.view.rank.log ≡ false) × (old.ready ≡ false) × (new.view ≡ old.view) × (moved ≡ before))
 
 -- nothing waits to go out
 abbrev pub IsFlushed : ProcessView → Type 0

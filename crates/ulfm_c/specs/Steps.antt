@@ -11,17 +11,19 @@ use Rattle.ulfm_carrier.specs.declared.head.Head.{Head}
 use Rattle.ulfm_c.specs.Ahead.{IsOutlook, LooksAt}
 use Rattle.ulfm_c.specs.declared.outlook.Outlook.{Outlook}
 use Rattle.ulfm_c.specs.declared.outlook.Outlook.TheVariants.{Over, NotYet, Pending}
-use Rattle.ulfm_c.specs.Turning.{IsTakeRefusal, Pushes, TakesFrom}
-use Rattle.ulfm_c.specs.View.{ProcessView}
+use Rattle.ulfm_c.specs.Turning.{IsTakeRefusal, LeavesRoom, Pushes, TakesFrom}
+use Rattle.ulfm_c.specs.View.{ProcessView, ReadyView}
 use Rattle.ulfm_rank.specs.Checks.{IsTestRefusal}
 
 -- what waits is pushed, and it is told whether anything went
 abbrev pub PushCall : ProcessView → ProcessView → ℕ → ℕ → Type 0
 PushCall old new moved code = (code ≡ 0) × TellsWhether moved (Pushes old new)
 
--- an item of a rank, past 255 as 255, is taken, and it is told whether there was one; or it is refused
-abbrev pub TakeCall : ProcessView → ProcessView → ℕ → ℕ → ℕ → ℕ → Type 0
-TakeCall old new source before took code = Answers old new code (took ≡ before) (TellsWhether took (TakesFrom old new (min source 255))) (IsTakeRefusal old (min source 255))
+-- an item of a rank, past 255 as 255, is taken, and it is told whether there was one: where there was none, the next take has room; or it is refused
+abbrev pub TakeCall : ReadyView → ReadyView → ℕ → ℕ → ℕ → ℕ → Type 0
+TakeCall old new source before took code =
+    Answers old.view new.view code (took ≡ before) (TellsWhether took (TakesFrom old.view new.view (min source 255)) × (took ≡ 0 → LeavesRoom old new))
+    (IsTakeRefusal old (min source 255))
 
 -- there is no such rank
 abbrev pub IsNoRank : ProcessView → ℕ → CallError → Type 0

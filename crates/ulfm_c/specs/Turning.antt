@@ -11,7 +11,7 @@ use Rattle.ulfm_carrier.specs.Lanes.{IsFoundInTurn, heads_from, known_room, lane
 use Rattle.ulfm_log.specs.declared.entry.Entry.TheVariants.{Took}
 use Rattle.ulfm_log.specs.Facts.{is_stopped}
 use Rattle.ulfm_log.specs.State.{State, GoesOut, logged, outbox}
-use Rattle.ulfm_c.specs.View.{ProcessView}
+use Rattle.ulfm_c.specs.View.{ProcessView, ReadyView}
 
 -- nothing can go out to the rank d: nothing waits for it, or the end knows of no free place in the ring to it
 abbrev pub IsStuck : ProcessView → ℕ → Type 0
@@ -62,11 +62,15 @@ pub record TakesFrom (old new : ProcessView) (s : ℕ) (took : Bool) : Type 0 wh
   pub others_seen : (p : ℕ) → p ≢ s → seen_from new.end p ≡ seen_from old.end p
   pub same_turn : new.end.next ≡ old.end.next
 
--- why an item of the rank s can't be taken: there is no such rank, or a growth was refused of a rank that runs
-abbrev pub IsTakeRefusal : ProcessView → ℕ → CallError → Type 0
-IsTakeRefusal old s BadRank = old.rank.ranks ≤ s
-IsTakeRefusal old s OutOfMemory = (s < old.rank.ranks) × (is_stopped old.rank.log ≡ false)
+-- why an item of the rank s can't be taken: there is no such rank, or a growth was refused of a rank that runs and had no room
+abbrev pub IsTakeRefusal : ReadyView → ℕ → CallError → Type 0
+IsTakeRefusal old s BadRank = old.view.rank.ranks ≤ s
+IsTakeRefusal old s OutOfMemory = (s < old.view.rank.ranks) × (is_stopped old.view.rank.log ≡ false) × (old.ready ≡ false)
 IsTakeRefusal old s _ = ⊥
+
+-- the next take can't run out of memory: the rank had stopped, or it has room
+abbrev pub LeavesRoom : ReadyView → ReadyView → Type 0
+LeavesRoom old new = (is_stopped old.view.rank.log ≡ true) ⊎ (new.ready ≡ true)
 
 -- what stands in the rings to the process stays there, its turn too, and it is the same end and the same seat
 pub record TakesNone (old new : ProcessView) : Type 0 where

@@ -1,5 +1,5 @@
 -- What contracts see of a process.
-use Rattle.std.specs.Prelude.{ℕ, List, Option, vec_len}
+use Rattle.std.specs.Prelude.{ℕ, Bool, List, Option, vec_len}
 use Rattle.ulfm_base.specs.declared.decision.Decision.{Decision}
 use Rattle.ulfm_carrier.specs.declared.lane_ends.LaneEnds.{LaneEnds}
 use Rattle.ulfm_carrier.specs.Lanes.{IsReady, lane_pushed, lane_taken}
@@ -12,6 +12,11 @@ pub record ProcessView : Type 0 where
   pub end : LaneEnds
   pub board : Option (List ℕ)
   pub known : List (Option Decision)
+
+-- A process, and whether its rank has room for one item or one call, of which 'unchanged' doesn't speak.
+pub record ReadyView : Type 0 where
+  pub view : ProcessView
+  pub ready : Bool
 
 -- The end pushed what left the outboxes of the rank, and took what the rank took.
 abbrev pub IsAtEnd : State → LaneEnds → Type 0

@@ -2,10 +2,10 @@
 use Rattle.std.specs.Prelude.{◌≡◌, ℕ, ◌<◌, ◌⊎◌, List, Option, Some, length, map}
 use Rattle.ulfm_c.specs.declared.handle.Handle.{Handle}
 use Rattle.ulfm_c.specs.Making.{IsWorld}
-use Rattle.ulfm_c.specs.View.{ProcessView}
+use Rattle.ulfm_c.specs.View.{ReadyView}
 
 -- the process of a handle, if it has one
-abbrev pub process_in : Handle → Option ProcessView
+abbrev pub process_in : Handle → Option ReadyView
 process_in h = h.slot.held
 
 -- no world has so many ranks, or so many places in its rings
@@ -17,4 +17,4 @@ abbrev pub WorldCall : List Handle → List Handle → ℕ → ℕ → ℕ → T
 WorldCall old new capacity rounds code =
     ((code ≡ 13) × IsBadSize (length old) capacity × (new ≡ old))
     ⊎ ((IsBadSize (length old) capacity → ⊥)
-    × (((code ≡ 0) × (all : List ProcessView) × IsWorld (length old) capacity rounds all × (map process_in new ≡ map Some all)) ⊎ ((code ≡ 12) × (new ≡ old))))
+    × (((code ≡ 0) × (all : List ReadyView) × IsWorld (length old) capacity rounds all × (map process_in new ≡ map Some all)) ⊎ ((code ≡ 12) × (new ≡ old))))

@@ -10,7 +10,7 @@ use crate::words::{comm_of, number_of};
 use std::alloc::Global;
 
 fn group_of(process: &Process, comm: u32, group: &mut CGroup) -> u32
-    ensures { GroupCall process.now process.now comm group.old group.new result }
+    ensures { GroupCall process.now.view process.now.view comm group.old group.new result }
 {
     let comm = match comm_of(comm) {
         Some(comm) => comm,
@@ -39,7 +39,7 @@ pub extern "C" fn ulfm_c_group_of(
 }
 
 fn dup(process: &mut Process, comm: u32, made: &mut u32) -> u32
-    ensures { DupCall process.old process.new comm made.old made.new result }
+    ensures { DupCall process.old.view process.new.view comm made.old made.new result }
 {
     let comm = match comm_of(comm) {
         Some(comm) => comm,
@@ -64,7 +64,7 @@ pub extern "C" fn ulfm_c_dup(alloc: Global, handle: &mut Handle, comm: u32, made
 
 /// This rank's position in a communicator. 11: it is no member.
 fn position(process: &Process, comm: u32, position: &mut u32) -> u32
-    ensures { PositionCall process.now process.now comm position.old position.new result }
+    ensures { PositionCall process.now.view process.now.view comm position.old position.new result }
 {
     let comm = match comm_of(comm) {
         Some(comm) => comm,

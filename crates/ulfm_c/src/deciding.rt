@@ -11,7 +11,7 @@ use std::alloc::Global;
 
 /// The decision of a shrink.
 fn poll_shrink(process: &mut Process, comm: u32, made: &mut u32) -> u32
-    ensures { ShrinkCall process.old process.new comm made.old made.new result }
+    ensures { ShrinkCall process.old.view process.new.view comm made.old made.new result }
 {
     let comm = match comm_of(comm) {
         Some(comm) => comm,
@@ -46,7 +46,7 @@ pub extern "C" fn ulfm_c_poll_shrink(
 
 /// The decision of an agreement.
 fn poll_agree(process: &mut Process, comm: u32, value: &mut u32, missing: &mut CGroup) -> u32
-    ensures { AgreeCall process.old process.new comm value.old value.new missing.old missing.new result }
+    ensures { AgreeCall process.old.view process.new.view comm value.old value.new missing.old missing.new result }
 {
     let comm = match comm_of(comm) {
         Some(comm) => comm,

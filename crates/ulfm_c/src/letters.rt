@@ -13,7 +13,7 @@ use ulfm_log::Cancel;
 
 /// A send to the member at a position.
 fn send(process: &mut Process, comm: u32, dest: u32, tag: u32, body: &[u8]) -> u32
-    ensures { SendCall process.old process.new comm dest tag body.now result }
+    ensures { SendCall process.old.view process.new.view comm dest tag body.now result }
 {
     let comm = match comm_of(comm) {
         Some(comm) => comm,
@@ -57,7 +57,7 @@ fn receive(
     room: u32,
     request: &mut u64,
 ) -> u32
-    ensures { ReceiveCall process.old process.new comm source tag room request.old request.new result }
+    ensures { ReceiveCall process.old.view process.new.view comm source tag room request.old request.new result }
 {
     let comm = match comm_of(comm) {
         Some(comm) => comm,
@@ -98,7 +98,7 @@ pub extern "C" fn ulfm_c_irecv(
 
 /// A test of a receive.
 fn test(process: &mut Process, request: u64, status: &mut CStatus, body: &mut [u8]) -> u32
-    ensures { TestCall process.old process.new request status.old status.new body.old body.new result }
+    ensures { TestCall process.old.view process.new.view request status.old status.new body.old body.new result }
 {
     match process.test(RequestId { number: request }) {
         Ok(answer) => return tell(answer, status, body),
@@ -126,7 +126,7 @@ pub extern "C" fn ulfm_c_test(
 
 /// A cancel of a receive.
 fn cancel(process: &mut Process, request: u64, status: &mut CStatus, body: &mut [u8]) -> u32
-    ensures { CancelCall process.old process.new request status.old status.new body.old body.new result }
+    ensures { CancelCall process.old.view process.new.view request status.old status.new body.old body.new result }
 {
     match process.cancel(RequestId { number: request }) {
         Ok(Cancel::Completed(answer)) => return tell(answer, status, body),

@@ -8,8 +8,8 @@
 //!     while let TestAnswer::NotYet = process.test(request)? { process.turn()?; }
 //!
 //! No call waits. `turn` moves what came in and what goes out. A caller that chooses what moves when calls its halves, `push` and `take_from`, and
-//! asks before what comes: `next_from`, `would`. Contracts see a process as its rank's state, its end, and what its seat knows (`ProcessView`,
-//! View.antt).
+//! asks before what comes: `next_from`, `would`. Contracts see a process as its rank's state, its end, and what its seat knows (`ProcessView`), and
+//! whether its rank has room for one item or one call (`ReadyView`, View.antt).
 //!
 //! Promises of a [`Process`]:
 //!
@@ -20,8 +20,8 @@
 //!   its end took of that one, whatever is called (`IsAtEnd`, View.antt).
 //! - `turn`: it takes at most one item, of the first rank in turn of which one is seen, and then lets go out what it knows places for. No known
 //!   place is lost but to what went out. If nothing moved, nothing is seen in any ring, all that the rank had pushed to itself was taken, or the
-//!   rank has stopped; and nothing waits that its end knows a place for. Out of memory is answered of a running rank alone (`IsTurn`, `Takes`,
-//!   `Pushes`, Turning.antt).
+//!   rank has stopped; and nothing waits that its end knows a place for. Out of memory is answered of a running rank without room alone, and after a
+//!   turn in which nothing moved the next one has room (`IsTurn`, `Takes`, `Pushes`, `LeavesRoom`, Turning.antt).
 //! - `push`, `take_from`: each half of it is a call too, the push of a turn, and a take of one rank that the caller names, of the first item that is
 //!   seen in the ring from it. Such a take leaves where the next turn begins, and what is seen in the other rings (`Pushes`, `TakesFrom`,
 //!   `IsTakeRefusal`, Turning.antt).

@@ -12,7 +12,7 @@ use ulfm_log::{MessageId, Probed};
 
 /// A probe that changes nothing.
 fn iprobe(process: &Process, comm: u32, source: u32, tag: u32, status: &mut CStatus) -> u32
-    ensures { LookCall process.now process.now comm source tag status.old status.new result }
+    ensures { LookCall process.now.view process.now.view comm source tag status.old status.new result }
 {
     let comm = match comm_of(comm) {
         Some(comm) => comm,
@@ -60,7 +60,7 @@ fn improbe(
     message: &mut u64,
     status: &mut CStatus,
 ) -> u32
-    ensures { ProbeCall process.old process.new comm source tag message.old message.new status.old status.new result }
+    ensures { ProbeCall process.old.view process.new.view comm source tag message.old message.new status.old status.new result }
 {
     let comm = match comm_of(comm) {
         Some(comm) => comm,
@@ -103,7 +103,7 @@ pub extern "C" fn ulfm_c_improbe(
 
 /// The receive of a message.
 fn mrecv(process: &mut Process, message: u64, status: &mut CStatus, body: &mut [u8]) -> u32
-    ensures { MessageCall process.old process.new message status.old status.new body.old body.new result }
+    ensures { MessageCall process.old.view process.new.view message status.old status.new body.old body.new result }
 {
     let room = body.len().min(65535) as u16;
     match process.mrecv(MessageId { number: message }, room) {

@@ -33,11 +33,15 @@ pub struct Process {
 
 impl Model for Process {
     ghost use Rattle.ulfm_board.specs.Known.{};
-    ghost use Rattle.ulfm_c.specs.View.{ProcessView, IsAtEnd};
+    ghost use Rattle.ulfm_c.specs.View.{ReadyView, IsAtEnd};
+    ghost use Rattle.ulfm_log.specs.State.{is_ready};
 
-    ghost Value = { ProcessView };
+    ghost Value = { ReadyView };
 
-    ghost view = { λ p. record { rank = p.rank.state; end = p.end; board = ⟦<Seat as Decider>⟧.board p.seat; known = ⟦<Seat as Decider>⟧.known p.seat } };
+    ghost view = { λ p. record {
+      view = record { rank = p.rank.state; end = p.end; board = ⟦<Seat as Decider>⟧.board p.seat; known = ⟦<Seat as Decider>⟧.known p.seat };
+      ready = is_ready p.rank;
+    } };
 
     ghost invariant = { λ p. IsAtEnd p.rank.state p.end };
 }
@@ -51,9 +55,9 @@ impl Process {
         ranks: u8,
     ) -> Result<Process, CallError>
         requires fresh { IsFresh (λ (e : Lanes). vec_len e.outs) lane_pushed lane_taken IsReady ranks end }
-        ensures started { IfOk result (λ process. process.rank ≡ start_state_with false end.me.number ranks) }
-        ensures end { IfOk result (λ process. process.end ≡ end) }
-        ensures seat { IfOk result (λ process. (process.board ≡ ⟦<Seat as Decider>⟧.board seat) × (process.known ≡ ⟦<Seat as Decider>⟧.known seat)) }
+        ensures started { IfOk result (λ process. process.view.rank ≡ start_state_with false end.me.number ranks) }
+        ensures end { IfOk result (λ process. process.view.end ≡ end) }
+        ensures seat { IfOk result (λ process. (process.view.board ≡ ⟦<Seat as Decider>⟧.board seat) × (process.view.known ≡ ⟦<Seat as Decider>⟧.known seat)) }
         ensures refused { IfErr result (λ error. error ≡ CallError.OutOfMemory) }
     {
         let me = end.me().number;
@@ -65,30 +69,30 @@ impl Process {
 
     /// Its number in the world, 0 to `ranks - 1`.
     pub fn me(&self) -> WorldRank
-        ensures number { result.number ≡ self.now.rank.me }
-        ensures at_end { IsAtEnd self.now.rank self.now.end }
+        ensures number { result.number ≡ self.now.view.rank.me }
+        ensures at_end { IsAtEnd self.now.view.rank self.now.view.end }
     {
         self.rank.me()
     }
 
     /// How many ranks the world has, 1 to 8.
     pub fn ranks(&self) -> u8
-        ensures { result ≡ self.now.rank.ranks }
+        ensures { result ≡ self.now.view.rank.ranks }
     {
         self.rank.ranks()
     }
 
     /// Whether it stopped.
     pub fn is_stopped(&self) -> bool
-        ensures { result ≡ is_stopped self.now.rank.log }
+        ensures { result ≡ is_stopped self.now.view.rank.log }
     {
         self.rank.is_stopped()
     }
 
     /// The rank of a number, if the world has it.
     fn peer(&self, number: u8) -> Result<WorldRank, CallError>
-        ensures there { IfOk result (λ peer. (peer.number ≡ number) × (number < self.now.rank.ranks)) }
-        ensures refused { IfErr result (λ error. (error ≡ CallError.BadRank) × (self.now.rank.ranks ≤ number)) }
+        ensures there { IfOk result (λ peer. (peer.number ≡ number) × (number < self.now.view.rank.ranks)) }
+        ensures refused { IfErr result (λ error. (error ≡ CallError.BadRank) × (self.now.view.rank.ranks ≤ number)) }
     {
         if number >= self.rank.ranks() {
             return Err(CallError::BadRank);

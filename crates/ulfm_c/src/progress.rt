@@ -1,6 +1,6 @@
 //! What comes in and goes out, and the rank itself.
 ghost use Rattle.std.specs.Prelude.{◌≡◌, ⊤};
-ghost use Rattle.ulfm_c.specs.Calls.{Call};
+ghost use Rattle.ulfm_c.specs.Calls.{Call, RoomCall};
 ghost use Rattle.ulfm_c.specs.Progress.{TellsFlushed, TurnCall};
 ghost use Rattle.ulfm_c.specs.View.{with_rank};
 ghost use Rattle.ulfm_rank.specs.Calls.{stopping};
@@ -9,7 +9,7 @@ use crate::Process;
 use crate::handle::{Handle, with};
 use std::alloc::Global;
 
-/// A turn: 12 where the rank runs and a growth was refused.
+/// A turn: 12 where the rank runs, had no room and a growth was refused.
 fn turn(process: &mut Process, moved: &mut u32) -> u32
     ensures { TurnCall process.old process.new moved.old moved.new result }
 {
@@ -29,14 +29,14 @@ fn turn(process: &mut Process, moved: &mut u32) -> u32
 /// A turn (`Process::turn`).
 #[unsafe(no_mangle)]
 pub extern "C" fn ulfm_c_turn(alloc: Global, handle: &mut Handle, moved: &mut u32) -> u32
-    ensures { Call handle.old.slot.held handle.new.slot.held result (moved.new ≡ moved.old) (λ old new. TurnCall old new moved.old moved.new result) }
+    ensures { RoomCall handle.old.slot.held handle.new.slot.held result (moved.new ≡ moved.old) (λ old new. TurnCall old new moved.old moved.new result) }
 {
     with!(handle, alloc, |process| turn(&mut process, moved))
 }
 
 /// Whether nothing waits to go out.
 fn flushed(process: &Process, flushed: &mut u32) -> u32
-    ensures { (result ≡ 0) × TellsFlushed process.now flushed.new }
+    ensures { (result ≡ 0) × TellsFlushed process.now.view flushed.new }
 {
     if process.has_pushed_all() {
         *flushed = 1;
@@ -56,7 +56,7 @@ pub extern "C" fn ulfm_c_flushed(alloc: Global, handle: &mut Handle, all: &mut u
 
 /// The rank's number.
 fn me(process: &Process, rank: &mut u32) -> u32
-    ensures { (result ≡ 0) × (rank.new ≡ process.now.rank.me) }
+    ensures { (result ≡ 0) × (rank.new ≡ process.now.view.rank.me) }
 {
     *rank = process.me().number as u32;
     0
@@ -72,7 +72,7 @@ pub extern "C" fn ulfm_c_me(alloc: Global, handle: &mut Handle, rank: &mut u32) 
 
 /// The stop.
 fn stop(process: &mut Process) -> u32
-    ensures { (result ≡ 0) × (process.new ≡ with_rank process.old (stopping process.old.rank)) }
+    ensures { (result ≡ 0) × (process.new.view ≡ with_rank process.old.view (stopping process.old.view.rank)) }
 {
     process.stop();
     0

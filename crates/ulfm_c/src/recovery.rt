@@ -10,7 +10,7 @@ use crate::words::{comm_of, number_of, position_of};
 use std::alloc::Global;
 
 fn revoke(process: &mut Process, comm: u32) -> u32
-    ensures { RevokeCall process.old process.new comm result }
+    ensures { RevokeCall process.old.view process.new.view comm result }
 {
     let comm = match comm_of(comm) {
         Some(comm) => comm,
@@ -33,7 +33,7 @@ pub extern "C" fn ulfm_c_revoke(alloc: Global, handle: &mut Handle, comm: u32) -
 }
 
 fn enter_shrink(process: &mut Process, comm: u32) -> u32
-    ensures { EnterShrinkCall process.old process.new comm result }
+    ensures { EnterShrinkCall process.old.view process.new.view comm result }
 {
     let comm = match comm_of(comm) {
         Some(comm) => comm,
@@ -56,7 +56,7 @@ pub extern "C" fn ulfm_c_enter_shrink(alloc: Global, handle: &mut Handle, comm: 
 }
 
 fn enter_agree(process: &mut Process, comm: u32, flag: u32) -> u32
-    ensures { EnterAgreeCall process.old process.new comm flag result }
+    ensures { EnterAgreeCall process.old.view process.new.view comm flag result }
 {
     let comm = match comm_of(comm) {
         Some(comm) => comm,
@@ -88,7 +88,7 @@ pub extern "C" fn ulfm_c_enter_agree(
 }
 
 fn ack_failed(process: &mut Process, comm: u32, count: u32, total: &mut u32) -> u32
-    ensures { AckCall process.old process.new comm count total.old total.new result }
+    ensures { AckCall process.old.view process.new.view comm count total.old total.new result }
 {
     let comm = match comm_of(comm) {
         Some(comm) => comm,
@@ -122,7 +122,7 @@ pub extern "C" fn ulfm_c_ack_failed(
 }
 
 fn is_revoked(process: &Process, comm: u32, revoked: &mut u32) -> u32
-    ensures { IsRevokedCall process.now process.now comm revoked.old revoked.new result }
+    ensures { IsRevokedCall process.now.view process.now.view comm revoked.old revoked.new result }
 {
     let comm = match comm_of(comm) {
         Some(comm) => comm,
@@ -151,7 +151,7 @@ pub extern "C" fn ulfm_c_is_revoked(
 }
 
 fn get_failed(process: &Process, comm: u32, failed: &mut CGroup) -> u32
-    ensures { FailedCall process.now process.now comm failed.old failed.new result }
+    ensures { FailedCall process.now.view process.now.view comm failed.old failed.new result }
 {
     let comm = match comm_of(comm) {
         Some(comm) => comm,

@@ -1,6 +1,6 @@
 //! What moves one step at a time, and what would come.
 ghost use Rattle.std.specs.Prelude.{◌≡◌};
-ghost use Rattle.ulfm_c.specs.Calls.{Call};
+ghost use Rattle.ulfm_c.specs.Calls.{Call, RoomCall};
 ghost use Rattle.ulfm_c.specs.Steps.{NextCall, PushCall, TakeCall, WouldCall, number_of_outlook};
 
 use crate::handle::{Handle, with};
@@ -12,7 +12,7 @@ use ulfm_base::RequestId;
 
 /// Pushes what waits to go out.
 fn push(process: &mut Process, moved: &mut u32) -> u32
-    ensures { PushCall process.old process.new moved.new result }
+    ensures { PushCall process.old.view process.new.view moved.new result }
 {
     *moved = if process.push() { 1 } else { 0 };
     0
@@ -47,14 +47,14 @@ pub extern "C" fn ulfm_c_take(
     source: u32,
     took: &mut u32,
 ) -> u32
-    ensures { Call handle.old.slot.held handle.new.slot.held result (took.new ≡ took.old) (λ old new. TakeCall old new source took.old took.new result) }
+    ensures { RoomCall handle.old.slot.held handle.new.slot.held result (took.new ≡ took.old) (λ old new. TakeCall old new source took.old took.new result) }
 {
     with!(handle, alloc, |process| take(&mut process, source, took))
 }
 
 /// What stands first in the ring from a rank.
 fn next(process: &mut Process, source: u32, item: &mut CNextItem) -> u32
-    ensures { NextCall process.old process.new source item.old item.new result }
+    ensures { NextCall process.old.view process.new.view source item.old item.new result }
 {
     match process.next_from(position_of(source)) {
         Ok(head) => {
@@ -91,7 +91,7 @@ fn number_of_outlook(outlook: Outlook) -> u32
 
 /// The code that a test of a request would answer.
 fn would(process: &mut Process, request: u64, code: &mut u32) -> u32
-    ensures { WouldCall process.old process.new request code.new result }
+    ensures { WouldCall process.old.view process.new.view request code.new result }
 {
     *code = match process.would(RequestId { number: request }) {
         Ok(outlook) => number_of_outlook(outlook),

@@ -18,8 +18,8 @@ impl Process {
     ///
     /// `NoComm` where the communicator wasn't made.
     pub fn group(&self, comm: Comm) -> Result<Group, CallError>
-        ensures group { IfOk result (λ group. group_of self.now.rank.ranks self.now.rank.log comm.context.number ≡ Some group) }
-        ensures refused { IfErr result (λ e. (e ≡ CallError.NoComm) × (group_of self.now.rank.ranks self.now.rank.log comm.context.number ≡ None)) }
+        ensures group { IfOk result (λ group. group_of self.now.view.rank.ranks self.now.view.rank.log comm.context.number ≡ Some group) }
+        ensures refused { IfErr result (λ e. (e ≡ CallError.NoComm) × (group_of self.now.view.rank.ranks self.now.view.rank.log comm.context.number ≡ None)) }
     {
         self.rank.group(comm)
     }
@@ -33,11 +33,11 @@ impl Process {
     /// is revoked, else `AlreadyMade` where it was duplicated before, else `NoContext` where there is no context left
     /// for the duplicate, else `OutOfMemory` where a growth was refused. Then nothing changed.
     pub fn dup(&mut self, comm: Comm) -> Result<Comm, CallError>
-        ensures accepted { OnOk result (Passes (dup_checks self.old.rank comm.context.number)) }
+        ensures accepted { OnOk result (Passes (dup_checks self.old.view.rank comm.context.number)) }
         ensures made { IfOk result (λ made. made.context.number ≡ dup_of comm.context.number) }
-        ensures only { OnOk result (self.new ≡ with_rank self.old (logged self.old.rank (Duplicated comm.context))) }
-        ensures refused { IfErr result (FailsOrStarves (dup_checks self.old.rank comm.context.number)) }
-        ensures unchanged { OnErr result (self.new ≡ self.old) }
+        ensures only { OnOk result (self.new.view ≡ with_rank self.old.view (logged self.old.view.rank (Duplicated comm.context))) }
+        ensures refused { IfErr result (FailsOrStarves (dup_checks self.old.view.rank comm.context.number)) }
+        ensures unchanged { OnErr result (self.new.view ≡ self.old.view) }
     {
         self.rank.dup(comm)
     }

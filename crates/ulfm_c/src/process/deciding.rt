@@ -27,9 +27,9 @@ impl Process {
     /// there is a decision, `AlreadyMade` where one of this shrink was adopted before, else `NotMember` where it isn't this
     /// rank's to adopt, else `OutOfMemory` where a growth was refused: then the rank is as it was.
     pub fn poll_shrink(&mut self, comm: Comm) -> Result<Option<Comm>, CallError>
-        ensures waits { IfOk result (λ found. found ≡ None → Waits self.old self.new (shrink_topic comm.context)) }
-        ensures adopts { IfOk result (λ found. IfSome found (λ made. (held : Decided) × Adopts self.old self.new (shrink_topic comm.context) held × (made.context.number ≡ shrink_of comm.context.number))) }
-        ensures refused { IfErr result (IsPollRefusal self.old self.new (shrink_topic comm.context)) }
+        ensures waits { IfOk result (λ found. found ≡ None → Waits self.old.view self.new.view (shrink_topic comm.context)) }
+        ensures adopts { IfOk result (λ found. IfSome found (λ made. (held : Decided) × Adopts self.old.view self.new.view (shrink_topic comm.context) held × (made.context.number ≡ shrink_of comm.context.number))) }
+        ensures refused { IfErr result (IsPollRefusal self.old.view self.new.view (shrink_topic comm.context)) }
     {
         let Some(proposal) = self.rank.proposal(comm)? else {
             return Ok(None);
@@ -55,9 +55,9 @@ impl Process {
     /// adopted before, else `NotMember` where it isn't this rank's to adopt, else `OutOfMemory` where a growth was refused:
     /// then the rank is as it was.
     pub fn poll_agree(&mut self, comm: Comm) -> Result<Option<(u32, Group)>, CallError>
-        ensures waits { IfOk result (λ found. found ≡ None → Waits self.old self.new (last_agreement self.old.rank.log comm.context)) }
-        ensures adopts { IfOk result (λ found. IfSome found (λ told. (held : Decided) × Adopts self.old self.new (last_agreement self.old.rank.log comm.context) held × (held.value ≡ Some told.0) × (told.1 ≡ left_out held.old held.entries))) }
-        ensures refused { IfErr result (IsPollRefusal self.old self.new (last_agreement self.old.rank.log comm.context)) }
+        ensures waits { IfOk result (λ found. found ≡ None → Waits self.old.view self.new.view (last_agreement self.old.view.rank.log comm.context)) }
+        ensures adopts { IfOk result (λ found. IfSome found (λ told. (held : Decided) × Adopts self.old.view self.new.view (last_agreement self.old.view.rank.log comm.context) held × (held.value ≡ Some told.0) × (told.1 ≡ left_out held.old held.entries))) }
+        ensures refused { IfErr result (IsPollRefusal self.old.view self.new.view (last_agreement self.old.view.rank.log comm.context)) }
     {
         let Some(proposal) = self.rank.verdict(comm)? else {
             return Ok(None);
@@ -75,10 +75,10 @@ impl Process {
 
     /// Two processes of one board know no two decisions on one shrink or agreement. It changes nothing, and never answers out of memory.
     pub fn same(&mut self, other: &mut Process)
-        requires board { other.old.board ≡ self.old.board }
-        ensures unchanged { self.new ≡ self.old }
-        ensures unchanged_other { other.new ≡ other.old }
-        ensures agree { (topic : Topic) → BothAgree (known_at self.old.known topic) (known_at other.old.known topic) }
+        requires board { other.old.view.board ≡ self.old.view.board }
+        ensures unchanged { self.new.view ≡ self.old.view }
+        ensures unchanged_other { other.new.view ≡ other.old.view }
+        ensures agree { (topic : Topic) → BothAgree (known_at self.old.view.known topic) (known_at other.old.view.known topic) }
     {
         self.seat.same(&mut other.seat);
     }

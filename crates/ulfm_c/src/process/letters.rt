@@ -28,11 +28,11 @@ impl Process {
     /// bytes, else `ProcFailed` where the destination is known to have failed, else `OutOfMemory` where a growth was
     /// refused. Then nothing changed.
     pub fn isend(&mut self, comm: Comm, dest: u8, tag: Tag, body: &[u8]) -> Result<(), CallError>
-        ensures accepted { OnOk result (Passes (send_checks self.old.rank comm.context.number dest (length body.now))) }
-        ensures sends { OnOk result (Sends self.old.rank comm dest tag body.now self.new.rank) }
-        ensures only_rank { self.new ≡ with_rank self.old self.new.rank }
-        ensures refused { IfErr result (FailsOrStarves (send_checks self.old.rank comm.context.number dest (length body.now))) }
-        ensures unchanged { OnErr result (self.new ≡ self.old) }
+        ensures accepted { OnOk result (Passes (send_checks self.old.view.rank comm.context.number dest (length body.now))) }
+        ensures sends { OnOk result (Sends self.old.view.rank comm dest tag body.now self.new.view.rank) }
+        ensures only_rank { self.new.view ≡ with_rank self.old.view self.new.view.rank }
+        ensures refused { IfErr result (FailsOrStarves (send_checks self.old.view.rank comm.context.number dest (length body.now))) }
+        ensures unchanged { OnErr result (self.new.view ≡ self.old.view) }
     {
         self.rank.isend(comm, dest, tag, body)
     }
@@ -51,13 +51,13 @@ impl Process {
         tag: Option<Tag>,
         room: u16,
     ) -> Result<RequestId, CallError>
-        ensures accepted { OnOk result (Passes (receive_checks self.old.rank comm.context.number source)) }
-        ensures posts { OnOk result (Posts self.old.rank comm source tag room self.new.rank) }
-        ensures number { IfOk result (λ id. id.number ≡ count_before (history_of self.old.rank.log) (length (history_of self.old.rank.log))) }
-        ensures request { IfOk result (λ id. (i : ℕ) × (pattern : Pattern) × IsRequest self.new.rank.log id.number i pattern) }
-        ensures only_rank { self.new ≡ with_rank self.old self.new.rank }
-        ensures refused { IfErr result (FailsOrStarves (receive_checks self.old.rank comm.context.number source)) }
-        ensures unchanged { OnErr result (self.new ≡ self.old) }
+        ensures accepted { OnOk result (Passes (receive_checks self.old.view.rank comm.context.number source)) }
+        ensures posts { OnOk result (Posts self.old.view.rank comm source tag room self.new.view.rank) }
+        ensures number { IfOk result (λ id. id.number ≡ count_before (history_of self.old.view.rank.log) (length (history_of self.old.view.rank.log))) }
+        ensures request { IfOk result (λ id. (i : ℕ) × (pattern : Pattern) × IsRequest self.new.view.rank.log id.number i pattern) }
+        ensures only_rank { self.new.view ≡ with_rank self.old.view self.new.view.rank }
+        ensures refused { IfErr result (FailsOrStarves (receive_checks self.old.view.rank comm.context.number source)) }
+        ensures unchanged { OnErr result (self.new.view ≡ self.old.view) }
     {
         self.rank.irecv(comm, source, tag, room)
     }
@@ -70,14 +70,14 @@ impl Process {
     /// `Stopped` after the stop, else `NoRequest` where there is no such request or it was released. Then nothing
     /// changed.
     pub fn test(&mut self, id: RequestId) -> Result<TestAnswer, CallError>
-        ensures answer { IfOk result (IsTestAnswer self.old.rank.ranks self.old.rank.log id.number) }
-        ensures request { OnOk result ((i : ℕ) × (pattern : Pattern) × IsRequest self.old.rank.log id.number i pattern) }
-        ensures pairing { OnOk result ((pairing : Pairing) × LawfulPairing (history_of self.old.rank.log) pairing) }
-        ensures running { OnOk result (is_stopped self.old.rank.log ≡ false) }
-        ensures released { IfOk result (λ answer. is_release answer ≡ true → self.new ≡ with_rank self.old (logged self.old.rank (Released id answer))) }
-        ensures stays { IfOk result (λ answer. is_release answer ≡ false → self.new ≡ self.old) }
-        ensures refused { IfErr result (IsTestRefusal self.old.rank.log id.number) }
-        ensures unchanged { OnErr result (self.new ≡ self.old) }
+        ensures answer { IfOk result (IsTestAnswer self.old.view.rank.ranks self.old.view.rank.log id.number) }
+        ensures request { OnOk result ((i : ℕ) × (pattern : Pattern) × IsRequest self.old.view.rank.log id.number i pattern) }
+        ensures pairing { OnOk result ((pairing : Pairing) × LawfulPairing (history_of self.old.view.rank.log) pairing) }
+        ensures running { OnOk result (is_stopped self.old.view.rank.log ≡ false) }
+        ensures released { IfOk result (λ answer. is_release answer ≡ true → self.new.view ≡ with_rank self.old.view (logged self.old.view.rank (Released id answer))) }
+        ensures stays { IfOk result (λ answer. is_release answer ≡ false → self.new.view ≡ self.old.view) }
+        ensures refused { IfErr result (IsTestRefusal self.old.view.rank.log id.number) }
+        ensures unchanged { OnErr result (self.new.view ≡ self.old.view) }
     {
         self.rank.test(id)
     }
@@ -90,13 +90,13 @@ impl Process {
     /// `Stopped` after the stop, else `NoRequest` where there is no such request or it was released. Then nothing
     /// changed.
     pub fn cancel(&mut self, id: RequestId) -> Result<Cancel, CallError>
-        ensures answer { IfOk result (IsCancelAnswer self.old.rank.ranks self.old.rank.log id.number) }
-        ensures request { OnOk result ((i : ℕ) × (pattern : Pattern) × IsRequest self.old.rank.log id.number i pattern) }
-        ensures pairing { OnOk result ((pairing : Pairing) × LawfulPairing (history_of self.old.rank.log) pairing) }
-        ensures running { OnOk result (is_stopped self.old.rank.log ≡ false) }
-        ensures released { IfOk result (λ answer. self.new ≡ with_rank self.old (logged self.old.rank (cancelling id answer))) }
-        ensures refused { IfErr result (IsTestRefusal self.old.rank.log id.number) }
-        ensures unchanged { OnErr result (self.new ≡ self.old) }
+        ensures answer { IfOk result (IsCancelAnswer self.old.view.rank.ranks self.old.view.rank.log id.number) }
+        ensures request { OnOk result ((i : ℕ) × (pattern : Pattern) × IsRequest self.old.view.rank.log id.number i pattern) }
+        ensures pairing { OnOk result ((pairing : Pairing) × LawfulPairing (history_of self.old.view.rank.log) pairing) }
+        ensures running { OnOk result (is_stopped self.old.view.rank.log ≡ false) }
+        ensures released { IfOk result (λ answer. self.new.view ≡ with_rank self.old.view (logged self.old.view.rank (cancelling id answer))) }
+        ensures refused { IfErr result (IsTestRefusal self.old.view.rank.log id.number) }
+        ensures unchanged { OnErr result (self.new.view ≡ self.old.view) }
     {
         self.rank.cancel(id)
     }

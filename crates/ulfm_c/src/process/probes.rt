@@ -29,9 +29,9 @@ impl Process {
         source: Option<u8>,
         tag: Option<Tag>,
     ) -> Result<Option<Status>, CallError>
-        ensures accepted { OnOk result (Passes (receive_checks self.now.rank comm.context.number source)) }
-        ensures answer { IfOk result (IsLookAnswer self.now.rank comm source tag) }
-        ensures refused { IfErr result (IsLookRefusal self.now.rank comm source tag) }
+        ensures accepted { OnOk result (Passes (receive_checks self.now.view.rank comm.context.number source)) }
+        ensures answer { IfOk result (IsLookAnswer self.now.view.rank comm source tag) }
+        ensures refused { IfErr result (IsLookRefusal self.now.view.rank comm source tag) }
     {
         self.rank.iprobe(comm, source, tag)
     }
@@ -49,12 +49,12 @@ impl Process {
         source: Option<u8>,
         tag: Option<Tag>,
     ) -> Result<Probed, CallError>
-        ensures accepted { OnOk result (Passes (receive_checks self.old.rank comm.context.number source)) }
-        ensures answer { IfOk result (IsProbeAnswer self.old.rank comm source tag self.new.rank) }
-        ensures message { IfOk result (HasMessage self.new.rank.log) }
-        ensures only_rank { self.new ≡ with_rank self.old self.new.rank }
-        ensures refused { IfErr result (IsProbeRefusal self.old.rank comm source tag) }
-        ensures unchanged { OnErr result (self.new ≡ self.old) }
+        ensures accepted { OnOk result (Passes (receive_checks self.old.view.rank comm.context.number source)) }
+        ensures answer { IfOk result (IsProbeAnswer self.old.view.rank comm source tag self.new.view.rank) }
+        ensures message { IfOk result (HasMessage self.new.view.rank.log) }
+        ensures only_rank { self.new.view ≡ with_rank self.old.view self.new.view.rank }
+        ensures refused { IfErr result (IsProbeRefusal self.old.view.rank comm source tag) }
+        ensures unchanged { OnErr result (self.new.view ≡ self.old.view) }
     {
         self.rank.improbe(comm, source, tag)
     }
@@ -68,13 +68,13 @@ impl Process {
     /// `Stopped` after the stop, else `NoRequest` where there is no such message or it was received before. Then
     /// nothing changed.
     pub fn mrecv(&mut self, id: MessageId, room: u16) -> Result<TestAnswer, CallError>
-        ensures answer { IfOk result (IsMessageAnswer self.old.rank.ranks self.old.rank.log id.number room) }
-        ensures message { OnOk result ((i : ℕ) × (pattern : Pattern) × IsMessage self.old.rank.log id.number i pattern) }
-        ensures pairing { OnOk result ((pairing : Pairing) × LawfulPairing (history_of self.old.rank.log) pairing) }
-        ensures running { OnOk result (is_stopped self.old.rank.log ≡ false) }
-        ensures received { IfOk result (λ answer. self.new ≡ with_rank self.old (logged self.old.rank (Received id answer))) }
-        ensures refused { IfErr result (IsMessageRefusal self.old.rank.log id.number) }
-        ensures unchanged { OnErr result (self.new ≡ self.old) }
+        ensures answer { IfOk result (IsMessageAnswer self.old.view.rank.ranks self.old.view.rank.log id.number room) }
+        ensures message { OnOk result ((i : ℕ) × (pattern : Pattern) × IsMessage self.old.view.rank.log id.number i pattern) }
+        ensures pairing { OnOk result ((pairing : Pairing) × LawfulPairing (history_of self.old.view.rank.log) pairing) }
+        ensures running { OnOk result (is_stopped self.old.view.rank.log ≡ false) }
+        ensures received { IfOk result (λ answer. self.new.view ≡ with_rank self.old.view (logged self.old.view.rank (Received id answer))) }
+        ensures refused { IfErr result (IsMessageRefusal self.old.view.rank.log id.number) }
+        ensures unchanged { OnErr result (self.new.view ≡ self.old.view) }
     {
         self.rank.mrecv(id, room)
     }

@@ -14,7 +14,7 @@ use ulfm_log::Comm;
 impl Process {
     /// The rank stops (ULFM: it fails). Again it changes nothing. It can't run out of memory.
     pub fn stop(&mut self)
-        ensures { self.new ≡ with_rank self.old (stopping self.old.rank) }
+        ensures { self.new.view ≡ with_rank self.old.view (stopping self.old.view.rank) }
     {
         self.rank.stop();
     }
@@ -26,9 +26,9 @@ impl Process {
     ///
     /// `Stopped` where the rank has stopped, else `NoComm` where the communicator wasn't made.
     pub fn get_failed(&self, comm: Comm) -> Result<Group, CallError>
-        ensures accepted { OnOk result (Passes (comm_checks self.now.rank comm.context.number [])) }
-        ensures failed { IfOk result (λ group. group ≡ known_in self.now.rank.log (group_at self.now.rank comm.context.number)) }
-        ensures refused { IfErr result (Fails (comm_checks self.now.rank comm.context.number [])) }
+        ensures accepted { OnOk result (Passes (comm_checks self.now.view.rank comm.context.number [])) }
+        ensures failed { IfOk result (λ group. group ≡ known_in self.now.view.rank.log (group_at self.now.view.rank comm.context.number)) }
+        ensures refused { IfErr result (Fails (comm_checks self.now.view.rank comm.context.number [])) }
     {
         self.rank.get_failed(comm)
     }
@@ -41,11 +41,11 @@ impl Process {
     /// `Stopped` where the rank has stopped, else `NoComm` where the communicator wasn't made, else `OutOfMemory` where
     /// the total would rise and a growth was refused. Then nothing changed.
     pub fn ack_failed(&mut self, comm: Comm, n: u8) -> Result<u8, CallError>
-        ensures accepted { OnOk result (Passes (comm_checks self.old.rank comm.context.number [])) }
-        ensures total { IfOk result (λ total. total ≡ ack_answer self.old.rank.log (group_at self.old.rank comm.context.number) comm.context.number n) }
-        ensures only { IfOk result (λ total. self.new ≡ with_rank self.old (acknowledging self.old.rank comm.context total)) }
-        ensures refused { IfErr result (FailsOrStarves (comm_checks self.old.rank comm.context.number [])) }
-        ensures unchanged { OnErr result (self.new ≡ self.old) }
+        ensures accepted { OnOk result (Passes (comm_checks self.old.view.rank comm.context.number [])) }
+        ensures total { IfOk result (λ total. total ≡ ack_answer self.old.view.rank.log (group_at self.old.view.rank comm.context.number) comm.context.number n) }
+        ensures only { IfOk result (λ total. self.new.view ≡ with_rank self.old.view (acknowledging self.old.view.rank comm.context total)) }
+        ensures refused { IfErr result (FailsOrStarves (comm_checks self.old.view.rank comm.context.number [])) }
+        ensures unchanged { OnErr result (self.new.view ≡ self.old.view) }
     {
         self.rank.ack_failed(comm, n)
     }
@@ -56,9 +56,9 @@ impl Process {
     ///
     /// `Stopped` where the rank has stopped, else `NoComm` where the communicator wasn't made.
     pub fn is_revoked(&self, comm: Comm) -> Result<bool, CallError>
-        ensures accepted { OnOk result (Passes (comm_checks self.now.rank comm.context.number [])) }
-        ensures revoked { IfOk result (λ revoked. revoked ≡ is_revoked self.now.rank.log comm.context.number) }
-        ensures refused { IfErr result (Fails (comm_checks self.now.rank comm.context.number [])) }
+        ensures accepted { OnOk result (Passes (comm_checks self.now.view.rank comm.context.number [])) }
+        ensures revoked { IfOk result (λ revoked. revoked ≡ is_revoked self.now.view.rank.log comm.context.number) }
+        ensures refused { IfErr result (Fails (comm_checks self.now.view.rank comm.context.number [])) }
     {
         self.rank.is_revoked(comm)
     }
@@ -71,10 +71,10 @@ impl Process {
     /// `Stopped` where the rank has stopped, else `NoComm` where the communicator wasn't made, else `OutOfMemory` where
     /// it wasn't revoked before and a growth was refused. Then nothing changed.
     pub fn revoke(&mut self, comm: Comm) -> Result<(), CallError>
-        ensures accepted { OnOk result (Passes (comm_checks self.old.rank comm.context.number [])) }
-        ensures only { OnOk result (self.new ≡ with_rank self.old (revoking self.old.rank comm.context)) }
-        ensures refused { IfErr result (FailsOrStarves (comm_checks self.old.rank comm.context.number [])) }
-        ensures unchanged { OnErr result (self.new ≡ self.old) }
+        ensures accepted { OnOk result (Passes (comm_checks self.old.view.rank comm.context.number [])) }
+        ensures only { OnOk result (self.new.view ≡ with_rank self.old.view (revoking self.old.view.rank comm.context)) }
+        ensures refused { IfErr result (FailsOrStarves (comm_checks self.old.view.rank comm.context.number [])) }
+        ensures unchanged { OnErr result (self.new.view ≡ self.old.view) }
     {
         self.rank.revoke(comm)
     }
@@ -87,11 +87,11 @@ impl Process {
     /// its shrink was entered before, else `NoContext` where there is no context left for the new communicator, else
     /// `OutOfMemory` where a growth was refused. Then nothing changed.
     pub fn enter_shrink(&mut self, comm: Comm) -> Result<(), CallError>
-        ensures accepted { OnOk result (Passes (shrink_checks self.old.rank comm.context)) }
-        ensures enters { OnOk result (Enters self.old.rank (shrink_topic comm.context) None self.new.rank) }
-        ensures only_rank { self.new ≡ with_rank self.old self.new.rank }
-        ensures refused { IfErr result (FailsOrStarves (shrink_checks self.old.rank comm.context)) }
-        ensures unchanged { OnErr result (self.new ≡ self.old) }
+        ensures accepted { OnOk result (Passes (shrink_checks self.old.view.rank comm.context)) }
+        ensures enters { OnOk result (Enters self.old.view.rank (shrink_topic comm.context) None self.new.view.rank) }
+        ensures only_rank { self.new.view ≡ with_rank self.old.view self.new.view.rank }
+        ensures refused { IfErr result (FailsOrStarves (shrink_checks self.old.view.rank comm.context)) }
+        ensures unchanged { OnErr result (self.new.view ≡ self.old.view) }
     {
         self.rank.enter_shrink(comm)
     }
@@ -104,11 +104,11 @@ impl Process {
     /// it entered an agreement there whose decision it didn't adopt yet, else `OutOfMemory` where a growth was refused.
     /// Then nothing changed.
     pub fn enter_agree(&mut self, comm: Comm, flag: u32) -> Result<(), CallError>
-        ensures accepted { OnOk result (Passes (agree_checks self.old.rank comm.context)) }
-        ensures enters { OnOk result (Enters self.old.rank (next_agreement self.old.rank.log comm.context) (Some flag) self.new.rank) }
-        ensures only_rank { self.new ≡ with_rank self.old self.new.rank }
-        ensures refused { IfErr result (FailsOrStarves (agree_checks self.old.rank comm.context)) }
-        ensures unchanged { OnErr result (self.new ≡ self.old) }
+        ensures accepted { OnOk result (Passes (agree_checks self.old.view.rank comm.context)) }
+        ensures enters { OnOk result (Enters self.old.view.rank (next_agreement self.old.view.rank.log comm.context) (Some flag) self.new.view.rank) }
+        ensures only_rank { self.new.view ≡ with_rank self.old.view self.new.view.rank }
+        ensures refused { IfErr result (FailsOrStarves (agree_checks self.old.view.rank comm.context)) }
+        ensures unchanged { OnErr result (self.new.view ≡ self.old.view) }
     {
         self.rank.enter_agree(comm, flag)
     }

@@ -4,7 +4,7 @@
 //! pass others over.
 ghost use Rattle.std.specs.Prelude.{◌≡◌, ◌<◌, ◌↔◌, ℕ, [], false, IsTrue, IfOk, IfErr, OnOk, OnErr};
 ghost use Rattle.ulfm_log.specs.Facts.{is_stopped};
-ghost use Rattle.ulfm_c.specs.Turning.{IsTakeRefusal, IsTurn, Pushes, Takes, TakesFrom};
+ghost use Rattle.ulfm_c.specs.Turning.{IsTakeRefusal, IsTurn, LeavesRoom, Pushes, Takes, TakesFrom};
 ghost use Rattle.ulfm_c.specs.inside.Pushing.{PushesOne, PushesTo};
 ghost use Rattle.ulfm_log.specs.State.{outbox};
 
@@ -14,15 +14,18 @@ use ulfm_base::{CallError, OutOfMemory};
 impl Process {
     /// Takes an item that came, if there is one, and pushes what waits to go out, to each rank as far as its end knows of places in
     /// the ring. It looks at the ranks upwards and round, from the one after the last of which it took, first of all from rank 0.
-    /// Answers whether anything moved. Where nothing did, the rank has nothing to do until another one moves.
+    /// Answers whether anything moved. Where nothing did, the rank has nothing to do until another one moves, and the next turn has
+    /// room.
     ///
     /// # Errors
     ///
-    /// `OutOfMemory` where the rank runs and a growth was refused. Then nothing changed.
+    /// `OutOfMemory` where the rank runs, had no room for an item and a growth was refused. Then nothing changed.
     pub fn turn(&mut self) -> Result<bool, OutOfMemory>
-        ensures turn { IfOk result (IsTurn self.old self.new) }
-        ensures unchanged { OnErr result (self.new ≡ self.old) }
-        ensures runs { OnErr result (is_stopped self.old.rank.log ≡ false) }
+        ensures turn { IfOk result (IsTurn self.old.view self.new.view) }
+        ensures room { IfOk result (λ moved. moved ≡ false → LeavesRoom self.old self.new) }
+        ensures unchanged { OnErr result (self.new.view ≡ self.old.view) }
+        ensures runs { OnErr result (is_stopped self.old.view.rank.log ≡ false) }
+        ensures room_lacked { OnErr result (self.old.ready ≡ false) }
     {
         let came = self.take_one()?;
         let went = self.push();
@@ -34,7 +37,7 @@ impl Process {
 
     /// Whether nothing waits to go out, to any rank. Of a rank that stopped its notices alone go out.
     pub fn has_pushed_all(&self) -> bool
-        ensures { IsTrue result ↔ ((dest : ℕ) → dest < self.now.rank.ranks → outbox self.now.rank dest ≡ []) }
+        ensures { IsTrue result ↔ ((dest : ℕ) → dest < self.now.view.rank.ranks → outbox self.now.view.rank dest ≡ []) }
     {
         for dest in 0..self.rank.ranks() {
             if !self.rank.is_outbox_empty(dest) {
@@ -46,7 +49,8 @@ impl Process {
 
     /// Pushes what waits to go out, to each rank as far as its end knows of places in the ring. Whether anything went.
     pub fn push(&mut self) -> bool
-        ensures { Pushes self.old self.new result }
+        ensures pushes { Pushes self.old.view self.new.view result }
+        ensures room { self.new.ready ≡ self.old.ready }
     {
         let mut moved = false;
         for dest in 0..self.rank.ranks() {
@@ -62,13 +66,14 @@ impl Process {
     ///
     /// # Errors
     ///
-    /// `BadRank` where the world has no such rank, else `OutOfMemory` where the rank runs and a growth was refused. Then nothing
-    /// changed.
+    /// `BadRank` where the world has no such rank, else `OutOfMemory` where the rank runs, had no room for an item and a growth was
+    /// refused. Then nothing changed.
     pub fn take_from(&mut self, source: u8) -> Result<bool, CallError>
-        ensures takes { IfOk result (TakesFrom self.old self.new source) }
-        ensures rank { OnOk result (source < self.old.rank.ranks) }
+        ensures takes { IfOk result (TakesFrom self.old.view self.new.view source) }
+        ensures rank { OnOk result (source < self.old.view.rank.ranks) }
+        ensures room { IfOk result (λ took. took ≡ false → LeavesRoom self.old self.new) }
         ensures refused { IfErr result (IsTakeRefusal self.old source) }
-        ensures unchanged { OnErr result (self.new ≡ self.old) }
+        ensures unchanged { OnErr result (self.new.view ≡ self.old.view) }
     {
         let peer = self.peer(source)?;
         if self.rank.is_stopped() {
@@ -86,9 +91,11 @@ impl Process {
 
     /// Takes an item that came, if there is one and the rank runs. Whether one was taken.
     fn take_one(&mut self) -> Result<bool, OutOfMemory>
-        ensures takes { IfOk result (Takes self.old self.new) }
-        ensures unchanged { OnErr result (self.new ≡ self.old) }
-        ensures runs { OnErr result (is_stopped self.old.rank.log ≡ false) }
+        ensures takes { IfOk result (Takes self.old.view self.new.view) }
+        ensures room { IfOk result (λ took. took ≡ false → LeavesRoom self.old self.new) }
+        ensures unchanged { OnErr result (self.new.view ≡ self.old.view) }
+        ensures runs { OnErr result (is_stopped self.old.view.rank.log ≡ false) }
+        ensures room_lacked { OnErr result (self.old.ready ≡ false) }
     {
         if self.rank.is_stopped() {
             return Ok(false);
@@ -105,8 +112,9 @@ impl Process {
 
     /// Pushes to one rank, while there is something to push and a place for it. Whether anything went.
     fn push_to(&mut self, dest: u8) -> bool
-        requires { dest < self.old.rank.ranks }
-        ensures { PushesTo self.old self.new dest result }
+        requires { dest < self.old.view.rank.ranks }
+        ensures pushes { PushesTo self.old.view self.new.view dest result }
+        ensures room { self.new.ready ≡ self.old.ready }
     {
         let mut moved = false;
         while self.push_one(dest) {
@@ -117,8 +125,9 @@ impl Process {
 
     /// The first item that waits for a rank goes there, if there is one and its ring has a place. Whether one went.
     fn push_one(&mut self, dest: u8) -> bool
-        requires { dest < self.old.rank.ranks }
-        ensures { PushesOne self.old self.new dest result }
+        requires { dest < self.old.view.rank.ranks }
+        ensures pushes { PushesOne self.old.view self.new.view dest result }
+        ensures room { self.new.ready ≡ self.old.ready }
     {
         let Some(item) = self.rank.take_out(dest) else {
             return false;

@@ -11,7 +11,7 @@ returns-in-Ok c = let did = c.in-Ok.ensures in inl (
   record {
     asked = record { running = did.running; request = did.request; pairing = did.pairing };
     answers = did.answer;
-    only = cond_both (is_release c.in-Ok.answer) _ _ (λ (p : ProcessView). c.test.new.self ≡ p) did.released did.stays;
+    only = cond_both (is_release c.in-Ok.answer) _ _ (λ (p : ProcessView). c.test.new.self.view ≡ p) did.released did.stays;
   },
 )
 

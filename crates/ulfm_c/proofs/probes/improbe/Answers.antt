@@ -33,7 +33,7 @@ returns-in-Ok-Found c = let found = c.in-Ok-Found.ensures in inr (
 
 pub returns-in-Ok-Nothing : goal.returns-in-Ok-Nothing
 returns-in-Ok-Nothing c = let none = c.in-Ok-Nothing.ensures in let answer = rw (c.source_of.ensures, c.in-Ok-Nothing.field-0-is) at none.answer in
-    inr (c.in-Some.comm, c.in-Some.ensures, inr (c.in-Ok.tag, c.in-Ok.ensures, inl (rw c.source_of.ensures at none.accepted, inr (refl, answer.0, none.only_rank ∙ ap (with_rank c.args.process.now) answer.1, (refl, refl)))))
+    inr (c.in-Some.comm, c.in-Some.ensures, inr (c.in-Ok.tag, c.in-Ok.ensures, inl (rw c.source_of.ensures at none.accepted, inr (refl, answer.0, none.only_rank ∙ ap (with_rank c.args.process.now.view) answer.1, (refl, refl)))))
 
 pub returns-in-Err-improbe : goal.returns-in-Err-improbe
 returns-in-Err-improbe c = inr (c.in-Some.comm, c.in-Some.ensures, inr (c.in-Ok.tag, c.in-Ok.ensures, inr (c.in-Err-improbe.error, c.number_of.ensures, rw c.source_of.ensures at c.in-Err-improbe.ensures.refused, c.in-Err-improbe.ensures.unchanged, (refl, refl))))

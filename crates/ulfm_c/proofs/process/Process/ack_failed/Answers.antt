@@ -3,7 +3,7 @@ use Rattle.std.specs.Prelude.{IfOk, nat_lt}
 use Rattle.ulfm_rank.specs.Checks.{group_at}
 use Rattle.ulfm_log.specs.Facts.{ack_answer, acknowledged_of}
 use Rattle.ulfm_log.specs.State.{State}
-use Rattle.ulfm_c.specs.View.{ProcessView}
+use Rattle.ulfm_c.specs.View.{ReadyView}
 use Rattle.ulfm_log.specs.declared.entry.Entry.TheVariants.{Acknowledged}
 use Rattle.ulfm_c.proofs.Keeping.{kept-if, quiet-cond}
 use Rattle.ulfm_c.proofs.process.Process.ack_failed.Goals as goal
@@ -15,4 +15,4 @@ invariant_of-self c =
 
 pub returns-clause-total : goal.returns-clause-total
 returns-clause-total c =
-    subst (λ (r : State). IfOk c.ack_failed.result (λ total. total ≡ ack_answer r.log (group_at r c.args.comm.context.number) c.args.comm.context.number c.args.n)) (ap (λ (v : ProcessView). v.rank) c.self.view_is) c.ack_failed.ensures.total
+    subst (λ (r : State). IfOk c.ack_failed.result (λ total. total ≡ ack_answer r.log (group_at r c.args.comm.context.number) c.args.comm.context.number c.args.n)) (ap (λ (v : ReadyView). v.view.rank) c.self.view_is) c.ack_failed.ensures.total

@@ -2,7 +2,7 @@ use Rattle.std.proofs.Common.{refl, ap, subst}
 use Rattle.std.specs.Prelude.{IfErr}
 use Rattle.ulfm_rank.specs.Checks.{FailsOrStarves, agree_checks}
 use Rattle.ulfm_log.specs.State.{State}
-use Rattle.ulfm_c.specs.View.{ProcessView}
+use Rattle.ulfm_c.specs.View.{ReadyView}
 use Rattle.ulfm_log.specs.declared.entry.Entry.TheVariants.{Entered}
 use Rattle.ulfm_c.proofs.Keeping.{kept-ok, quiet-one}
 use Rattle.ulfm_c.proofs.process.Process.enter_agree.Goals as goal
@@ -13,4 +13,4 @@ invariant_of-self c =
     kept-ok new h c.enter_agree.result c.enter_agree.ensures.enters c.enter_agree.ensures.unchanged (λ s. quiet-one new (Entered s.entrance) h.sound (record { signed = tt; takes_none = λ x. refl }) s.only)
 
 pub returns-clause-refused : goal.returns-clause-refused
-returns-clause-refused c = subst (λ (r : State). IfErr c.enter_agree.result (FailsOrStarves (agree_checks r c.args.comm.context))) (ap (λ (v : ProcessView). v.rank) c.self.view_is) c.enter_agree.ensures.refused
+returns-clause-refused c = subst (λ (r : State). IfErr c.enter_agree.result (FailsOrStarves (agree_checks r c.args.comm.context))) (ap (λ (v : ReadyView). v.view.rank) c.self.view_is) c.enter_agree.ensures.refused

@@ -7,10 +7,10 @@ use Rattle.ulfm_rank.proofs.Joining.{joined-pushed, joined-returned}
 use Rattle.ulfm_rank.proofs.Signed.{front_signed}
 use Rattle.ulfm_log.proofs.States.{comes-back}
 use Rattle.ulfm_log.specs.State.{RankView, outbox}
-use Rattle.ulfm_c.proofs.Pushing.{box-apart}
+use Rattle.ulfm_c.proofs.Pushing.{box-apart, same-room}
 use Rattle.ulfm_base.specs.declared.rank.WorldRank.{WorldRank}
 use Rattle.ulfm_log.specs.State.{State}
-use Rattle.ulfm_c.specs.View.{IsAtEnd, ProcessView}
+use Rattle.ulfm_c.specs.View.{IsAtEnd, ReadyView}
 use Rattle.ulfm_c.proofs.process.Process.push_one.Goals as goal
 
 pub push_now-requires-clause-item : goal.push_now-requires-clause-item
@@ -21,11 +21,11 @@ push_now-requires-clause-item c =
 pub invariant_of-self-in-Ok : goal.invariant_of-self-in-Ok
 invariant_of-self-in-Ok c =
     let t = c.in-Ok.ensures in let h = c.self.invariant in
-    let inside = ap (λ (v : ProcessView). v.rank.ranks) c.self.view_is in
+    let inside = ap (λ (v : ReadyView). v.view.rank.ranks) c.self.view_is in
     joined-pushed c.push_now.new.self h (omega (arith, c.requires, inside)) c.in-Some.ensures.leaves (ap (λ (r : WorldRank). r.number) t.name.1) t.name.2 t.name.3 t.taken t.others t.pushed
 
-pub returns-in-Ok : goal.returns-in-Ok
-returns-in-Ok c =
+pub returns-in-Ok-clause-pushes : goal.returns-in-Ok-clause-pushes
+returns-in-Ok-clause-pushes c =
     let t = c.in-Ok.ensures in let leaves = c.in-Some.ensures.leaves in
     rw (sym c.self.view_is) (record {
       went = λ e. (c.in-Some.item, leaves);
@@ -48,8 +48,8 @@ invariant_of-self-in-Err c =
     let back : c.put_back.new.self.state ≡ c.self.inside.rank.state = c.put_back.ensures.state ∙ comes-back c.self.inside.rank.state c.take_out.new.self.state c.args.dest c.in-Some.item c.in-Some.ensures.leaves in
     subst (λ (r : State). IsAtEnd r end) (sym back) (joined-returned end c.args.dest h (ap (λ (r : WorldRank). r.number) t.name.1) t.name.2 t.name.3 t.taken t.others t.pushed.1)
 
-pub returns-in-Err : goal.returns-in-Err
-returns-in-Err c =
+pub returns-in-Err-clause-pushes : goal.returns-in-Err-clause-pushes
+returns-in-Err-clause-pushes c =
     let t = c.in-Err.ensures in
     let back : c.put_back.new.self.state ≡ c.self.inside.rank.state = c.put_back.ensures.state ∙ comes-back c.self.inside.rank.state c.take_out.new.self.state c.args.dest c.in-Some.item c.in-Some.ensures.leaves in
     rw (sym c.self.view_is) (record {
@@ -70,8 +70,8 @@ returns-in-Err c =
       takes_none = record { seen = λ s. ap (λ ins. slice_index_or (map seen_in ins.items) s []) t.inbox.0; next = t.inbox.1; same = record { end = t.name.0; board = refl; known = refl } };
     })
 
-pub returns-in_default : goal.returns-in_default
-returns-in_default c =
+pub returns-in_default-clause-pushes : goal.returns-in_default-clause-pushes
+returns-in_default-clause-pushes c =
     let same : c.take_out.new.self.state ≡ c.self.inside.rank.state = ap (λ (r : RankView). r.state) c.in_default.ensures.unchanged in
     rw (sym c.self.view_is) (record {
       went = λ e. absurd (false≢true e);
@@ -84,3 +84,14 @@ returns-in_default c =
       ];
       takes_none = record { seen = λ s. refl; next = refl; same = record { end = refl; board = refl; known = refl } };
     })
+
+pub returns-in-Ok-clause-room : goal.returns-in-Ok-clause-room
+returns-in-Ok-clause-room c = same-room c.self.inside.rank c.take_out.new.self c.take_out.ensures.prepared c.take_out.ensures.place ∙ ap (λ (v : ReadyView). v.ready) c.self.view_is
+
+pub returns-in-Err-clause-room : goal.returns-in-Err-clause-room
+returns-in-Err-clause-room c =
+    same-room c.self.inside.rank c.put_back.new.self (c.put_back.ensures.prepared ∙ c.take_out.ensures.prepared) (c.put_back.ensures.place ∙ c.take_out.ensures.place)
+    ∙ ap (λ (v : ReadyView). v.ready) c.self.view_is
+
+pub returns-in_default-clause-room : goal.returns-in_default-clause-room
+returns-in_default-clause-room c = same-room c.self.inside.rank c.take_out.new.self c.take_out.ensures.prepared c.take_out.ensures.place ∙ ap (λ (v : ReadyView). v.ready) c.self.view_is

@@ -6,7 +6,7 @@ use Rattle.ulfm_carrier.specs.Lanes.{lane_taken}
 use Rattle.ulfm_log.specs.State.{State, logged}
 use Rattle.ulfm_log.specs.declared.entry.Entry.TheVariants.{Took}
 use Rattle.ulfm_base.specs.declared.rank.WorldRank.{WorldRank}
-use Rattle.ulfm_c.specs.View.{IsAtEnd, ProcessView}
+use Rattle.ulfm_c.specs.View.{IsAtEnd, ReadyView}
 use Rattle.ulfm_c.proofs.process.Process.take_from.Goals as goal
 
 pub take-requires-clause-from : goal.take-requires-clause-from
@@ -18,7 +18,7 @@ invariant_of-self-in-Some c =
     let peer = c.in_ok-peer.peer in let item = c.in-Some.item in let there = c.in_ok-peer.ensures.there in
     let only = c.take.ensures ∙ ap (λ (r : State). logged r (Took peer item)) c.in_ok-prepare.ensures.state in
     subst (λ (r : State). IsAtEnd r end) (sym only)
-    (joined-taken end peer item (omega (arith, there.0, there.1, ap (λ (v : ProcessView). v.rank.ranks) c.self.view_is)) h (ap (λ (r : WorldRank). r.number) t.name.1) t.name.2 t.name.3 t.pushed
+    (joined-taken end peer item (omega (arith, there.0, there.1, ap (λ (v : ReadyView). v.view.rank.ranks) c.self.view_is)) h (ap (λ (r : WorldRank). r.number) t.name.1) t.name.2 t.name.3 t.pushed
     (subst (λ s. lane_taken end s ≡ lane_taken old s ++ item ∷ []) (sym there.0) t.taken.0) (λ p apart. t.taken.1 p (λ is. apart (is ∙ sym there.0))))
 
 pub invariant_of-self-in-None : goal.invariant_of-self-in-None
