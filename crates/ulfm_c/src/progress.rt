@@ -34,7 +34,7 @@ pub extern "C" fn ulfm_c_turn(alloc: Global, handle: &mut Handle, moved: &mut u3
     with!(handle, alloc, |process| turn(&mut process, moved))
 }
 
-/// Whether nothing waits to go out.
+/// Whether nothing waits to go out to a rank that isn't known to have failed.
 fn flushed(process: &Process, flushed: &mut u32) -> u32
     ensures { (result ≡ 0) × TellsFlushed process.now.view flushed.new }
 {
@@ -46,7 +46,7 @@ fn flushed(process: &Process, flushed: &mut u32) -> u32
     0
 }
 
-/// Whether nothing waits to go out (`Process::has_pushed_all`).
+/// Whether nothing waits to go out to a rank that isn't known to have failed (`Process::has_pushed_all`).
 #[unsafe(no_mangle)]
 pub extern "C" fn ulfm_c_flushed(alloc: Global, handle: &mut Handle, all: &mut u32) -> u32
     ensures { Call handle.old.slot.held handle.new.slot.held result (all.new ≡ all.old) (λ old new. (new ≡ old) × (result ≡ 0) × TellsFlushed old all.new) }
