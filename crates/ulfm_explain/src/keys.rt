@@ -49,14 +49,18 @@ impl Sheet<'_> {
     /// Tells of required keys that are missing, and of keys of a wrong kind.
     pub fn explain_kinds(&self, findings: &mut Findings<'_>) -> Result<(), AllocError> {
         for key in self.rules.required {
-            match self.table.get(key.name()) {
-                Some(value) => self.explain_kind(findings, *key, value)?,
-                None => self.explain_missing(findings, *key)?,
+            if self.rules.has(*key) {
+                match self.table.get(key.name()) {
+                    Some(value) => self.explain_kind(findings, *key, value)?,
+                    None => self.explain_missing(findings, *key)?,
+                }
             }
         }
         for key in self.rules.optional {
-            if let Some(value) = self.table.get(key.name()) {
-                self.explain_kind(findings, *key, value)?;
+            if self.rules.has(*key) {
+                if let Some(value) = self.table.get(key.name()) {
+                    self.explain_kind(findings, *key, value)?;
+                }
             }
         }
         Ok(())
@@ -118,6 +122,9 @@ impl Sheet<'_> {
     /// Tells of numbers that are out of their ranges, and of a text that can't be that of a note.
     pub fn explain_ranges(&self, findings: &mut Findings<'_>) -> Result<(), AllocError> {
         for key in self.rules.required.iter().chain(self.rules.optional.iter()) {
+            if !self.rules.has(*key) {
+                continue;
+            }
             let wanted = key.kind(self.ranks);
             if let Some(number) = integer_at(self.table, *key) {
                 if is_outside(number, wanted) {

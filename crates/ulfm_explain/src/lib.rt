@@ -15,7 +15,7 @@
 //! - `explanation.rt`, `place.rt`: what is wrong, and where; `marks.rt`, `walk.rt`: where keys and steps begin in a text
 //! - `cause.rt`: all that may be wrong; `refusal_cause.rt`: all that will be refused, `sure_refusals.rt`: which steps will be; `line.rt`: how both are put in words
 //! - `steps.rt`, `keys.rt`, `step_clauses.rt`, `never.rt`, `row_fault.rt`, `before.rt`, `block.rt`, `claim.rt`: what is looked at, a subject a file
-//! - `ops.rt`, `rules.rt`, `kind.rt`, `answers.rt`: what may stand in a job, as docs/JOBS.md has it; `answering.rt`: [`answers_at`], how the
+//! - `rules.rt`, `kind.rt`, `answers.rt`: what may stand in a job, as docs/JOBS.md has it; `answering.rt`: [`answers_at`], how the
 //!   answers of a step begin
 //! - `lines.rt`: steps written out, beside their places in the file; `script.rt`: those of one rank; `numbered_step.rt`, `excerpt.rt`: how they are named
 //! - `nearest.rt`, `mpi.rt`: what a misspelt word, or a word of MPI's, stands for
@@ -53,7 +53,6 @@ mod never;
 mod notes;
 mod numbered_step;
 mod only_names;
-mod ops;
 mod place;
 mod refusal_cause;
 mod remark_lines;

@@ -50,6 +50,9 @@ pub fn nearest_key(alloc: Global, word: &str, rules: &Rules) -> Result<Option<Ke
     let mut least = usize::MAX;
     let own = rules.required.iter().chain(rules.optional.iter());
     for key in own.chain(rules.asking.iter()) {
+        if !rules.has(*key) {
+            continue;
+        }
         if let Some(count) = edits_to_key(alloc, word, *key)? {
             if count < least {
                 least = count;

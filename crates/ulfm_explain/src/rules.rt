@@ -2,6 +2,7 @@
 
 use crate::kind::Kind;
 use std::fmt;
+use ulfm_job::Op;
 use ulfm_job::limits::{
     LAST_COMM, LAST_FLAG, LAST_RANK, LAST_STEP, LAST_TAG, MOST_CAPACITY, MOST_RANKS, MOST_ROOM,
     MOST_TURNS,
@@ -105,6 +106,16 @@ impl Key {
             Key::Is | Key::Not => Kind::Words,
         }
     }
+
+    /// Whether a step of an op may have it. A send has to have its tag, and each other step that has one may leave it out.
+    fn is_of(self, op: Op) -> bool {
+        let is_meant = match self {
+            Key::Tag => op == Op::Send,
+            Key::TagOrAny => op != Op::Send,
+            _ => true,
+        };
+        is_meant && op.keys().iter().any(|name| *name == self.name())
+    }
 }
 
 /// The keys of a table.
@@ -116,6 +127,8 @@ pub struct Rules {
     pub optional: &'static [Key],
     /// Keys that each step may have, and which are looked at last.
     pub asking: &'static [Key],
+    /// The op of a step, if it is known. Of all these keys the table has those of this op.
+    pub op: Option<Op>,
 }
 
 /// The keys that each step may have, and which are looked at last.
@@ -128,6 +141,7 @@ pub fn job_rules() -> Rules {
         required: &[Key::Ranks, Key::Capacity, Key::Turns],
         optional: &[Key::Step, Key::Never],
         asking: &[],
+        op: None,
     }
 }
 
@@ -146,6 +160,7 @@ pub fn condition_rules(has_is: bool, has_not: bool) -> Rules {
         },
         optional: &[],
         asking: &[],
+        op: None,
     }
 }
 
@@ -156,6 +171,7 @@ pub fn all_rules() -> Rules {
         required: &[Key::All],
         optional: &[],
         asking: &[],
+        op: None,
     }
 }
 
@@ -166,6 +182,7 @@ pub fn expect_rules() -> Rules {
         required: &[Key::Is, Key::Before],
         optional: &[],
         asking: &[],
+        op: None,
     }
 }
 
@@ -176,6 +193,7 @@ pub fn row_rules() -> Rules {
         required: &[Key::Row, Key::Before],
         optional: &[],
         asking: &[],
+        op: None,
     }
 }
 
@@ -197,15 +215,45 @@ pub fn any_step_rules() -> Rules {
             Key::Text,
         ],
         asking: ASKING,
+        op: None,
+    }
+}
+
+/// The keys of a step of an op, which are its own: their owner is its name.
+pub fn step_rules(op: Op) -> Rules {
+    Rules {
+        owner: op.name(),
+        required: &[
+            Key::Op,
+            Key::Rank,
+            Key::To,
+            Key::Tag,
+            Key::Body,
+            Key::Req,
+            Key::Count,
+            Key::Flag,
+            Key::Text,
+        ],
+        optional: &[Key::From, Key::TagOrAny, Key::Room, Key::Comm],
+        asking: ASKING,
+        op: Some(op),
     }
 }
 
 impl Rules {
+    /// Whether the table has this key of its lists.
+    pub fn has(&self, key: Key) -> bool {
+        match self.op {
+            Some(op) => key.is_of(op),
+            None => true,
+        }
+    }
+
     /// The key that is written like this, if the table has it.
     pub fn find(&self, name: &str) -> Option<Key> {
         let own = self.required.iter().chain(self.optional.iter());
         for key in own.chain(self.asking.iter()) {
-            if key.name() == name {
+            if key.name() == name && self.has(*key) {
                 return Some(*key);
             }
         }
@@ -223,14 +271,16 @@ impl fmt::Display for Key {
 impl fmt::Display for Rules {
     fn fmt<W: fmt::Write>(&self, f: &mut fmt::Formatter<W>) -> fmt::Result {
         write!(f, "{} has", self.owner)?;
-        for (place, key) in self.required.iter().chain(self.optional.iter()).enumerate() {
-            if place > 0 {
-                f.write_str(",")?;
+        let mut is_first = true;
+        let own = self.required.iter().chain(self.optional.iter());
+        for key in own.chain(self.asking.iter()) {
+            if self.has(*key) {
+                if !is_first {
+                    f.write_str(",")?;
+                }
+                write!(f, " {key}")?;
+                is_first = false;
             }
-            write!(f, " {key}")?;
-        }
-        for key in self.asking {
-            write!(f, ", {key}")?;
         }
         Ok(())
     }

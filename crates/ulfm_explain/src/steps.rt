@@ -10,8 +10,7 @@ use crate::keys::{Sheet, integer_at, list_at, text_at};
 use crate::mpi::instead_of;
 use crate::nearest::nearest_op;
 use crate::never::explain_never;
-use crate::ops::rules_of;
-use crate::rules::{Key, any_step_rules, job_rules};
+use crate::rules::{Key, any_step_rules, job_rules, step_rules};
 use crate::step_clauses::explain_asking;
 use std::alloc::AllocError;
 use toml::{Table, Value};
@@ -112,7 +111,7 @@ fn explain_step(
     };
     match Op::named(name) {
         Some(op) => {
-            sheet.rules = rules_of(op);
+            sheet.rules = step_rules(op);
             sheet.explain(findings)?;
             explain_asking(findings, steps, place, op, &sheet)
         }
