@@ -6,6 +6,7 @@ use crate::rules::Key;
 use crate::script::{Script, has_condition, op_of};
 use crate::steps::rank_of;
 use toml::Value;
+use ulfm_base::Context;
 use ulfm_job::Op;
 use ulfm_job::limits::MOST_BODY;
 
@@ -29,13 +30,24 @@ fn comm_of(step: &Value) -> i64 {
     }
 }
 
+/// The number of the communicator that a step makes, if it isn't refused.
+fn made_by(step: &Value) -> Option<u8> {
+    let of = match u8::try_from(comm_of(step)) {
+        Ok(number) => Context::new(number)?,
+        Err(_) => return None,
+    };
+    match op_of(step) {
+        Some(Op::Dup) => Some(of.dup_number()),
+        Some(Op::Shrink) => Some(of.shrink_number()),
+        _ => None,
+    }
+}
+
 /// Whether a step makes this communicator, if it isn't refused.
 fn makes(step: &Value, comm: i64) -> bool {
-    let twice = comm_of(step).saturating_mul(2);
-    match op_of(step) {
-        Some(Op::Dup) => twice.saturating_add(1) == comm,
-        Some(Op::Shrink) => twice.saturating_add(2) == comm,
-        _ => false,
+    match made_by(step) {
+        Some(made) => i64::from(made) == comm,
+        None => false,
     }
 }
 
