@@ -30,8 +30,8 @@ uint32_t um_awaited_by(const struct request *request);
 int um_start_collective(struct comm *comm, struct request **made);
 void um_send_bytes(struct request *collective, int to, const void *bytes, size_t length);
 void um_post_bytes(struct request *collective, int from, void *bytes, size_t room, struct landing *landing);
-void um_send_data(struct request *collective, int to, const void *buf, int count, MPI_Datatype type);
-void um_post_data(struct request *collective, int from, void *buf, int count, MPI_Datatype type);
+void um_send_data(struct request *collective, int to, struct data data);
+void um_post_data(struct request *collective, int from, struct data data);
 int um_wait_for_collective(struct comm *comm, int code, struct request **made);
 int um_give_collective(struct comm *comm, int code, struct request **made, MPI_Request *handle);
 

@@ -15,13 +15,11 @@ struct layout {
     const MPI_Datatype *types;
 };
 
-int um_count_at(const struct layout *layout, int k);
-MPI_Datatype um_type_of_part(const struct layout *layout, int k);
-char *um_part_at(const struct layout *layout, int k);
+struct data um_part_at(const struct layout *layout, int k);
 int um_check_layout(const struct layout *layout, const struct comm *comm);
 
 /* gather.c */
-int um_check_own(const void *buffer, int count, MPI_Datatype type, bool may_be_in_place);
-void um_copy_own(struct request *collective, const void *from, int sent, MPI_Datatype sendtype, void *to, int count, MPI_Datatype type);
+int um_check_own(struct data own, bool may_be_in_place);
+void um_copy_own(struct request *collective, struct data from, struct data to);
 
 #endif

@@ -62,9 +62,10 @@ static int exchange_with(struct request *made, int member, const struct parts *s
     MPI_Datatype out, in = MPI_DATATYPE_NULL;
     int code = join_parts(send, of->target, of->targets, member, 0, &out);
     if (code == MPI_SUCCESS) code = join_parts(recv, of->source, of->sources, member, turn, &in);
-    if (code == MPI_SUCCESS && member == made->comm->position && out && in) um_copy_own(made, MPI_BOTTOM, 1, out, MPI_BOTTOM, 1, in);
-    if (code == MPI_SUCCESS && out) um_send_data(made, member, MPI_BOTTOM, 1, out);
-    if (code == MPI_SUCCESS && in) um_post_data(made, member, MPI_BOTTOM, 1, in);
+    if (code == MPI_SUCCESS && member == made->comm->position && out && in)
+        um_copy_own(made, (struct data){MPI_BOTTOM, 1, out}, (struct data){MPI_BOTTOM, 1, in});
+    if (code == MPI_SUCCESS && out) um_send_data(made, member, (struct data){MPI_BOTTOM, 1, out});
+    if (code == MPI_SUCCESS && in) um_post_data(made, member, (struct data){MPI_BOTTOM, 1, in});
     um_drop_type(out);
     um_drop_type(in);
     return code;

@@ -77,28 +77,28 @@ void um_post_bytes(struct request *collective, int from, void *bytes, size_t roo
 }
 
 /* Sends data to a member, or to all others where `to` is MPI_UNDEFINED. */
-void um_send_data(struct request *collective, int to, const void *buf, int count, MPI_Datatype type) {
-    const void *data;
+void um_send_data(struct request *collective, int to, struct data data) {
+    const void *sent;
     void *packed;
     size_t bytes;
     int code;
     if (to == collective->comm->position) return;
-    um_check_buffer(count, type, &bytes, &code);
-    code = um_pack_data(buf, count, type, &data, &packed);
+    um_check_buffer(data.count, data.type, &bytes, &code);
+    code = um_pack_data(data.at, data.count, data.type, &sent, &packed);
     note(collective, code);
     for (int k = 0; k < collective->comm->size && code == MPI_SUCCESS; k++)
-        if (to == k || to == MPI_UNDEFINED) um_send_bytes(collective, k, data, bytes);
+        if (to == k || to == MPI_UNDEFINED) um_send_bytes(collective, k, sent, bytes);
     free(packed);
 }
 
 /* Posts the receive of a member's data. */
-void um_post_data(struct request *collective, int from, void *buf, int count, MPI_Datatype type) {
+void um_post_data(struct request *collective, int from, struct data data) {
     struct landing *landing;
     size_t bytes;
     int code;
-    um_check_buffer(count, type, &bytes, &code);
-    if (!um_make_landing(buf, count, type, &landing)) note(collective, MPI_ERR_NO_MEM);
-    else um_post_bytes(collective, from, landing ? um_bytes_of_landing(landing) : buf, bytes, landing);
+    um_check_buffer(data.count, data.type, &bytes, &code);
+    if (!um_make_landing(um_into(data), data.count, data.type, &landing)) note(collective, MPI_ERR_NO_MEM);
+    else um_post_bytes(collective, from, landing ? um_bytes_of_landing(landing) : um_into(data), bytes, landing);
 }
 
 /* Waits until a collective that was begun is over. What came of it. */
@@ -130,8 +130,8 @@ int MPI_Ibarrier(MPI_Comm comm, MPI_Request *handle) {
     GIVES(of, handle);
     int code = of ? um_start_collective(of, &made) : MPI_ERR_COMM;
     if (code == MPI_SUCCESS && !made->over) {
-        um_send_data(made, MPI_UNDEFINED, 0, 0, MPI_BYTE);
-        for (int k = 0; k < of->size; k++) um_post_data(made, k, 0, 0, MPI_BYTE);
+        um_send_data(made, MPI_UNDEFINED, (struct data){0, 0, MPI_BYTE});
+        for (int k = 0; k < of->size; k++) um_post_data(made, k, (struct data){0, 0, MPI_BYTE});
     }
     return um_give_collective(of, code, &made, handle);
 }
@@ -145,8 +145,8 @@ int MPI_Ibcast(void *buf, int count, MPI_Datatype type, int root, MPI_Comm comm,
     int code = um_check_broadcast(of, buf, count, type, root, &bytes);
     if (code == MPI_SUCCESS) code = um_start_collective(of, &made);
     if (code == MPI_SUCCESS && !made->over) {
-        if (of->position == root) um_send_data(made, MPI_UNDEFINED, buf, count, type);
-        else um_post_data(made, root, buf, count, type);
+        if (of->position == root) um_send_data(made, MPI_UNDEFINED, (struct data){buf, count, type});
+        else um_post_data(made, root, (struct data){buf, count, type});
     }
     return um_give_collective(of, code, &made, handle);
 }

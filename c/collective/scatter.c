@@ -2,18 +2,17 @@
 #include "collective/collective.h"
 #include "collective/layout.h"
 
-static int begin_scatter(const struct layout *from, void *recvbuf, int recvcount, MPI_Datatype recvtype, int root, struct comm *comm,
-                         struct request **made) {
+static int begin_scatter(const struct layout *from, struct data own, int root, struct comm *comm, struct request **made) {
     if (!comm) return MPI_ERR_COMM;
     bool is_root = comm->position == root;
-    int code = root < 0 || root >= comm->size ? MPI_ERR_ROOT : um_check_own(recvbuf, recvcount, recvtype, is_root);
+    int code = root < 0 || root >= comm->size ? MPI_ERR_ROOT : um_check_own(own, is_root);
     if (code == MPI_SUCCESS && is_root) code = um_check_layout(from, comm);
     if (code != MPI_SUCCESS) return um_refuse_collective(comm, code);
     code = um_start_collective(comm, made);
     if (code != MPI_SUCCESS || (*made)->over) return code;
-    if (is_root) um_copy_own(*made, um_part_at(from, root), um_count_at(from, root), from->type, recvbuf, recvcount, recvtype);
-    else um_post_data(*made, root, recvbuf, recvcount, recvtype);
-    for (int k = 0; k < comm->size && is_root; k++) um_send_data(*made, k, um_part_at(from, k), um_count_at(from, k), from->type);
+    if (is_root) um_copy_own(*made, um_part_at(from, root), own);
+    else um_post_data(*made, root, own);
+    for (int k = 0; k < comm->size && is_root; k++) um_send_data(*made, k, um_part_at(from, k));
     return MPI_SUCCESS;
 }
 
@@ -23,7 +22,7 @@ int MPI_Scatter(const void *sendbuf, int sendcount, MPI_Datatype sendtype, void 
     struct request *made;
     struct layout from = {.at = (char *)(uintptr_t)sendbuf, .count = sendcount, .type = sendtype};
     ENTER(of, MPI_UNDEFINED, MPI_UNDEFINED);
-    return um_wait_for_collective(of, begin_scatter(&from, recvbuf, recvcount, recvtype, root, of, &made), &made);
+    return um_wait_for_collective(of, begin_scatter(&from, (struct data){recvbuf, recvcount, recvtype}, root, of, &made), &made);
 }
 
 int MPI_Iscatter(const void *sendbuf, int sendcount, MPI_Datatype sendtype, void *recvbuf, int recvcount, MPI_Datatype recvtype, int root,
@@ -33,7 +32,7 @@ int MPI_Iscatter(const void *sendbuf, int sendcount, MPI_Datatype sendtype, void
     struct layout from = {.at = (char *)(uintptr_t)sendbuf, .count = sendcount, .type = sendtype};
     ENTER(of, MPI_UNDEFINED, MPI_UNDEFINED);
     GIVES(of, handle);
-    return um_give_collective(of, begin_scatter(&from, recvbuf, recvcount, recvtype, root, of, &made), &made, handle);
+    return um_give_collective(of, begin_scatter(&from, (struct data){recvbuf, recvcount, recvtype}, root, of, &made), &made, handle);
 }
 
 int MPI_Scatterv(const void *sendbuf, const int sendcounts[], const int displs[], MPI_Datatype sendtype, void *recvbuf, int recvcount,
@@ -42,7 +41,7 @@ int MPI_Scatterv(const void *sendbuf, const int sendcounts[], const int displs[]
     struct request *made;
     struct layout from = {.at = (char *)(uintptr_t)sendbuf, .has_counts = true, .counts = sendcounts, .displs = displs, .type = sendtype};
     ENTER(of, MPI_UNDEFINED, MPI_UNDEFINED);
-    return um_wait_for_collective(of, begin_scatter(&from, recvbuf, recvcount, recvtype, root, of, &made), &made);
+    return um_wait_for_collective(of, begin_scatter(&from, (struct data){recvbuf, recvcount, recvtype}, root, of, &made), &made);
 }
 
 int MPI_Iscatterv(const void *sendbuf, const int sendcounts[], const int displs[], MPI_Datatype sendtype, void *recvbuf, int recvcount,
@@ -52,7 +51,7 @@ int MPI_Iscatterv(const void *sendbuf, const int sendcounts[], const int displs[
     struct layout from = {.at = (char *)(uintptr_t)sendbuf, .has_counts = true, .counts = sendcounts, .displs = displs, .type = sendtype};
     ENTER(of, MPI_UNDEFINED, MPI_UNDEFINED);
     GIVES(of, handle);
-    return um_give_collective(of, begin_scatter(&from, recvbuf, recvcount, recvtype, root, of, &made), &made, handle);
+    return um_give_collective(of, begin_scatter(&from, (struct data){recvbuf, recvcount, recvtype}, root, of, &made), &made, handle);
 }
 
 /* What goes out is sent before a receive is posted, which in place would write over it. */
@@ -65,11 +64,9 @@ static int begin_alltoall(const struct layout *from, const struct layout *to, st
     code = um_start_collective(comm, made);
     if (code != MPI_SUCCESS || (*made)->over) return code;
     if (is_in_place) from = to;
-    else
-        um_copy_own(*made, um_part_at(from, at), um_count_at(from, at), um_type_of_part(from, at), um_part_at(to, at), um_count_at(to, at),
-                    um_type_of_part(to, at));
-    for (int k = 0; k < comm->size; k++) um_send_data(*made, k, um_part_at(from, k), um_count_at(from, k), um_type_of_part(from, k));
-    for (int k = 0; k < comm->size; k++) um_post_data(*made, k, um_part_at(to, k), um_count_at(to, k), um_type_of_part(to, k));
+    else um_copy_own(*made, um_part_at(from, at), um_part_at(to, at));
+    for (int k = 0; k < comm->size; k++) um_send_data(*made, k, um_part_at(from, k));
+    for (int k = 0; k < comm->size; k++) um_post_data(*made, k, um_part_at(to, k));
     return MPI_SUCCESS;
 }
 

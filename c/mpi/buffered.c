@@ -47,28 +47,30 @@ int MPI_Buffer_detach_c(void *buffer, MPI_Count *size) {
 }
 
 /* Whether the message and its overhead fit into what is attached; wrong arguments have their own class. */
-static int check_room(const void *buf, int count, MPI_Datatype type, int dest, int tag, const struct comm *comm) {
+static int check_room(const struct transfer *send) {
     size_t bytes;
-    int code = um_check_message(buf, count, type, dest, tag, comm, false);
-    if (code != MPI_SUCCESS || dest == MPI_PROC_NULL || !um_check_buffer(count, type, &bytes, &code)) return code;
+    int code = um_check_transfer(send, false);
+    if (code != MPI_SUCCESS || send->peer == MPI_PROC_NULL || !um_check_buffer(send->data.count, send->data.type, &bytes, &code)) return code;
     return bytes + MPI_BSEND_OVERHEAD > (size_t)um_me->mpi.attached_size ? MPI_ERR_BUFFER : MPI_SUCCESS;
 }
 
 int MPI_Bsend(const void *buf, int count, MPI_Datatype type, int dest, int tag, MPI_Comm comm) {
     struct comm *of = um_comm_at(comm);
+    struct transfer send = {{buf, count, type}, dest, tag, of};
     ENTER(of, dest, tag);
-    int code = check_room(buf, count, type, dest, tag, of);
-    return um_answer(of, code != MPI_SUCCESS ? code : um_send_buffered(buf, count, type, dest, tag, of));
+    int code = check_room(&send);
+    return um_answer(of, code != MPI_SUCCESS ? code : um_send_buffered(&send));
 }
 
 int MPI_Ibsend(const void *buf, int count, MPI_Datatype type, int dest, int tag, MPI_Comm comm, MPI_Request *request) {
     struct comm *of = um_comm_at(comm);
+    struct transfer send = {{buf, count, type}, dest, tag, of};
     struct request *begun;
     ENTER(of, dest, tag);
     WRITES(of, request);
     *request = MPI_REQUEST_NULL;
-    int code = check_room(buf, count, type, dest, tag, of);
-    if (code == MPI_SUCCESS) code = um_begin_send(buf, count, type, dest, tag, of, false, &begun);
+    int code = check_room(&send);
+    if (code == MPI_SUCCESS) code = um_begin_send(&send, false, &begun);
     if (code == MPI_SUCCESS) *request = (MPI_Request)(uintptr_t)begun->handle;
     return um_answer(of, code);
 }

@@ -3,7 +3,7 @@
 #ifndef UM_CALLS_H
 #define UM_CALLS_H
 
-#include "progress/rank.h"
+#include "types/types.h"
 
 /* An older name of a call. A report has the newer one. */
 #define ALSO(name, of) extern __typeof__(of) name __attribute__((alias(#of)))
@@ -85,13 +85,18 @@ int *um_last_used_code(void);
 void um_clear_added(void);
 
 /* point.c, persistent.c */
-int um_check_message(const void *buf, int count, MPI_Datatype type, int peer, int tag, const struct comm *comm, bool is_receive);
-int um_begin_send(const void *buf, int count, MPI_Datatype type, int dest, int tag, struct comm *comm, bool waits, struct request **made);
-int um_begin_receive(void *buf, int count, MPI_Datatype type, int source, int tag, struct comm *comm, struct request **made);
-int um_begin_both(const void *sendbuf, int sendcount, MPI_Datatype sendtype, int dest, int sendtag, void *recvbuf, int recvcount,
-                  MPI_Datatype recvtype, int source, int recvtag, struct comm *comm, struct request **receive, struct request **send);
-int um_copy_to_send(const void *buf, int count, MPI_Datatype type, int dest, int tag, const struct comm *comm, void **copy, size_t *bytes);
-int um_send_buffered(const void *buf, int count, MPI_Datatype type, int dest, int tag, struct comm *comm);
+/* What a send or a receive is told: the data, and to or from whom they go. */
+struct transfer {
+    struct data data;
+    int peer, tag;
+    struct comm *comm;
+};
+int um_check_transfer(const struct transfer *of, bool is_receive);
+int um_begin_send(const struct transfer *send, bool waits, struct request **made);
+int um_begin_receive(const struct transfer *receive, struct request **made);
+int um_begin_both(const struct transfer *send, const struct transfer *receive, struct request **sent, struct request **received);
+int um_copy_to_send(struct transfer *send);
+int um_send_buffered(const struct transfer *send);
 void um_free_start(struct start *start);
 
 /* attribute.c */

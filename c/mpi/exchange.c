@@ -19,20 +19,19 @@ int um_look_at_exchange(struct request *exchange) {
     return MPI_SUCCESS;
 }
 
-static int isendrecv(const void *sendbuf, int sendcount, MPI_Datatype sendtype, int dest, int sendtag, void *recvbuf, int recvcount,
-                     MPI_Datatype recvtype, int source, int recvtag, struct comm *comm, MPI_Request *handle) {
-    struct request *receive, *send;
-    int code = um_begin_both(sendbuf, sendcount, sendtype, dest, sendtag, recvbuf, recvcount, recvtype, source, recvtag, comm, &receive, &send);
+static int isendrecv(const struct transfer *send, const struct transfer *receive, MPI_Request *handle) {
+    struct request *sent, *received;
+    int code = um_begin_both(send, receive, &sent, &received);
     if (code != MPI_SUCCESS) return code;
-    struct request *exchange = um_new_request(EXCHANGE, comm, source, recvtag);
+    struct request *exchange = um_new_request(EXCHANGE, receive->comm, receive->peer, receive->tag);
     if (!exchange) {
-        um_withdraw(receive);
-        um_free_request(receive);
-        um_free_request(send);
+        um_withdraw(received);
+        um_free_request(received);
+        um_free_request(sent);
         return MPI_ERR_NO_MEM;
     }
-    exchange->parts[RECEIVED] = receive;
-    exchange->parts[GIVEN] = send;
+    exchange->parts[RECEIVED] = received;
+    exchange->parts[GIVEN] = sent;
     *handle = (MPI_Request)(uintptr_t)exchange->handle;
     return MPI_SUCCESS;
 }
@@ -40,24 +39,25 @@ static int isendrecv(const void *sendbuf, int sendcount, MPI_Datatype sendtype, 
 int MPI_Isendrecv(const void *sendbuf, int sendcount, MPI_Datatype sendtype, int dest, int sendtag, void *recvbuf, int recvcount,
                   MPI_Datatype recvtype, int source, int recvtag, MPI_Comm comm, MPI_Request *request) {
     struct comm *of = um_comm_at(comm);
+    struct transfer send = {{sendbuf, sendcount, sendtype}, dest, sendtag, of};
+    struct transfer receive = {{recvbuf, recvcount, recvtype}, source, recvtag, of};
     ENTER(of, source, recvtag);
     WRITES(of, request);
     *request = MPI_REQUEST_NULL;
-    return um_answer(of, isendrecv(sendbuf, sendcount, sendtype, dest, sendtag, recvbuf, recvcount, recvtype, source, recvtag, of, request));
+    return um_answer(of, isendrecv(&send, &receive, request));
 }
 
 /* What is sent is copied in the call. */
 int MPI_Isendrecv_replace(void *buf, int count, MPI_Datatype type, int dest, int sendtag, int source, int recvtag, MPI_Comm comm,
                           MPI_Request *request) {
     struct comm *of = um_comm_at(comm);
-    void *copy;
-    size_t bytes = 0;
+    struct transfer send = {{buf, count, type}, dest, sendtag, of}, receive = {{buf, count, type}, source, recvtag, of};
     ENTER(of, source, recvtag);
     WRITES(of, request);
     *request = MPI_REQUEST_NULL;
-    int code = um_copy_to_send(buf, count, type, dest, sendtag, of, &copy, &bytes);
+    int code = um_copy_to_send(&send);
     if (code != MPI_SUCCESS) return um_fail(of, code);
-    code = isendrecv(copy, (int)bytes, MPI_BYTE, dest, sendtag, buf, count, type, source, recvtag, of, request);
-    free(copy);
+    code = isendrecv(&send, &receive, request);
+    free(um_into(send.data));
     return um_answer(of, code);
 }

@@ -6,29 +6,28 @@
 
 struct start {
     bool is_receive, waits;
-    void *buf;
-    int count;
-    MPI_Datatype type;
+    struct transfer what;
 };
 
 void um_free_start(struct start *start) {
-    if (start) um_drop_type(start->type);
+    if (start) um_drop_type(start->what.data.type);
     free(start);
 }
 
-static int init(const struct start *start, int peer, int tag, struct comm *comm, MPI_Request *handle) {
+static int init(struct start start, MPI_Request *handle) {
+    struct comm *comm = start.what.comm;
     WRITES(comm, handle);
     *handle = MPI_REQUEST_NULL;
-    int code = um_check_message(start->buf, start->count, start->type, peer, tag, comm, start->is_receive);
+    int code = um_check_transfer(&start.what, start.is_receive);
     if (code != MPI_SUCCESS) return um_fail(comm, code);
-    struct request *request = um_new_request(PERSISTENT, comm, peer, tag);
-    if (request) request->start = malloc(sizeof *start);
+    struct request *request = um_new_request(PERSISTENT, comm, start.what.peer, start.what.tag);
+    if (request) request->start = malloc(sizeof start);
     if (!request || !request->start) {
         if (request) um_free_request(request);
         return um_fail(comm, MPI_ERR_NO_MEM);
     }
-    *request->start = *start;
-    request->start->type = um_keep_type(start->type);
+    start.what.data.type = um_keep_type(start.what.data.type);
+    *request->start = start;
     *handle = (MPI_Request)(uintptr_t)request->handle;
     return MPI_SUCCESS;
 }
@@ -36,31 +35,31 @@ static int init(const struct start *start, int peer, int tag, struct comm *comm,
 int MPI_Send_init(const void *buf, int count, MPI_Datatype type, int dest, int tag, MPI_Comm comm, MPI_Request *request) {
     struct comm *of = um_comm_at(comm);
     ENTER_LOOK(of, dest, tag);
-    return init(&(struct start){false, um_options.sends_wait, (void *)(uintptr_t)buf, count, type}, dest, tag, of, request);
+    return init((struct start){false, um_options.sends_wait, {{buf, count, type}, dest, tag, of}}, request);
 }
 
 int MPI_Rsend_init(const void *buf, int count, MPI_Datatype type, int dest, int tag, MPI_Comm comm, MPI_Request *request) {
     struct comm *of = um_comm_at(comm);
     ENTER_LOOK(of, dest, tag);
-    return init(&(struct start){false, um_options.sends_wait, (void *)(uintptr_t)buf, count, type}, dest, tag, of, request);
+    return init((struct start){false, um_options.sends_wait, {{buf, count, type}, dest, tag, of}}, request);
 }
 
 int MPI_Bsend_init(const void *buf, int count, MPI_Datatype type, int dest, int tag, MPI_Comm comm, MPI_Request *request) {
     struct comm *of = um_comm_at(comm);
     ENTER_LOOK(of, dest, tag);
-    return init(&(struct start){false, false, (void *)(uintptr_t)buf, count, type}, dest, tag, of, request);
+    return init((struct start){false, false, {{buf, count, type}, dest, tag, of}}, request);
 }
 
 int MPI_Ssend_init(const void *buf, int count, MPI_Datatype type, int dest, int tag, MPI_Comm comm, MPI_Request *request) {
     struct comm *of = um_comm_at(comm);
     ENTER_LOOK(of, dest, tag);
-    return init(&(struct start){false, true, (void *)(uintptr_t)buf, count, type}, dest, tag, of, request);
+    return init((struct start){false, true, {{buf, count, type}, dest, tag, of}}, request);
 }
 
 int MPI_Recv_init(void *buf, int count, MPI_Datatype type, int source, int tag, MPI_Comm comm, MPI_Request *request) {
     struct comm *of = um_comm_at(comm);
     ENTER_LOOK(of, source, tag);
-    return init(&(struct start){true, false, buf, count, type}, source, tag, of, request);
+    return init((struct start){true, false, {{buf, count, type}, source, tag, of}}, request);
 }
 
 /* Starts a persistent request that isn't active. */
@@ -70,8 +69,8 @@ static int start(MPI_Request handle) {
     const struct start *of = request->start;
     int code;
     if (request->repeated) return um_start_repeated(request->repeated, request->comm, &request->active);
-    if (of->is_receive) code = um_begin_receive(of->buf, of->count, of->type, request->peer, request->tag, request->comm, &request->active);
-    else code = um_begin_send(of->buf, of->count, of->type, request->peer, request->tag, request->comm, of->waits, &request->active);
+    if (of->is_receive) code = um_begin_receive(&of->what, &request->active);
+    else code = um_begin_send(&of->what, of->waits, &request->active);
     return um_answer(request->comm, code);
 }
 

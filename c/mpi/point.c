@@ -1,70 +1,70 @@
 /* Sends and receives (MPI 4.0, 3.2, 3.4, 3.7, 3.10). A failure or a revocation that a send or a receive which doesn't block meets is told where
    its request ends; wrong arguments are told at once. A standard send is buffered; with --sends wait it ends at its match. */
 #include "mpi/calls.h"
-#include "types/types.h"
 #include <limits.h>
 #include <stdlib.h>
 #include <string.h>
 
 /* Why a message can't be sent or received, or MPI_SUCCESS, and its bytes. */
-static inline int check(const void *buf, int count, MPI_Datatype type, int peer, int tag, const struct comm *comm, bool is_receive, size_t *bytes) {
+static inline int check(const struct transfer *of, bool is_receive, size_t *bytes) {
     int code;
-    if (!comm) return MPI_ERR_COMM;
-    if (!um_check_type(count, type, bytes, &code)) return code;
-    bool is_any = is_receive && peer == MPI_ANY_SOURCE;
-    if (!is_any && peer != MPI_PROC_NULL && (peer < 0 || peer >= comm->size)) return MPI_ERR_RANK;
-    if (!(is_receive && tag == MPI_ANY_TAG) && (tag < 0 || tag > MPI_TAG_UB_VALUE)) return MPI_ERR_TAG;
-    if (!um_is_buffer(buf, *bytes, type)) return MPI_ERR_BUFFER;
+    if (!of->comm) return MPI_ERR_COMM;
+    if (!um_check_type(of->data.count, of->data.type, bytes, &code)) return code;
+    bool is_any = is_receive && of->peer == MPI_ANY_SOURCE;
+    if (!is_any && of->peer != MPI_PROC_NULL && (of->peer < 0 || of->peer >= of->comm->size)) return MPI_ERR_RANK;
+    if (!(is_receive && of->tag == MPI_ANY_TAG) && (of->tag < 0 || of->tag > MPI_TAG_UB_VALUE)) return MPI_ERR_TAG;
+    if (!um_is_buffer(of->data.at, *bytes, of->data.type)) return MPI_ERR_BUFFER;
     return MPI_SUCCESS;
 }
 
 /* Why a message can't be sent or received, or MPI_SUCCESS. */
-int um_check_message(const void *buf, int count, MPI_Datatype type, int peer, int tag, const struct comm *comm, bool is_receive) {
+int um_check_transfer(const struct transfer *of, bool is_receive) {
     size_t bytes;
-    return check(buf, count, type, peer, tag, comm, is_receive, &bytes);
+    return check(of, is_receive, &bytes);
 }
 
-int um_begin_send(const void *buf, int count, MPI_Datatype type, int dest, int tag, struct comm *comm, bool waits, struct request **made) {
+int um_begin_send(const struct transfer *send, bool waits, struct request **made) {
     size_t bytes = 0;
-    int code = check(buf, count, type, dest, tag, comm, false, &bytes);
+    int code = check(send, false, &bytes);
     if (code != MPI_SUCCESS) return code;
     const void *data;
     void *packed;
-    code = um_pack_data(buf, count, type, &data, &packed);
+    code = um_pack_data(send->data.at, send->data.count, send->data.type, &data, &packed);
     if (code != MPI_SUCCESS) return code;
-    *made = um_new_request(SENT, comm, dest, tag);
+    *made = um_new_request(SENT, send->comm, send->peer, send->tag);
     if (*made) um_start_send(*made, data, bytes, waits);
     free(packed);
     return *made ? MPI_SUCCESS : MPI_ERR_NO_MEM;
 }
 
 /* A send that is complete in its call needs no request. */
-int um_send_buffered(const void *buf, int count, MPI_Datatype type, int dest, int tag, struct comm *comm) {
+int um_send_buffered(const struct transfer *send) {
     size_t bytes = 0;
     const void *data;
     void *packed;
-    int code = check(buf, count, type, dest, tag, comm, false, &bytes);
-    if (code != MPI_SUCCESS || dest == MPI_PROC_NULL) return code;
-    if (um_type_at(type)->is_plain) return um_send_now(comm, dest, tag, buf, bytes, 0);
-    code = um_pack_data(buf, count, type, &data, &packed);
-    if (code == MPI_SUCCESS) code = um_send_now(comm, dest, tag, data, bytes, 0);
+    int code = check(send, false, &bytes);
+    if (code != MPI_SUCCESS || send->peer == MPI_PROC_NULL) return code;
+    if (um_type_at(send->data.type)->is_plain) return um_send_now(send->comm, send->peer, send->tag, send->data.at, bytes, 0);
+    code = um_pack_data(send->data.at, send->data.count, send->data.type, &data, &packed);
+    if (code == MPI_SUCCESS) code = um_send_now(send->comm, send->peer, send->tag, data, bytes, 0);
     free(packed);
     return code;
 }
 
-int um_begin_receive(void *buf, int count, MPI_Datatype type, int source, int tag, struct comm *comm, struct request **made) {
+int um_begin_receive(const struct transfer *receive, struct request **made) {
+    const struct data data = receive->data;
     size_t bytes = 0;
-    int code = check(buf, count, type, source, tag, comm, true, &bytes);
+    int code = check(receive, true, &bytes);
     if (code != MPI_SUCCESS) return code;
     struct landing *landing = 0;
-    if (!um_type_at(type)->is_plain && !um_make_landing(buf, count, type, &landing)) return MPI_ERR_NO_MEM;
-    *made = um_new_request(RECEIVE, comm, source, tag);
+    if (!um_type_at(data.type)->is_plain && !um_make_landing(um_into(data), data.count, data.type, &landing)) return MPI_ERR_NO_MEM;
+    *made = um_new_request(RECEIVE, receive->comm, receive->peer, receive->tag);
     if (!*made) {
         um_free_landing(landing);
         return MPI_ERR_NO_MEM;
     }
     (*made)->landing = landing;
-    um_start_receive(*made, landing ? um_bytes_of_landing(landing) : buf, bytes);
+    um_start_receive(*made, landing ? um_bytes_of_landing(landing) : um_into(data), bytes);
     return MPI_SUCCESS;
 }
 
@@ -82,45 +82,45 @@ static int finish(struct request *request, MPI_Status *status) {
     return code;
 }
 
-static int send_and_wait(const void *buf, int count, MPI_Datatype type, int dest, int tag, struct comm *comm, bool waits) {
+static int send_and_wait(const struct transfer *send, bool waits) {
     struct request *request;
-    if (!waits) return um_answer(comm, um_send_buffered(buf, count, type, dest, tag, comm));
-    int code = um_begin_send(buf, count, type, dest, tag, comm, waits, &request);
-    return code != MPI_SUCCESS ? um_fail(comm, code) : um_answer(comm, finish(request, 0));
+    if (!waits) return um_answer(send->comm, um_send_buffered(send));
+    int code = um_begin_send(send, waits, &request);
+    return code != MPI_SUCCESS ? um_fail(send->comm, code) : um_answer(send->comm, finish(request, 0));
 }
 
 int MPI_Send(const void *buf, int count, MPI_Datatype type, int dest, int tag, MPI_Comm comm) {
     struct comm *of = um_comm_at(comm);
     ENTER(of, dest, tag);
-    return send_and_wait(buf, count, type, dest, tag, of, um_options.sends_wait);
+    return send_and_wait(&(struct transfer){{buf, count, type}, dest, tag, of}, um_options.sends_wait);
 }
 
 int MPI_Ssend(const void *buf, int count, MPI_Datatype type, int dest, int tag, MPI_Comm comm) {
     struct comm *of = um_comm_at(comm);
     ENTER(of, dest, tag);
-    return send_and_wait(buf, count, type, dest, tag, of, true);
+    return send_and_wait(&(struct transfer){{buf, count, type}, dest, tag, of}, true);
 }
 
 int MPI_Rsend(const void *buf, int count, MPI_Datatype type, int dest, int tag, MPI_Comm comm) {
     struct comm *of = um_comm_at(comm);
     ENTER(of, dest, tag);
-    return send_and_wait(buf, count, type, dest, tag, of, um_options.sends_wait);
+    return send_and_wait(&(struct transfer){{buf, count, type}, dest, tag, of}, um_options.sends_wait);
 }
 
 int MPI_Recv(void *buf, int count, MPI_Datatype type, int source, int tag, MPI_Comm comm, MPI_Status *status) {
     struct comm *of = um_comm_at(comm);
     struct request *request;
     ENTER(of, source, tag);
-    int code = um_begin_receive(buf, count, type, source, tag, of, &request);
+    int code = um_begin_receive(&(struct transfer){{buf, count, type}, source, tag, of}, &request);
     return code != MPI_SUCCESS ? um_fail(of, code) : um_answer(of, finish(request, status));
 }
 
-static int isend(const void *buf, int count, MPI_Datatype type, int dest, int tag, struct comm *comm, bool waits, MPI_Request *made) {
+static int isend(const struct transfer *send, bool waits, MPI_Request *made) {
     struct request *request;
-    WRITES(comm, made);
+    WRITES(send->comm, made);
     *made = MPI_REQUEST_NULL;
-    int code = um_begin_send(buf, count, type, dest, tag, comm, waits, &request);
-    if (code != MPI_SUCCESS) return um_fail(comm, code);
+    int code = um_begin_send(send, waits, &request);
+    if (code != MPI_SUCCESS) return um_fail(send->comm, code);
     *made = (MPI_Request)(uintptr_t)request->handle;
     return MPI_SUCCESS;
 }
@@ -128,19 +128,19 @@ static int isend(const void *buf, int count, MPI_Datatype type, int dest, int ta
 int MPI_Isend(const void *buf, int count, MPI_Datatype type, int dest, int tag, MPI_Comm comm, MPI_Request *request) {
     struct comm *of = um_comm_at(comm);
     ENTER(of, dest, tag);
-    return isend(buf, count, type, dest, tag, of, um_options.sends_wait, request);
+    return isend(&(struct transfer){{buf, count, type}, dest, tag, of}, um_options.sends_wait, request);
 }
 
 int MPI_Issend(const void *buf, int count, MPI_Datatype type, int dest, int tag, MPI_Comm comm, MPI_Request *request) {
     struct comm *of = um_comm_at(comm);
     ENTER(of, dest, tag);
-    return isend(buf, count, type, dest, tag, of, true, request);
+    return isend(&(struct transfer){{buf, count, type}, dest, tag, of}, true, request);
 }
 
 int MPI_Irsend(const void *buf, int count, MPI_Datatype type, int dest, int tag, MPI_Comm comm, MPI_Request *request) {
     struct comm *of = um_comm_at(comm);
     ENTER(of, dest, tag);
-    return isend(buf, count, type, dest, tag, of, um_options.sends_wait, request);
+    return isend(&(struct transfer){{buf, count, type}, dest, tag, of}, um_options.sends_wait, request);
 }
 
 int MPI_Irecv(void *buf, int count, MPI_Datatype type, int source, int tag, MPI_Comm comm, MPI_Request *request) {
@@ -149,61 +149,63 @@ int MPI_Irecv(void *buf, int count, MPI_Datatype type, int source, int tag, MPI_
     ENTER(of, source, tag);
     WRITES(of, request);
     *request = MPI_REQUEST_NULL;
-    int code = um_begin_receive(buf, count, type, source, tag, of, &begun);
+    int code = um_begin_receive(&(struct transfer){{buf, count, type}, source, tag, of}, &begun);
     if (code != MPI_SUCCESS) return um_fail(of, code);
     *request = (MPI_Request)(uintptr_t)begun->handle;
     return MPI_SUCCESS;
 }
 
 /* Begins a receive, then a send. */
-int um_begin_both(const void *sendbuf, int sendcount, MPI_Datatype sendtype, int dest, int sendtag, void *recvbuf, int recvcount,
-                  MPI_Datatype recvtype, int source, int recvtag, struct comm *comm, struct request **receive, struct request **send) {
-    int code = um_begin_receive(recvbuf, recvcount, recvtype, source, recvtag, comm, receive);
+int um_begin_both(const struct transfer *send, const struct transfer *receive, struct request **sent, struct request **received) {
+    int code = um_begin_receive(receive, received);
     if (code != MPI_SUCCESS) return code;
-    code = um_begin_send(sendbuf, sendcount, sendtype, dest, sendtag, comm, um_options.sends_wait, send);
+    code = um_begin_send(send, um_options.sends_wait, sent);
     if (code == MPI_SUCCESS) return code;
-    um_withdraw(*receive);
-    um_free_request(*receive);
+    um_withdraw(*received);
+    um_free_request(*received);
     return code;
 }
 
 /* Sends and receives at the same time. The receive's error is told before the send's. */
-static int exchange(const void *sendbuf, int sendcount, MPI_Datatype sendtype, int dest, int sendtag, void *recvbuf, int recvcount,
-                    MPI_Datatype recvtype, int source, int recvtag, struct comm *comm, MPI_Status *status) {
-    struct request *receive, *send;
-    int code = um_begin_both(sendbuf, sendcount, sendtype, dest, sendtag, recvbuf, recvcount, recvtype, source, recvtag, comm, &receive, &send);
+static int exchange(const struct transfer *send, const struct transfer *receive, MPI_Status *status) {
+    struct request *sent, *received;
+    int code = um_begin_both(send, receive, &sent, &received);
     if (code != MPI_SUCCESS) return code;
-    code = finish(receive, status);
-    int sent = finish(send, 0);
-    return code != MPI_SUCCESS ? code : sent;
+    code = finish(received, status);
+    int of_send = finish(sent, 0);
+    return code != MPI_SUCCESS ? code : of_send;
 }
 
 int MPI_Sendrecv(const void *sendbuf, int sendcount, MPI_Datatype sendtype, int dest, int sendtag, void *recvbuf, int recvcount,
                  MPI_Datatype recvtype, int source, int recvtag, MPI_Comm comm, MPI_Status *status) {
     struct comm *of = um_comm_at(comm);
+    struct transfer send = {{sendbuf, sendcount, sendtype}, dest, sendtag, of};
+    struct transfer receive = {{recvbuf, recvcount, recvtype}, source, recvtag, of};
     ENTER(of, source, recvtag);
-    return um_answer(of, exchange(sendbuf, sendcount, sendtype, dest, sendtag, recvbuf, recvcount, recvtype, source, recvtag, of, status));
+    return um_answer(of, exchange(&send, &receive, status));
 }
 
-/* A copy of what is sent from a buffer that a receive writes to; the caller frees it. Why it can't be sent, or MPI_SUCCESS. */
-int um_copy_to_send(const void *buf, int count, MPI_Datatype type, int dest, int tag, const struct comm *comm, void **copy, size_t *bytes) {
+/* Makes of a send from a buffer that a receive writes to one of a copy, which the caller frees. Why it can't be sent, or MPI_SUCCESS. */
+int um_copy_to_send(struct transfer *send) {
     const void *data;
-    int code = check(buf, count, type, dest, tag, comm, false, bytes);
-    if (code == MPI_SUCCESS) code = um_pack_data(buf, count, type, &data, copy);
+    void *copy;
+    size_t bytes = 0;
+    int code = check(send, false, &bytes);
+    if (code == MPI_SUCCESS) code = um_pack_data(send->data.at, send->data.count, send->data.type, &data, &copy);
     if (code != MPI_SUCCESS) return code;
-    if (!*copy && !(*copy = malloc(*bytes + 1))) return MPI_ERR_NO_MEM;
-    if (data == buf && *bytes) memcpy(*copy, buf, *bytes);
+    if (!copy && !(copy = malloc(bytes + 1))) return MPI_ERR_NO_MEM;
+    if (data == send->data.at && bytes) memcpy(copy, data, bytes);
+    send->data = (struct data){copy, (int)bytes, MPI_BYTE};
     return MPI_SUCCESS;
 }
 
 int MPI_Sendrecv_replace(void *buf, int count, MPI_Datatype type, int dest, int sendtag, int source, int recvtag, MPI_Comm comm, MPI_Status *status) {
     struct comm *of = um_comm_at(comm);
-    void *copy;
-    size_t bytes = 0;
+    struct transfer send = {{buf, count, type}, dest, sendtag, of}, receive = {{buf, count, type}, source, recvtag, of};
     ENTER(of, source, recvtag);
-    int code = um_copy_to_send(buf, count, type, dest, sendtag, of, &copy, &bytes);
+    int code = um_copy_to_send(&send);
     if (code != MPI_SUCCESS) return um_fail(of, code);
-    code = exchange(copy, (int)bytes, MPI_BYTE, dest, sendtag, buf, count, type, source, recvtag, of, status);
-    free(copy);
+    code = exchange(&send, &receive, status);
+    free(um_into(send.data));
     return um_answer(of, code);
 }

@@ -111,6 +111,15 @@ int um_resize(struct type *of, ptrdiff_t lower, ptrdiff_t extent, struct type **
 /* pack.c */
 void um_move_data(const struct type *type, int count, void *memory, void *packed, size_t bytes, bool is_out);
 
+/* Data in the program's memory: so many elements of a type. */
+struct data {
+    const void *at;
+    int count;
+    MPI_Datatype type;
+};
+/* Their address, where they are written. */
+static inline void *um_into(struct data data) { return (void *)(uintptr_t)data.at; }
+
 /* What calls ask of a handle of a type (type.c), and of data in memory (pack.c). */
 bool um_is_basic_type(MPI_Datatype type);
 MPI_Datatype um_keep_type(MPI_Datatype type);

@@ -6,13 +6,7 @@
 #include <stdlib.h>
 #include <string.h>
 
-/* Data of the caller, or of the target's window. */
-struct data {
-    const void *buffer;
-    int count;
-    MPI_Datatype type;
-};
-
+/* Data of the target's window. */
 struct target {
     int rank;
     MPI_Aint disp;
@@ -63,7 +57,7 @@ static int write_data(struct pile *pile, const struct data *data, const struct t
     *written = element ? count * (size_t)extent_of(element) : bytes;
     char *place = um_extend(pile, *written), *packed = element ? malloc(bytes + 1) : place;
     int code = place && packed ? MPI_SUCCESS : MPI_ERR_NO_MEM;
-    if (code == MPI_SUCCESS) um_move_data(type, data->count, (void *)(uintptr_t)data->buffer, packed, bytes, true);
+    if (code == MPI_SUCCESS) um_move_data(type, data->count, um_into(*data), packed, bytes, true);
     if (code == MPI_SUCCESS && element) um_move_data(element, (int)count, place, packed, bytes, false);
     if (element) free(packed);
     return code;
@@ -76,7 +70,7 @@ static int add_result(struct window *window, int from, const struct data *data, 
     window->results = results;
     MPI_Datatype kept = um_keep_type(data->type);
     if (kept == MPI_DATATYPE_NULL) return MPI_ERR_NO_MEM;
-    results[window->result_count++] = (struct result){from, (void *)(uintptr_t)data->buffer, data->count, kept, bytes};
+    results[window->result_count++] = (struct result){from, um_into(*data), data->count, kept, bytes};
     return MPI_SUCCESS;
 }
 
@@ -84,7 +78,7 @@ static int add_result(struct window *window, int from, const struct data *data, 
 static int check_data(const struct data *data, bool has_buffer, size_t *bytes) {
     int code;
     if (!um_check_buffer(data->count, data->type, bytes, &code)) return code;
-    return has_buffer && !um_is_buffer(data->buffer, *bytes, data->type) ? MPI_ERR_BUFFER : MPI_SUCCESS;
+    return has_buffer && !um_is_buffer(data->at, *bytes, data->type) ? MPI_ERR_BUFFER : MPI_SUCCESS;
 }
 
 /* Why it can't be done, or MPI_SUCCESS; and the bytes. `given` and `got` may be null. */
