@@ -34,7 +34,7 @@ int um_refuse_collective(struct comm *comm, int code) {
 }
 
 int um_collect_send(struct comm *comm, int to, const void *bytes, size_t length) {
-    int code = um_send_body(comm->hidden, comm->engine_position[to], comm->members[to], tag_of(comm), bytes, length, 0);
+    int code = um_send_body(comm->hidden, comm->engine_position[to], comm->members[to], tag_of(comm), (struct bytes){bytes, length}, 0);
     um_count_inside();
     return code;
 }

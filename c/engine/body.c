@@ -10,11 +10,11 @@ enum { REFERRING = sizeof(struct reference), AMBIGUOUS = REFERRING - 1 };
 
 static bool is_reference(const struct received *received) { return received->body.content == REFERENCE; }
 
-static int send_whole(uint32_t context, int dest, int tag, const void *bytes, size_t length) {
+static int send_whole(uint32_t context, int dest, int tag, struct bytes message) {
     union body body;
     body.whole.content = MESSAGE;
-    if (length) memcpy(body.whole.message, bytes, length);
-    return um_class_of(ulfm_isend(um_me->slot, context, (uint32_t)dest, (uint32_t)tag, &body.content, 1 + length));
+    if (message.length) memcpy(body.whole.message, message.at, message.length);
+    return um_class_of(ulfm_isend(um_me->slot, context, (uint32_t)dest, (uint32_t)tag, &body.content, 1 + message.length));
 }
 
 static int send_reference(struct parcel *parcel, int dest) {
@@ -41,18 +41,18 @@ static int send_parcel(const struct parcel *like, int dest, struct parcel **wait
     return MPI_SUCCESS;
 }
 
-int um_send_body(uint32_t context, int dest, int world, int tag, const void *bytes, size_t length, struct parcel **waits) {
-    if (waits || length > AT_ONCE || length == AMBIGUOUS)
+int um_send_body(uint32_t context, int dest, int world, int tag, struct bytes message, struct parcel **waits) {
+    if (waits || message.length > AT_ONCE || message.length == AMBIGUOUS)
         return send_parcel(&(struct parcel){.users = waits ? 3 : 2,
                                             .is_waited_for = waits != 0,
                                             .from = um_me->number,
                                             .to = world,
                                             .context = context,
                                             .tag = tag,
-                                            .length = length,
-                                            .source = bytes},
+                                            .length = message.length,
+                                            .source = message.at},
                            dest, waits);
-    int code = send_whole(context, dest, tag, bytes, length);
+    int code = send_whole(context, dest, tag, message);
     if (code == MPI_SUCCESS) um_move_once();
     return code;
 }

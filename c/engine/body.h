@@ -26,8 +26,14 @@ struct received {
     union body body;
 };
 
+/* A message, where its sender has it. */
+struct bytes {
+    const void *at;
+    size_t length;
+};
+
 /* Sends a message to the position `dest`, the world rank `world`. Where `waits` isn't null, it gets a parcel whose flag tells the match. */
-int um_send_body(uint32_t context, int dest, int world, int tag, const void *bytes, size_t length, struct parcel **waits);
+int um_send_body(uint32_t context, int dest, int world, int tag, struct bytes message, struct parcel **waits);
 
 /* Copies the message of a body that came into a buffer, and tells its sender that it was matched. The source in the status is the engine's. */
 void um_take_body(const struct received *received, void *buffer, size_t room, MPI_Status *status, int *code);

@@ -92,22 +92,29 @@ static int tell_edges(struct comm *of, const struct edge *edges, int most, struc
     return code;
 }
 
-/* The edges that a member tells: those of each of its sources in turn. Of what isn't filled in nobody has an end. */
-static struct edge *list_edges(int count, const int sources[], const int degrees[], const int destinations[], const int weights[], int most) {
+/* The edges that a member tells: from each of its sources to so many destinations, all of which stand in one list. */
+struct told {
+    int count; /* of sources */
+    const int *sources, *degrees, *destinations, *weights;
+    int edges;
+};
+
+/* Those of each source in turn. Of what isn't filled in nobody has an end. */
+static struct edge *list_edges(const struct told *told, int most) {
     struct edge *edges = malloc(((size_t)most + 1) * sizeof *edges);
     int at = 0;
     for (int k = 0; edges && k < most; k++) edges[k] = (struct edge){-1, -1, 0};
-    for (int k = 0; edges && k < count; k++)
-        for (int j = 0; j < degrees[k]; j++, at++) edges[at] = (struct edge){sources[k], destinations[at], is_weighted(weights) ? weights[at] : 0};
+    for (int k = 0; edges && k < told->count; k++)
+        for (int j = 0; j < told->degrees[k]; j++, at++)
+            edges[at] = (struct edge){told->sources[k], told->destinations[at], is_weighted(told->weights) ? told->weights[at] : 0};
     return edges;
 }
 
-static int create(struct comm *of, int count, const int sources[], const int degrees[], const int destinations[], const int weights[], int own,
-                  MPI_Comm *made) {
-    struct graph graph = {.kind = MPI_DIST_GRAPH, .is_weighted = is_weighted(weights)};
-    int most, code = tell_most(of, own, &most);
+static int create(struct comm *of, const struct told *told, MPI_Comm *made) {
+    struct graph graph = {.kind = MPI_DIST_GRAPH, .is_weighted = is_weighted(told->weights)};
+    int most, code = tell_most(of, told->edges, &most);
     if (code != MPI_SUCCESS) return code;
-    struct edge *edges = list_edges(count, sources, degrees, destinations, weights, most);
+    struct edge *edges = list_edges(told, most);
     code = edges ? tell_edges(of, edges, most, &graph) : MPI_ERR_NO_MEM;
     free(edges);
     if (code == MPI_SUCCESS) code = make_graph(of, &graph, made);
@@ -121,17 +128,17 @@ static int create(struct comm *of, int count, const int sources[], const int deg
 int MPI_Dist_graph_create(MPI_Comm comm, int count, const int sources[], const int degrees[], const int destinations[], const int weights[],
                           MPI_Info info, int reorder, MPI_Comm *made) {
     struct comm *of = um_comm_at(comm);
-    int own = 0;
+    struct told told = {count, sources, degrees, destinations, weights, 0};
     (void)reorder;
     ENTER(of, MPI_UNDEFINED, MPI_UNDEFINED);
     if (!of) return um_fail(0, MPI_ERR_COMM);
     int code = !um_is_info(info) ? MPI_ERR_INFO : made ? check_edges(of, count, sources, MPI_UNWEIGHTED) : MPI_ERR_ARG;
     for (int k = 0; k < count && code == MPI_SUCCESS; k++) {
         if (!degrees || degrees[k] < 0) code = MPI_ERR_ARG;
-        else own += degrees[k];
+        else told.edges += degrees[k];
     }
-    if (code == MPI_SUCCESS) code = check_edges(of, own, destinations, weights);
+    if (code == MPI_SUCCESS) code = check_edges(of, told.edges, destinations, weights);
     if (code != MPI_SUCCESS) return um_fail(of, um_refuse_collective(of, code));
     code = um_begin_collective(of);
-    return um_answer(of, code != MPI_SUCCESS ? code : create(of, count, sources, degrees, destinations, weights, own, made));
+    return um_answer(of, code != MPI_SUCCESS ? code : create(of, &told, made));
 }

@@ -136,7 +136,7 @@ void um_start_receive(struct request *request, void *buffer, size_t room) {
 /* Sends a message of the program. Where `parcel` isn't null, it gets a parcel whose flag tells the match. */
 int um_send_now(struct comm *comm, int peer, int tag, const void *buffer, size_t length, struct parcel **parcel) {
     if (comm->is_part && um_is_revoked(comm)) return MPIX_ERR_REVOKED;
-    return um_send_body(comm->context, comm->engine_position[peer], comm->members[peer], tag, buffer, length, parcel);
+    return um_send_body(comm->context, comm->engine_position[peer], comm->members[peer], tag, (struct bytes){buffer, length}, parcel);
 }
 
 /* Starts the send of a request. A refusal is told where the request ends. */

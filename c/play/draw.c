@@ -47,11 +47,16 @@ bool um_begin_drawing(void) {
     return drawn && (um_footprints || um_begin_search()); /* which event sent an item is in its footprint */
 }
 
+/* The call that a rank is in, in a row. */
+static struct drawn present_call(const struct rank *rank, int row) {
+    return (struct drawn){rank->call.name ? rank->call.name : "its start", rank->call.from, rank->plan.calls, row, NO_STEP};
+}
+
 /* An event comes. */
 void um_note_drawn(const struct event *event) {
     const struct rank *rank = &um_ranks[event->rank];
     if (!drawn) return;
-    drawn[um_step] = (struct drawn){rank->call.name ? rank->call.name : "its start", rank->call.from, rank->plan.calls, 0, NO_STEP};
+    drawn[um_step] = present_call(rank, 0);
     if (event->kind == LOSES) drawn[um_step].lost = um_first_lost(event->peer, event->rank);
 }
 
@@ -76,10 +81,11 @@ static void put_text(FILE *to, int x, int y, const char *color, const char *text
     fputs("</text>\n", to);
 }
 
-static void put_call(FILE *to, int rank, int row, const char *before, const char *call, const void *from, int calls, const char *color) {
+/* A call of a rank, in its row, behind what the rank does there. */
+static void put_call(FILE *to, int rank, const struct drawn *in, const char *does, const char *color) {
     char text[256];
-    snprintf(text, sizeof text, "%s%s%s (call %d)", before, call, line_at(from), calls);
-    put_text(to, column(rank) + 12, height(row) + 4, color, text);
+    snprintf(text, sizeof text, "%s%s%s (call %d)", does, in->call, line_at(in->from), in->calls);
+    put_text(to, column(rank) + 12, height(in->row) + 4, color, text);
 }
 
 /* Gives each event its row: calls that begin, what is taken or lost, and stops have rows of their own. */
@@ -110,10 +116,10 @@ static void put_event(FILE *to, int k, int *shown) {
     }
     if (e->kind == STOPS) {
         fprintf(to, "<path d=\"M%d %dl12 12m0 -12l-12 12\" stroke=\"#a31621\" stroke-width=\"3\"/>\n", x - 6, y - 6);
-        put_call(to, e->rank, drawn[k].row, "stops in ", drawn[k].call, drawn[k].from, drawn[k].calls, "#a31621");
+        put_call(to, e->rank, &drawn[k], "stops in ", "#a31621");
     } else if (e->kind < TAKES && shown[e->rank] != drawn[k].calls) {
         fprintf(to, "<circle cx=\"%d\" cy=\"%d\" r=\"4\" fill=\"#1b1b1b\"/>\n", x, y);
-        put_call(to, e->rank, drawn[k].row, "", drawn[k].call, drawn[k].from, drawn[k].calls, "#1b1b1b");
+        put_call(to, e->rank, &drawn[k], "", "#1b1b1b");
         shown[e->rank] = drawn[k].calls;
     }
 }
@@ -127,9 +133,10 @@ static void put_end(FILE *to, int rank) {
         snprintf(text, sizeof text, own->life.has_stopped ? "stopped" : "ended with %d", own->life.status);
         put_text(to, column(rank) + 12, height(rows) + 4, own->life.status && !own->life.is_planned ? "#a31621" : "#1b1b1b", text);
     } else if (own->life.has_stopped) put_text(to, column(rank) + 12, height(rows) + 4, "#1b1b1b", "stopped");
-    else
-        put_call(to, rank, rows, um_players[rank].state == AT_CALL ? "loops over " : "waits in ", own->call.name ? own->call.name : "its start",
-                 own->call.from, own->plan.calls, "#a31621");
+    else {
+        struct drawn last = present_call(own, rows);
+        put_call(to, rank, &last, um_players[rank].state == AT_CALL ? "loops over " : "waits in ", "#a31621");
+    }
 }
 
 /* Draws the schedule that was played. False where the file can't be written. */

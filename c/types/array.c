@@ -93,8 +93,9 @@ int MPI_Type_create_subarray_c(int dims, const MPI_Count sizes[], const MPI_Coun
     return um_answer(0, make_part(dims, (struct numbers){0, sizes}, &(struct part){{0, subsizes}, {0, starts}}, order, type, made));
 }
 
-/* What is one process's of an array: how each dimension is divided, among how many, and which of them it is. */
+/* What is one process's of an array: which process it is of how many, and how each dimension is divided, among how many, and which of them it is. */
 struct division {
+    int size, rank;
     struct numbers sizes;
     const int *kinds, *arguments, *processes;
     int *place;
@@ -141,8 +142,9 @@ static int check_division(const struct division *of, int dim) {
 }
 
 /* The place of a process among those of each dimension; they stand in the order of C, whatever the array's is. */
-static int place(const struct division *of, int size, int rank, int dims) {
+static int place(const struct division *of, int dims) {
     long long all = 1;
+    int rank = of->rank;
     for (int k = dims - 1; k >= 0; k--) {
         int code = check_division(of, k);
         if (code != MPI_SUCCESS) return code;
@@ -150,15 +152,16 @@ static int place(const struct division *of, int size, int rank, int dims) {
         rank /= of->processes[k];
         if (__builtin_mul_overflow(all, of->processes[k], &all)) return MPI_ERR_ARG;
     }
-    return all == size ? MPI_SUCCESS : MPI_ERR_ARG;
+    return all == of->size ? MPI_SUCCESS : MPI_ERR_ARG;
 }
 
-static int divide(int size, int rank, int dims, struct division division, int order, MPI_Datatype type, MPI_Datatype *made) {
+static int divide(int dims, struct division division, int order, MPI_Datatype type, MPI_Datatype *made) {
     bool has_all = made && is_given(division.sizes) && division.kinds && division.arguments && division.processes;
+    bool is_member = 0 <= division.rank && division.rank < division.size;
     if (!um_type_at(type)) return MPI_ERR_TYPE;
-    if (!has_all || size < 1 || rank < 0 || rank >= size || dims < 1 || !is_order(order)) return MPI_ERR_ARG;
+    if (!has_all || !is_member || dims < 1 || !is_order(order)) return MPI_ERR_ARG;
     division.place = malloc((size_t)dims * sizeof(int));
-    int code = division.place ? place(&division, size, rank, dims) : MPI_ERR_NO_MEM;
+    int code = division.place ? place(&division, dims) : MPI_ERR_NO_MEM;
     struct array array = {dims, division.sizes, order == MPI_ORDER_FORTRAN, um_type_at(type)};
     if (code == MPI_SUCCESS) code = make_array(&array, take_division, &division, made);
     free(division.place);
@@ -168,7 +171,7 @@ static int divide(int size, int rank, int dims, struct division division, int or
 int MPI_Type_create_darray(int size, int rank, int dims, const int sizes[], const int distribs[], const int dargs[], const int psizes[], int order,
                            MPI_Datatype type, MPI_Datatype *made) {
     ENTER_LOOK(0, MPI_UNDEFINED, MPI_UNDEFINED);
-    int code = divide(size, rank, dims, (struct division){{sizes, 0}, distribs, dargs, psizes, 0}, order, type, made);
+    int code = divide(dims, (struct division){size, rank, {sizes, 0}, distribs, dargs, psizes, 0}, order, type, made);
     struct arguments arguments = {MPI_COMBINER_DARRAY,
                                   {{1, &size}, {1, &rank}, {1, &dims}, {dims, sizes}, {dims, distribs}, {dims, dargs}, {dims, psizes}, {1, &order}},
                                   0,
@@ -181,5 +184,5 @@ int MPI_Type_create_darray(int size, int rank, int dims, const int sizes[], cons
 int MPI_Type_create_darray_c(int size, int rank, int dims, const MPI_Count sizes[], const int distribs[], const int dargs[], const int psizes[],
                              int order, MPI_Datatype type, MPI_Datatype *made) {
     ENTER_LOOK(0, MPI_UNDEFINED, MPI_UNDEFINED);
-    return um_answer(0, divide(size, rank, dims, (struct division){{0, sizes}, distribs, dargs, psizes, 0}, order, type, made));
+    return um_answer(0, divide(dims, (struct division){size, rank, {0, sizes}, distribs, dargs, psizes, 0}, order, type, made));
 }

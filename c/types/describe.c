@@ -136,27 +136,34 @@ static int hand_out(struct type *type, MPI_Datatype *handle) {
     return um_add_type(type, handle);
 }
 
-static int tell_contents(MPI_Datatype type, MPI_Count ints, MPI_Count addresses, MPI_Count types, int number[], MPI_Aint address[],
-                         MPI_Datatype of[]) {
+/* Where a program has room for the arguments of a type, and for how many of each kind. */
+struct room {
+    MPI_Count ints, addresses, types;
+    int *number;
+    MPI_Aint *address;
+    MPI_Datatype *type;
+};
+
+static int tell_contents(MPI_Datatype type, struct room to) {
     const struct recipe *recipe = um_type_at(type) ? um_type_at(type)->recipe : 0;
     int code = MPI_SUCCESS;
     if (!recipe) return um_fail(0, MPI_ERR_TYPE);
-    if (ints < recipe->ints || addresses < recipe->addresses || types < recipe->types) return um_fail(0, MPI_ERR_ARG);
-    WRITES(0, (number || !recipe->ints) && (address || !recipe->addresses) && (of || !recipe->types));
-    if (recipe->ints) memcpy(number, recipe->number, (size_t)recipe->ints * sizeof *number);
-    if (recipe->addresses) memcpy(address, recipe->address, (size_t)recipe->addresses * sizeof *address);
-    for (int k = 0; k < recipe->types && code == MPI_SUCCESS; k++) code = hand_out(recipe->type[k], &of[k]);
+    if (to.ints < recipe->ints || to.addresses < recipe->addresses || to.types < recipe->types) return um_fail(0, MPI_ERR_ARG);
+    WRITES(0, (to.number || !recipe->ints) && (to.address || !recipe->addresses) && (to.type || !recipe->types));
+    if (recipe->ints) memcpy(to.number, recipe->number, (size_t)recipe->ints * sizeof *to.number);
+    if (recipe->addresses) memcpy(to.address, recipe->address, (size_t)recipe->addresses * sizeof *to.address);
+    for (int k = 0; k < recipe->types && code == MPI_SUCCESS; k++) code = hand_out(recipe->type[k], &to.type[k]);
     return um_answer(0, code);
 }
 
 int MPI_Type_get_contents(MPI_Datatype type, int ints, int addresses, int types, int number[], MPI_Aint address[], MPI_Datatype of[]) {
     ENTER_LOOK(0, MPI_UNDEFINED, MPI_UNDEFINED);
-    return tell_contents(type, ints, addresses, types, number, address, of);
+    return tell_contents(type, (struct room){ints, addresses, types, number, address, of});
 }
 
 int MPI_Type_get_contents_c(MPI_Datatype type, MPI_Count ints, MPI_Count addresses, MPI_Count counts, MPI_Count types, int number[],
                             MPI_Aint address[], MPI_Count large[], MPI_Datatype of[]) {
     (void)counts, (void)large;
     ENTER_LOOK(0, MPI_UNDEFINED, MPI_UNDEFINED);
-    return tell_contents(type, ints, addresses, types, number, address, of);
+    return tell_contents(type, (struct room){ints, addresses, types, number, address, of});
 }
