@@ -81,12 +81,18 @@ static void null_outs(ulfm_slot *slot) {
     WANT(ulfm_poll_agree(slot, 0, &out, 0), ULFM_ENDED);
 }
 
+/* Sends that are refused: on no communicator, on one that wasn't made, and by their tags. */
+static void wrong_sends(ulfm_slot *slot, uint32_t code_of_unmade) {
+    WANT(ulfm_isend(slot, 63, 0, 0, body, 1), ULFM_NO_COMM);
+    WANT(ulfm_isend(slot, 63, 0, 32768, body, 1), ULFM_NO_COMM);
+    WANT(ulfm_isend(slot, 5, 0, 0, body, 1), code_of_unmade);
+    WANT(ulfm_isend(slot, 0, 0, 32768, body, 1), ULFM_BAD_TAG);
+}
+
 static void refusals(ulfm_slot *slot) {
     WANT(ulfm_take(slot, 2, &out), ULFM_BAD_RANK);
     WANT(ulfm_next(slot, 300, &item), ULFM_BAD_RANK);
-    WANT(ulfm_isend(slot, 63, 0, 0, body, 1), ULFM_NO_COMM);
-    WANT(ulfm_isend(slot, 5, 0, 0, body, 1), ULFM_NO_COMM);
-    WANT(ulfm_isend(slot, 0, 0, 32768, body, 1), ULFM_BAD_TAG);
+    wrong_sends(slot, ULFM_NO_COMM);
     WANT(ulfm_isend(slot, 0, 2, 0, body, 1), ULFM_BAD_RANK);
     WANT(ulfm_isend(slot, 0, 300, 0, body, 1), ULFM_BAD_RANK);
     WANT(ulfm_isend(slot, 0, 0, 0, body, 1025), ULFM_TOO_LONG);
@@ -134,9 +140,7 @@ static void edges(ulfm_slot *slot) {
 static void orders(ulfm_slot *slot) {
     WANT(ulfm_dup(slot, 63, &out), ULFM_NO_COMM);
     WANT(ulfm_dup(slot, 5, &out), ULFM_STOPPED);
-    WANT(ulfm_isend(slot, 63, 0, 32768, body, 1), ULFM_NO_COMM);
-    WANT(ulfm_isend(slot, 0, 0, 32768, body, 1), ULFM_BAD_TAG);
-    WANT(ulfm_isend(slot, 5, 0, 0, body, 1), ULFM_STOPPED);
+    wrong_sends(slot, ULFM_STOPPED);
     WANT(ulfm_position(slot, 5, &out), ULFM_NO_COMM);
 }
 
