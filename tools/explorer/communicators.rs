@@ -21,7 +21,7 @@ impl Rank {
         self.groups.get(&comm).copied().ok_or(Refusal::NoComm)
     }
 
-    /// The same, where it isn't revoked here.
+    /// The group of a communicator that was made and isn't revoked here.
     pub fn unrevoked_group(&self, comm: Context) -> Result<Group, Refusal> {
         let group = self.group(comm)?;
         if self.is_revoked(comm) {

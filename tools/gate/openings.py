@@ -58,5 +58,5 @@ def leaning(code):
 
 
 def leaning_in_rattle(code):
-    """The comments of a file of Rattle, definitions or proofs that can't be read alone."""
+    """The comments of a file of Rattle or Rust, of definitions or of proofs that can't be read alone."""
     return LEANING_IN_RATTLE.findall(code)
