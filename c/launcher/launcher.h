@@ -17,7 +17,7 @@ void um_tell_late(enum moment moment) __attribute__((noreturn));
 int um_close_run(void);
 int ulfm_mpirun(int count, char **words);
 
-/* words.c */
+/* options.c: the command line */
 int um_read_words(int count, char **words);
 char *um_quoted(const char *word);
 

@@ -1,4 +1,4 @@
-/* ulfm-mpirun. What it does stands in the library, which programs link too. */
+/* ulfm-mpirun. What it does stands in the library, which programs link too: launch.c, and options.c for its command line. */
 int ulfm_mpirun(int count, char **words);
 
 /* The engine isn't compiled with ThreadSanitizer, which so sees nothing of the order that it makes. */
