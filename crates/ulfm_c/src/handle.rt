@@ -7,6 +7,7 @@ use crate::slot::Slot;
 use std::alloc::Global;
 
 /// The code of a call of the process that a handle holds, and holds again after it. 16: it holds none, and nothing is called.
+// It is no function, since a clause over all that a call which it is given may do is refused: its type is Type 1.
 macro_rules! with {
     ($handle:ident, $alloc:ident, |$process:ident| $call:expr) => {
         match $handle.take($alloc) {
