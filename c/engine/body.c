@@ -25,7 +25,7 @@ static int send_reference(struct parcel *parcel, int dest) {
 static int send_parcel(const struct parcel *like, int dest, struct parcel **waits) {
     struct parcel *parcel = um_new_parcel(like);
     if (!parcel) return MPI_ERR_NO_MEM;
-    bool is_known = waits && !um_is_played; /* else its receiver knows of it when it takes it */
+    bool is_known = waits && !um_is_played; /* else see play/matches.c */
     if (is_known) atomic_fetch_add(&um_ranks[parcel->to].shared.waited_for, 1);
     int code = send_reference(parcel, dest);
     if (code != MPI_SUCCESS) {
@@ -57,9 +57,7 @@ int um_send_body(uint32_t context, int dest, int world, int tag, struct bytes me
     return code;
 }
 
-void um_note_taken_body(int rank, int from, const ulfm_next_item *item) {
-    if (item->kind == ULFM_MESSAGE && item->length == REFERRING) um_note_parcel(rank, from, item->comm, (int)item->tag);
-}
+bool um_is_long(size_t length) { return length == REFERRING; }
 
 static size_t length_in(const struct received *received) {
     return is_reference(received) ? received->body.reference.parcel->length : received->told.length - 1;
@@ -67,10 +65,10 @@ static size_t length_in(const struct received *received) {
 
 /* Its receiver is done with a parcel. */
 static void release(struct parcel *parcel) {
-    bool is_waited_for = parcel->is_waited_for;
-    if (is_waited_for) atomic_fetch_sub(&um_me->shared.waited_for, 1);
+    bool is_known = parcel->is_waited_for && !um_is_played;
+    if (is_known) atomic_fetch_sub(&um_me->shared.waited_for, 1);
     um_let_go(parcel);
-    if (is_waited_for) um_marked();
+    if (is_known) um_marked();
 }
 
 void um_take_body(const struct received *received, void *buffer, size_t room, MPI_Status *status, int *code) {
@@ -81,7 +79,7 @@ void um_take_body(const struct received *received, void *buffer, size_t room, MP
     *code = whole > room ? MPI_ERR_TRUNCATE : MPI_SUCCESS;
     *status = (MPI_Status){.MPI_SOURCE = (int)received->told.source, .MPI_TAG = (int)received->told.tag, .bytes = length};
     if (!parcel) return;
-    if (um_footprints) um_note_match(parcel);
+    if (um_is_played && !parcel->is_met) um_match(parcel);
     atomic_store(&parcel->matched, 1);
     release(parcel);
 }

@@ -44,8 +44,8 @@ void um_drop_body(const struct received *received);
 /* A matched probe took the body, whose message isn't received yet: other probes tell of those behind it (3.8.2). How long the message is. */
 size_t um_set_body_aside(const struct received *received);
 
-/* In a run that is played: a rank takes what is first from another one. */
-void um_note_taken_body(int rank, int from, const ulfm_next_item *item);
+/* Whether a body is as long as one that refers to a parcel. */
+bool um_is_long(size_t length);
 
 /* How long the message is that a probe found, of the world rank `from`. Receives that have theirs were looked at before. */
 size_t um_length_of_probed(const ulfm_status *told, uint32_t context, int from);

@@ -1,7 +1,6 @@
 /* Parcels: messages that stand beside their bodies, since they are long, or since their senders wait for the match. A receiver reads the parcel in the
    memory that ranks share, and lets it go. */
 #include "engine/engine.h"
-#include "search/search.h"
 #include <sched.h>
 #include <stdlib.h>
 #include <string.h>
@@ -66,16 +65,21 @@ void um_empty_parcel(struct parcel *parcel, void *buffer, size_t length) {
     if (is_live) atomic_store(&parcel->filling, TAKEN);
 }
 
-/* A message came that was sent by a parcel: where its sender waits for the match, its receiver has to look for that from now on. */
-void um_note_parcel(int to, int from, uint32_t context, int tag) {
-    for (struct parcel *parcel = um_ranks[from].sent.first; parcel; parcel = parcel->next)
-        if (parcel->to == to && parcel->context == context && parcel->tag == tag && !parcel->has_come) {
-            parcel->has_come = true;
-            if (!parcel->is_waited_for) return;
-            atomic_fetch_add(&um_ranks[to].shared.waited_for, 1);
-            if (um_footprints) um_footprints[um_step].flags |= WAITED_FOR;
-            return;
-        }
+/* A message is about to be taken that was sent by a parcel, where the run is played: its parcel. */
+struct parcel *um_parcel_that_comes(int to, int from, uint32_t context, int tag) {
+    struct parcel *parcel = um_ranks[from].sent.first;
+    while (parcel && (parcel->to != to || parcel->context != context || parcel->tag != tag || parcel->has_come)) parcel = parcel->next;
+    if (parcel) parcel->has_come = true;
+    return parcel;
+}
+
+/* .. of the first message that came to this rank and that no receive and no matched probe has. */
+struct parcel *um_first_parcel(int from, uint32_t context, int tag) {
+    for (struct parcel *parcel = um_ranks[from].sent.first; parcel; parcel = parcel->next) {
+        bool is_kept = parcel->has_come && !parcel->is_met && !parcel->is_found;
+        if (is_kept && parcel->to == um_me->number && parcel->context == context && parcel->tag == tag) return parcel;
+    }
+    return 0;
 }
 
 /* How long the first message is that a rank sent here by a parcel with this tag, and that nobody took or set aside. */

@@ -127,10 +127,7 @@ void um_start_receive(struct request *request, void *buffer, size_t room) {
     if (!comm->is_part || !um_is_revoked(comm)) code = ulfm_irecv(um_me->slot, request->context, source, tag, BODY, &request->id);
     link_open(request);
     if (code != ULFM_OK) um_end_request(request, um_class_of(code));
-    else if (um_is_waited_for()) {
-        if (um_is_played) um_look_in_passing(request);
-        else um_look_at(request);
-    }
+    else if (um_is_waited_for() && !um_is_played) um_look_at(request);
 }
 
 /* Sends a message of the program. Where `parcel` isn't null, it gets a parcel whose flag tells the match. */

@@ -118,8 +118,10 @@ uint32_t __wrap_ulfm_isend(ulfm_slot *slot, uint32_t comm, uint32_t dest, uint32
 REAL(irecv);
 static SELDOM uint32_t irecv(ulfm_slot *slot, uint32_t comm, uint32_t source, uint32_t tag, uint32_t room, uint64_t *request) {
     before(event_of(POSTS, comm, source, tag));
+    struct parcel *parcel = um_parcel_for(comm, source, tag);
     uint32_t code = __real_ulfm_irecv(slot, comm, source, tag, room, request);
     if (um_footprints) um_end_post(source, *request, code);
+    if (parcel && code == ULFM_OK) um_match(parcel);
     return code;
 }
 
@@ -156,7 +158,7 @@ uint32_t um_look_at_sent(const struct request *request) {
     struct event call = event_of(LOOKS_AT_SEND, request->context, comm->engine_position[request->peer], (uint32_t)request->tag);
     if (!before_look(call, (uint64_t)request->handle, state_of_sent(request) == ULFM_NOT_YET)) return ULFM_NOT_YET;
     uint32_t code = state_of_sent(request);
-    if (um_footprints) um_end_sent(comm->members[request->peer], code, request->parcel->matched_at);
+    if (um_footprints) um_end_sent(comm->members[request->peer], code, request->parcel);
     if (code != ULFM_NOT_YET) um_forget_looks(&um_players[um_me->number]);
     return code;
 }

@@ -12,8 +12,8 @@ enum { MOST_SPINS = 10000 };
 
 /* ---- What ranks do in place of threads: see progress.c ---- */
 
-/* Looks in passing, at a request or, where there is none, at all that is open. A look that finds nothing is no event. */
-void um_look_in_passing(struct request *request) {
+/* Looks in passing at all that is open. A look that finds nothing is no event. */
+static void look_in_passing(void) {
     struct player *own = &um_players[um_me->number];
     bool was_in_wait = own->in_wait;
     own->in_wait = own->is_passing = true;
@@ -21,10 +21,6 @@ void um_look_in_passing(struct request *request) {
     do {
         own->is_first = true;
         own->looks_anew = false;
-        if (request) {
-            um_look_at(request);
-            continue;
-        }
         own->taken_before = own->taken;
         um_look_at_open();
     } while (own->looks_anew);
@@ -36,7 +32,7 @@ void um_look_in_passing(struct request *request) {
 /* Looks at what is open, where something came since the last time. A duplicate that is made sends as soon as it can: that nothing came counts there. */
 void um_look_as_played(void) {
     const struct player *own = &um_players[um_me->number];
-    if (own->taken != own->taken_before || um_is_copying(0)) um_look_in_passing(0);
+    if (own->taken != own->taken_before || um_is_copying(0)) look_in_passing();
 }
 
 /* The rank waits until something comes, or a mark changes. */
@@ -138,10 +134,13 @@ static void take(const struct event *event) {
     struct rank *rank = &um_ranks[event->rank];
     uint32_t took = 0, moved;
     bool was_revoked = um_is_known_revoked(event->rank, event->comm);
-    um_note_taken_body(event->rank, event->peer, &um_heads[event->peer][event->rank]);
-    um_note_item(event->rank, event->peer, &um_heads[event->peer][event->rank]);
+    const ulfm_next_item *head = &um_heads[event->peer][event->rank];
+    bool is_long = head->kind == ULFM_MESSAGE && um_is_long(head->length);
+    struct parcel *parcel = is_long ? um_parcel_that_comes(event->rank, event->peer, head->comm, (int)head->tag) : 0;
+    um_note_item(event->rank, event->peer, head);
     ulfm_take(&rank->home, event->peer, &took);
     if (um_footprints) um_note_taken(event, was_revoked);
+    if (parcel) um_note_come(parcel);
     ulfm_push(&rank->home, &moved); /* word of a revocation is handed on */
     um_block_rings(event->rank);
     ulfm_push(&um_ranks[event->peer].home, &moved); /* what found no place before */

@@ -69,7 +69,6 @@ void um_end_schedule(int status);
 /* controller.c */
 void um_wait_as_played(bool (*is_done)(void *, bool is_settled), void *of);
 void um_look_as_played(void);
-void um_look_in_passing(struct request *request);
 
 /* context.c */
 bool um_make_context(int rank);
@@ -116,6 +115,11 @@ void um_block_rings(int from);
 void um_unblock(int from, int to);
 bool um_choose_losses(int kept[MAX_RANKS][MAX_RANKS]);
 void um_plan_losses(int kept[MAX_RANKS][MAX_RANKS]);
+
+/* matches.c */
+void um_match(struct parcel *parcel);
+void um_note_come(struct parcel *parcel);
+struct parcel *um_parcel_for(uint32_t comm, uint32_t source, uint32_t tag);
 
 /* snapshot.c */
 void *um_shared_memory(size_t bytes);

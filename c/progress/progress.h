@@ -41,14 +41,8 @@ void um_moved(void);
 void um_marked(void);
 uint64_t um_count_of_marks(void);
 void um_look_at_open(void);
-/* Whether a sender may wait for a match here. A search notes where none does (search/search.h). */
-extern struct footprint *um_footprints;
-void um_note_unwaited(void);
-static inline bool um_is_waited_for(void) {
-    bool is = atomic_load(&um_me->shared.waited_for) > 0;
-    if (!is && um_footprints) um_note_unwaited();
-    return is;
-}
+/* Whether a sender may wait for a match here, or a request is open that was freed. */
+static inline bool um_is_waited_for(void) { return atomic_load(&um_me->shared.waited_for) > 0; }
 void um_wait_until(bool (*is_done)(void *, bool is_settled), void *of, bool is_dear);
 bool um_all_are_gone(void *unused, bool is_settled);
 

@@ -82,10 +82,11 @@ struct parcel {
     _Atomic int users; /* the message, its sender, the copying of its body */
     _Atomic int matched;
     _Atomic int filling;
-    bool is_waited_for, has_come; /* it was taken, where the run is played */
-    int matched_at;               /* where the run is searched: the event in which it was matched */
-    bool is_found;                /* by a matched probe, so that no other one tells of it; for the receiver alone */
-    int from, to;                 /* world ranks */
+    bool is_waited_for;
+    bool has_come, is_met;    /* where the run is played: it was taken, and a receive has it */
+    int matched_at, met_with; /* where the run is searched: the event in which it was matched, and the other one that this took */
+    bool is_found;            /* by a matched probe, so that no other one tells of it; for the receiver alone */
+    int from, to;             /* world ranks */
     uint32_t context;
     int tag;
     size_t length;      /* of the message */

@@ -36,7 +36,7 @@ bool um_is_behind(int cause, int event) {
 /* ---- Direct causes ---- */
 
 /* What an event has to have before it: the last one of its process, the one that pushed its item, and those by which it found what it did. */
-static int needed_of(int j, int needed[6]) {
+static int needed_of(int j, int needed[7]) {
     const struct footprint *e = &um_footprints[j];
     int count = 0;
     if (um_search->last_of[e->process] >= 0) needed[count++] = CELLS + um_search->last_of[e->process];
@@ -46,6 +46,7 @@ static int needed_of(int j, int needed[6]) {
     if (e->by >= 0 && e->by < j) needed[count++] = um_cause_of(e->by);
     if (e->after >= 0) needed[count++] = um_cause_of(e->after);
     if (e->found >= 0 && e->found < j) needed[count++] = um_cause_of(e->found);
+    if (e->kind == LOOKS_AT_SEND && e->met >= 0) needed[count++] = um_cause_of(e->met);
     return count;
 }
 
@@ -65,7 +66,7 @@ static int dependences_of(int j, int at[MOST_STEPS]) {
 /* Those that it depends on may come after it; one by which a look found something may where the look might have been made before. */
 static void find_direct(int j) {
     const struct footprint *e = &um_footprints[j];
-    int at[MOST_STEPS], needed[6], needed_count = needed_of(j, needed), count = dependences_of(j, at);
+    int at[MOST_STEPS], needed[7], needed_count = needed_of(j, needed), count = dependences_of(j, at);
     uint64_t *direct = um_search->direct[j], *races = um_search->races[j];
     memset(direct, 0, (size_t)length_of(j) * sizeof *direct);
     memset(races, 0, (size_t)length_of(j) * sizeof *races);

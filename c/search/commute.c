@@ -81,8 +81,7 @@ static bool are_sent_in_order(const struct footprint *call, const struct footpri
 
 /* A message that no receive has, and a revocation: it is gone, whichever comes first. */
 static bool is_gone(const struct footprint *message, const struct footprint *revocation) {
-    bool is_wanted = revocation->ended_from >> message->source & 1;
-    return message->comm == revocation->comm && !is_wanted && !(message->flags & WAITED_FOR);
+    return message->comm == revocation->comm && !(revocation->ended_from >> message->source & 1);
 }
 
 static bool is_before_revocation(const struct footprint *a, int at, const struct footprint *b) {
@@ -156,6 +155,11 @@ static bool are_match_and_look(const struct footprint *a, const struct footprint
     return (a->matches >> b->rank & 1 && looks_at_sent(b, a->rank)) || (b->matches >> a->rank & 1 && looks_at_sent(a, b->rank));
 }
 
+/* A message is matched as it is taken, which no rank does that has stopped. */
+static bool are_match_and_stop(const struct footprint *a, const struct footprint *b) {
+    return (a->kind == STOPS && b->kind == TAKES && b->matches) || (b->kind == STOPS && a->kind == TAKES && a->matches);
+}
+
 /* Whether an event may not commute with one of another rank. */
 bool um_is_across(const struct footprint *e) { return is_poll(e) || e->matches || e->kind == LOOKS_AT_SEND || e->sends || e->gives; }
 
@@ -200,7 +204,7 @@ bool um_is_dependent(const struct footprint *a, int at, const struct footprint *
     if (a->gives & b->gives) return true;
     if (a->rank != b->rank) return is_poll(a) && is_poll(b) && a->topic == b->topic && have_found && a->proposal != b->proposal;
     if (are_words_of_one(a, b)) return false;
-    if (is_silent_before(a, b) || (a->flags & UNWAITED && is_message(b) && b->flags & WAITED_FOR)) return true;
+    if (are_match_and_stop(a, b) || is_silent_before(a, b)) return true;
     if (brings_nothing(b)) return is_before_word(a, at, b);
     return is_before_revocation(a, at, b) || is_after_revocation(a, at, b) || is_before_failure(a, b) || is_after_failure(a, at, b) ||
            is_before_message(a, b) || is_after_message(a, at, b) || are_entry_and_poll(a, b) || are_of_copy(a, b);

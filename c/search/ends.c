@@ -37,20 +37,19 @@ static int end_of(const struct footprint *e) {
 
 static bool is_of_any(const struct footprint *e) { return (e->kind == TESTS && e->source == ANYBODY) || (e->kind == PROBES && e->flags & OF_ANY); }
 
-/* Whether an event might have ended one of the requests. */
-static bool may_end_one(const struct ends *of, const struct footprint *e, int at) {
-    bool takes = e->kind == TAKES, is_match = !takes && e->matches;
+/* Whether an item of the rank (`takes`), or a match of a send of its, might have ended one of the requests. */
+static bool may_end_one(const struct ends *of, const struct footprint *e, int at, bool takes, bool is_match) {
     bool is_failure = takes && e->item == ULFM_STOP_NOTICE, is_message = takes && e->item == ULFM_MESSAGE;
+    bool is_revocation = takes && e->item == ULFM_REVOCATION && um_may_revoke(e, at);
     if (of->wants_all && (is_message || is_match)) return false;
     if (of->count > MOST_ENDS) return true;
     for (int k = 0; k < of->count; k++) {
-        bool is_from = of->at[k].source == ANYBODY || of->at[k].source == (is_match ? e->rank : e->source);
+        int source = of->at[k].source;
         if (of->at[k].comm == UNKNOWN) return true;
-        if (is_failure || (is_match && of->at[k].is_send)) {
-            if (is_from) return true;
-        } else if (is_message) {
-            if (!of->at[k].is_send && (e->ended == of->at[k].id + 1 || e->ended == ANY_RECEIVE)) return true;
-        } else if (takes && e->item == ULFM_REVOCATION && um_may_revoke(e, at) && of->at[k].comm == e->comm) return true;
+        if (is_match && of->at[k].is_send && source == e->rank) return true;
+        if (is_failure && (source == ANYBODY || source == e->source)) return true;
+        if (is_message && !of->at[k].is_send && (e->ended == of->at[k].id + 1 || e->ended == ANY_RECEIVE)) return true;
+        if (is_revocation && of->at[k].comm == e->comm) return true;
     }
     return false;
 }
@@ -60,7 +59,7 @@ static bool may_end(const struct footprint *look, const struct ends *of, const s
     bool is_match = e->matches >> look->rank & 1, is_taken = e->kind == TAKES && e->rank == look->rank;
     if (is_taken && e->item == ULFM_STOP_NOTICE && is_of_any(look)) return true;
     if (is_taken && e->item == ULFM_REVOCATION && um_may_revoke(e, end_of(look)) && look->kind == LOOKS_AT_SEND && look->comm == e->comm) return true;
-    return of->count > 1 && (is_taken || is_match) && may_end_one(of, e, end_of(look));
+    return of->count > 1 && (is_taken || is_match) && may_end_one(of, e, end_of(look), is_taken, is_match);
 }
 
 /* Whether an item might have ended the wait that a look ended. */

@@ -58,6 +58,7 @@ void um_begin_footprint(const struct event *event) {
                               .by = NO_STEP,
                               .found = NO_STEP,
                               .after = NO_STEP,
+                              .met = NO_STEP,
                               .first = NO_STEP};
     if (!takes && event->kind != LOSES) return;
     own->pushed = takes ? um_pull(event->peer, event->rank) : um_lose(event->peer, event->rank);

@@ -7,7 +7,7 @@ static struct footprint take_of(int sent, int to) {
     const struct footprint *e = &um_footprints[sent];
     struct footprint take = {
         .process = (uint8_t)ring_of(e->rank, to), .rank = (uint8_t)to, .kind = TAKES, .comm = e->comm, .source = (int8_t)e->rank, .tag = e->tag};
-    take.pushed = take.by = take.found = take.after = take.first = NO_STEP;
+    take.pushed = take.by = take.found = take.after = take.met = take.first = NO_STEP;
     if (e->kind == SENDS) {
         take.item = ULFM_MESSAGE;
         take.flags = SAW_NO_REVOCATION | (e->flags & WAITED_FOR);
@@ -26,13 +26,20 @@ static struct footprint take_of(int sent, int to) {
     return take;
 }
 
+/* Whether a receive, or a probe, might have had a message whose sender waits for that. */
+static bool might_match(const struct footprint *e, const struct footprint *message) {
+    bool is_of = (e->kind == POSTS || e->kind == PROBES) && e->comm == message->comm && (e->source == ANYBODY || e->source == message->source);
+    return message->flags & WAITED_FOR && is_of && (e->tag == -1 || e->tag == message->tag);
+}
+
 /* Whether the rank would have done something else before its stop, or its sender would. */
 static bool matters(int sent, int stop) {
     int to = um_footprints[stop].rank;
     struct footprint take = take_of(sent, to);
-    if (take.flags & WAITED_FOR) return true;
-    for (int k = 0; k < stop; k++)
-        if (um_footprints[k].rank == to && (um_is_dependent(&um_footprints[k], k, &take) || um_may_end_wait(k, &take))) return true;
+    for (int k = 0; k < stop; k++) {
+        const struct footprint *e = &um_footprints[k];
+        if (e->rank == to && (might_match(e, &take) || um_is_dependent(e, k, &take) || um_may_end_wait(k, &take))) return true;
+    }
     return false;
 }
 

@@ -54,6 +54,7 @@ bool um_end_receives(int rank) {
         if (ulfm_would(&um_ranks[rank].home, receive->id, &code) != ULFM_OK || code != ULFM_OK) continue;
         receive->is_open = false;
         receive->by = (int16_t)um_step;
+        present()->met = receive->posted;
         present()->ended = (uint32_t)receive->id + 1;
         note_ended(receive);
         has_ended = true;
@@ -122,7 +123,9 @@ static int16_t end_of_posted(int rank, const struct receive *made) {
 void um_add_receive(int rank, struct receive made) {
     uint32_t would = ULFM_NOT_YET;
     made.is_open = ulfm_would(&um_ranks[rank].home, made.id, &would) != ULFM_OK || would != ULFM_OK;
+    made.posted = (int16_t)um_step;
     made.by = made.is_open ? NO_STEP : end_of_posted(rank, &made);
+    present()->met = made.by;
     if (um_grow(&receives[rank], receive_count[rank], sizeof made)) receives[rank][receive_count[rank]++] = made;
 }
 

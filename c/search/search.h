@@ -28,8 +28,7 @@ enum {
     IN_VAIN = 8,
     OF_ANY = 16, /* a receive or a probe from any source */
     FOUND = 32,
-    UNWAITED = 64,   /* nothing had come whose sender waits for its match */
-    WAITED_FOR = 128 /* a message whose sender does */
+    WAITED_FOR = 64 /* a message whose sender waits for its match */
 };
 
 /* A look in vain. */
@@ -52,6 +51,7 @@ struct footprint {
     uint8_t gives;                 /* bits of ranks: to whom it gave a plane (mpi/plane.c) */
     int16_t pushed, by, found;     /* the events that pushed its item, that ended its request, by which the message came that its probe found */
     int16_t after;                 /* the event that ended the wait before it, where no look did */
+    int16_t met;                   /* of a message that met its receive: the other one of its coming and the post */
     int16_t first;                 /* of word of a revocation, or one's own: the event by which the rank learnt of it; NO_STEP: it is none */
     int32_t tag, made_in;          /* made_in: the number of the call of MPI */
     struct silence silent[SILENT]; /* looks in vain of the wait that it ends */
@@ -90,7 +90,7 @@ enum search_step um_end_searched(void);
 struct receive {
     uint64_t id;
     int comm, source, tag;
-    int16_t by; /* the event that ended it */
+    int16_t posted, by; /* the events that posted and that ended it */
     bool is_open;
 };
 
@@ -149,10 +149,9 @@ void um_note_silent(const struct event *call);
 void um_copy_silent(int rank);
 void um_keep_silent(int rank);
 int16_t um_end_of_wait(int rank);
-void um_note_unwaited(void);
 void um_note_match(struct parcel *parcel);
 void um_note_given(uint32_t members);
-void um_end_sent(int to, uint32_t code, int at);
+void um_end_sent(int to, uint32_t code, const struct parcel *parcel);
 
 /* ends.c */
 void um_begin_ends(bool wants_all);

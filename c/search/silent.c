@@ -59,15 +59,18 @@ int16_t um_end_of_wait(int rank) {
     return at;
 }
 
-/* A rank goes on without a look at what is open. */
-void um_note_unwaited(void) {
-    if (present()->rank == um_me->number) present()->flags |= UNWAITED;
+/* The last call of a rank. */
+static int16_t last_call_of(int rank) {
+    int at = um_step;
+    while (at >= 0 && (um_footprints[at].rank != rank || um_footprints[at].kind == TAKES || um_footprints[at].kind == LOSES)) at--;
+    return (int16_t)at;
 }
 
-/* The rank received the message of a send that waits for that. */
+/* The message of a send that waits met its receive; a matched probe's is made after the rank's last call. */
 void um_note_match(struct parcel *parcel) {
-    parcel->matched_at = um_step;
-    present()->matches |= (uint8_t)(1u << parcel->from);
+    struct footprint *own = present();
+    own->matches |= (uint8_t)(1u << parcel->from);
+    parcel->met_with = own->met == NO_STEP ? last_call_of(parcel->to) : own->met;
 }
 
 /* The rank gave others a plane: which one, depends on what these were given before. */
@@ -75,8 +78,8 @@ void um_note_given(uint32_t members) {
     if (present()->rank == um_me->number) present()->gives |= (uint8_t)members;
 }
 
-/* The sender looked at such a send to a rank; `at`: the event in which it was matched. */
-void um_end_sent(int to, uint32_t code, int at) {
+/* The sender looked at such a send to a rank. */
+void um_end_sent(int to, uint32_t code, const struct parcel *parcel) {
     struct footprint *own = present();
     own->source = (int8_t)to;
     own->other = (uint8_t)to;
@@ -86,5 +89,7 @@ void um_end_sent(int to, uint32_t code, int at) {
     if (code == ULFM_NOT_YET || code == ULFM_PROC_FAILED) own->fails = (uint8_t)(1u << to);
     if (code != ULFM_OK) return;
     own->flags = (own->flags & ASKED) | FOUND;
-    own->found = (int16_t)at;
+    own->found = (int16_t)parcel->matched_at;
+    own->met = (int16_t)parcel->met_with;
+    own->is_over_anyway = own->waits && um_is_known_revoked(own->rank, (uint32_t)own->comm);
 }
