@@ -48,7 +48,7 @@ static void want_taken(int sent, int stop) {
     struct node *node = &um_search->nodes[stop];
     processes take = bit_of(ring_of(um_footprints[sent].rank, um_footprints[stop].rank));
     if (sent > stop) um_want(stop, sent);
-    else if (!(take & (node->wanted | node->done | asleep(&node->sleepers)))) node->wanted |= take & node->enabled;
+    else if (!(take & (node->wanted | node->done | um_asleep(&node->sleepers, stop)))) node->wanted |= take & node->enabled;
 }
 
 /* The event that sent something, without the stop; word of a revocation would be sent by any word that comes of it. NO_STEP: it needs the stop. */

@@ -45,7 +45,8 @@ extern struct search {
     enum cut cut;
     int choices[MOST_STEPS];
     processes enabled[MOST_STEPS];
-    struct sleepers sleepers; /* at the event that comes next */
+    int8_t words[MOST_STEPS][PROCESSES]; /* of which communicator a process would bring the first word of a revocation; NO_STEP: none */
+    struct sleepers sleepers;            /* at the event that comes next */
     struct node nodes[MOST_STEPS];
     struct footprint footprints[MOST_STEPS];
     struct ends ends[MOST_STEPS];       /* of the wait that an event is in */
@@ -58,11 +59,8 @@ extern struct search {
     int rank_count[MAX_RANKS], across_count, last_of[PROCESSES];
 } * um_search;
 
-static inline processes asleep(const struct sleepers *sleepers) {
-    processes set = 0;
-    for (int k = 0; k < sleepers->count; k++) set |= bit_of(sleepers->at[k].process);
-    return set;
-}
+/* search.c */
+processes um_asleep(const struct sleepers *sleepers, int at);
 
 static inline int lowest(processes set) {
     int process = 0;

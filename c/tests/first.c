@@ -129,6 +129,20 @@ static int told(void) {
     return MPI_Allreduce(&one, &in[0], 1, MPI_INT, MPI_SUM, MPI_COMM_WORLD) == MPIX_ERR_REVOKED;
 }
 
+/* Rank 3 stops inside an agreement, which rank 1 may know before it enters. Whether the flag of rank 3 was left out. */
+static int decided(void) {
+    int flag = ~(1 << me);
+    if (me == 1) receive(3, 1);
+    MPIX_Comm_agree(MPI_COMM_WORLD, &flag);
+    return flag >> 3 & 1;
+}
+
+/* .. where rank 0 revokes before: so rank 1 is told of the failure, or of that, by any of several words. */
+static int hurried(void) {
+    if (me == 0) MPIX_Comm_revoke(MPI_COMM_WORLD);
+    return decided();
+}
+
 /* A part of the group is revoked, which the search doesn't follow. */
 static int part(void) {
     MPI_Comm half;
@@ -146,7 +160,7 @@ int main(int count, char **words) {
         int (*play)(void);
     } plays[] = {{"any", any},     {"some", some},   {"all", all},       {"wild", wild},       {"probe", probe},
                  {"sends", sends}, {"mixed", mixed}, {"tested", tested}, {"matched", matched}, {"revoked", revoked},
-                 {"ordered", ordered}, {"left", left}, {"told", told}, {"part", part}};
+                 {"ordered", ordered}, {"left", left}, {"told", told}, {"decided", decided}, {"hurried", hurried}, {"part", part}};
     int met = NONE;
     MPI_Init(&count, &words);
     MPI_Comm_set_errhandler(MPI_COMM_WORLD, MPI_ERRORS_RETURN);
