@@ -39,6 +39,16 @@ void um_note_item(int rank, int from, const ulfm_next_item *item) {
     if (item->kind == ULFM_AGREE_ENTRY) heard[rank][from][item->comm][true] = (int)item->round + 1;
 }
 
+/* Who entered, and need not have: those that entries of members which aren't excluded say have failed, where that is so too of whom theirs say it. */
+static uint8_t optional_of(const struct proposal *made, uint32_t comm, bool agrees) {
+    uint8_t said = 0, optional = 0;
+    for (int k = 0; k < MAX_RANKS; k++)
+        if (made->listed & ~made->excluded & 1u << k) said |= entries[k][comm][agrees].at[made->round].known;
+    for (int k = 0; k < MAX_RANKS; k++)
+        if (made->listed & said & 1u << k && !(entries[k][comm][agrees].at[made->round].known & ~said)) optional |= (uint8_t)(1u << k);
+    return optional;
+}
+
 /* What the rank would propose for its last shrink or agreement. */
 struct proposal um_proposal_of(int rank, uint32_t comm, bool agrees) {
     ulfm_group group;
@@ -57,6 +67,7 @@ struct proposal um_proposal_of(int rank, uint32_t comm, bool agrees) {
     }
     made.excluded = (known[rank] | made.by_entries) & made.all;
     made.is_possible = ((made.listed | made.excluded) & made.all) == made.all;
+    made.optional = optional_of(&made, comm, agrees);
     return made;
 }
 

@@ -144,8 +144,17 @@ static bool are_of_copy(const struct footprint *a, const struct footprint *b) {
     return (is_message(a) && um_is_of_single(a->comm, a->tag)) || (is_message(b) && um_is_of_single(b->comm, b->tag));
 }
 
-static bool are_entry_and_poll(const struct footprint *a, const struct footprint *b) {
-    return a->topic == b->topic && ((is_entry(a) && is_poll(b)) || (is_entry(b) && is_poll(a)));
+/* An entry and a poll of its topic; where that was decided before the poll, it needs the entry to be made at all, or doesn't care for it. */
+static bool are_entry_and_poll(const struct footprint *a, int at, const struct footprint *b) {
+    if (a->topic != b->topic) return false;
+    if (is_entry(b)) return is_poll(a) && !a->follows;
+    return is_entry(a) && is_poll(b) && !(b->follows && (at == BEFORE || b->optional >> a->source & 1));
+}
+
+/* Polls of one topic by two ranks: the first one decides. */
+static bool are_polls(const struct footprint *a, int at, const struct footprint *b) {
+    bool is_decided = a->follows || (at == BEFORE && b->follows);
+    return is_poll(a) && is_poll(b) && a->topic == b->topic && a->flags & b->flags & FOUND && a->proposal != b->proposal && !is_decided;
 }
 
 /* Whether an event of the sender looks whether its send to a rank was matched. */
@@ -198,16 +207,15 @@ void um_come_after(struct footprint *e, const struct footprint *other) {
 
 /* Whether a, of the number `at`, and a later event of another process don't commute. */
 bool um_is_dependent(const struct footprint *a, int at, const struct footprint *b) {
-    bool have_found = a->flags & b->flags & FOUND;
     if (a->kind == LOSES || b->kind == LOSES) return false; /* these are no races: see keep_nodes */
     if ((a->matches | b->matches) && are_match_and_look(a, b)) return true;
     if (a->gives & b->gives) return true;
-    if (a->rank != b->rank) return is_poll(a) && is_poll(b) && a->topic == b->topic && have_found && a->proposal != b->proposal;
+    if (a->rank != b->rank) return are_polls(a, at, b);
     if (are_words_of_one(a, b)) return false;
     if (are_match_and_stop(a, b) || is_silent_before(a, b)) return true;
     if (brings_nothing(b)) return is_before_word(a, at, b);
     return is_before_revocation(a, at, b) || is_after_revocation(a, at, b) || is_before_failure(a, b) || is_after_failure(a, at, b) ||
-           is_before_message(a, b) || is_after_message(a, at, b) || are_entry_and_poll(a, b) || are_of_copy(a, b);
+           is_before_message(a, b) || is_after_message(a, at, b) || are_entry_and_poll(a, at, b) || are_of_copy(a, b);
 }
 
 /* Whether both are of one ring: an item is taken, and what is behind is lost. */
@@ -223,7 +231,7 @@ bool um_do_commute(const struct footprint *a, const struct footprint *b) {
 bool um_is_needed(const struct footprint *a, const struct footprint *b) {
     if (b->kind == ASKS_REVOKED && b->waits && is_revoker(a)) return true;
     if (!is_poll(b) || !(b->flags & FOUND) || a->rank != b->rank) return false;
-    if (is_entry(a) && a->topic == b->topic) return !(b->excluded >> a->source & 1);
+    if (is_entry(a) && a->topic == b->topic) return b->follows || !(b->excluded >> a->source & 1);
     return is_failure(a) && !((b->listed | b->by_entries) & a->fails);
 }
 

@@ -10,6 +10,7 @@ int um_step;
 
 /* The event by which a rank learnt of the revocation of a communicator, its number and 1; 0: it didn't. */
 static int revoked_at[MAX_RANKS][CONTEXTS];
+static int decided[CONTEXTS]; /* so many agreements on a communicator were decided */
 
 static struct footprint *present(void) { return &um_footprints[um_step]; }
 static uint32_t members_of(int rank, uint32_t comm) {
@@ -211,5 +212,8 @@ void um_end_poll(bool agrees, const struct proposal *proposal, uint32_t answer) 
     own->excluded = proposal->excluded;
     own->by_entries = proposal->by_entries;
     own->fails = agrees ? 0 : proposal->all & (uint8_t)~proposal->by_entries; /* what entries say it knows anyway */
+    own->follows = agrees && decided[own->comm] > proposal->round;
+    own->optional = own->follows ? proposal->optional : 0;
+    if (agrees && !own->follows) decided[own->comm] = proposal->round + 1;
     own->proposal = agrees ? ((uint64_t)proposal->value << 8 | (proposal->listed & proposal->all)) : proposal->excluded;
 }

@@ -63,11 +63,14 @@ struct footprint {
     uint8_t entered;               /* of an entry into a shrink: bits of the failed ranks that made theirs */
     uint32_t topic, answer;        /* topic: of shrinks and agreements */
     uint64_t proposal;             /* of a poll: what tells its own proposal from others */
+    bool follows;                  /* .. of an agreement that was decided before */
+    uint8_t optional;              /* .. then: bits of ranks whose entries it could have gone without */
 };
 
 /* A decision as a rank would propose it. */
 struct proposal {
     uint8_t all, listed, excluded, by_entries;
+    uint8_t optional; /* who is known to have failed by entries of others, as is all that its own entry says */
     uint32_t value;
     int round;
     bool is_possible;
