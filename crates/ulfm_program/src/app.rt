@@ -28,6 +28,13 @@ use ulfm_outcomes_spec::Finder;
 use ulfm_reader::{InputFault, read_front, write_whole};
 use ulfm_run_reply::{AnyBody, AnyReply};
 
+/// What standard error says of a run that came to rest.
+const AT_REST: &str = "the run came to rest: nothing waits for a rank that runs on\n";
+
+/// What it says of one that didn't.
+const NOT_AT_REST: &str =
+    "the run ended before it came to rest: something waits for a rank that runs on\n";
+
 /// What is written where a word can't be read.
 const NOT_TEXT: &str = "a word of the command line isn't UTF-8\n";
 
@@ -171,6 +178,15 @@ fn write_remarks<E: Write>(
     if let Some(remarks) = &reply.remarks {
         write_notes(alloc, wanted, bytes, remarks.as_slice(), errors);
     }
+    if let AnyBody::Ran(_, ran) = &reply.body {
+        write_rest(ran.is_at_rest, errors);
+    }
+}
+
+/// Says whether a run came to rest.
+fn write_rest<E: Write>(is_at_rest: bool, errors: &mut E) {
+    let line = if is_at_rest { AT_REST } else { NOT_AT_REST };
+    let _is_written = write_whole(errors, line.as_bytes());
 }
 
 /// Writes that memory ran out, in this form, and answers the status of that, or of output that failed.

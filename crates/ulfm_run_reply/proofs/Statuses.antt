@@ -22,7 +22,7 @@ replayed form is_strict turns place bytes status text (not_replayed k words is) 
 replayed form is_strict turns place bytes status text failed = run_fails
 
 pub run_known : (form : Form) (options : RunOptions) (bytes : List ℕ) (status : ℕ) (text : List ℕ) → IsRunReply form options bytes status text → IsKnown status
-run_known form options bytes status text (ran asked reports once is lawful) = played options.is_strict (as_asked asked.rows (given_turns options.turns asked.job) reports) (has_unfinished (given_turns options.turns asked.job) reports)
+run_known form options bytes status text (ran asked reports is_at_rest once is lawful) = played options.is_strict (as_asked asked.rows (given_turns options.turns asked.job) reports) (has_unfinished (given_turns options.turns asked.job) reports)
 run_known form options bytes status text (repeated asked runs times is lawful) = played options.is_strict (list_all (as_asked asked.rows (given_turns options.turns asked.job)) runs) (list_any (has_unfinished (given_turns options.turns asked.job)) runs)
 run_known form options bytes status text (not_run k words is) = no_play form options.place bytes status text is
 run_known form options bytes status text (no_thread asked is) = run_fails

@@ -1,6 +1,7 @@
 pub mod Tally
 pub mod Brief
 pub mod Sweep
+pub mod Rest
 pub mod AnyBody
 pub mod Played
 pub mod Unfinished

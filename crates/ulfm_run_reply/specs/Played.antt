@@ -1,5 +1,5 @@
 -- What the program writes for a job that is played: replayed, run, or drawn.
-use Rattle.std.specs.Prelude.{◌≡◌, ◌≤◌, ℕ, Bool, List, [], length, Option, Some, None, All}
+use Rattle.std.specs.Prelude.{◌≡◌, ◌↔◌, ◌≤◌, ℕ, Bool, true, List, [], length, Option, Some, None, All}
 use Rattle.std.specs.List.{list_all, list_any}
 use Rattle.std.specs.Option.{option_map_or}
 use Rattle.ulfm_base.specs.Items.{items_from}
@@ -12,12 +12,14 @@ use Rattle.ulfm_report_laws.specs.Flow.{AreWithin, Inboxes, inbox_of}
 use Rattle.ulfm_report_laws.specs.Lawful.{IsLawful}
 use Rattle.ulfm_report_laws.specs.Reports.{IsEach}
 use Rattle.ulfm_run.specs.Fault.{ShowUntrue}
+use Rattle.ulfm_report_laws.specs.Rest.{IsAtRest}
 use Rattle.ulfm_report_laws.specs.Room.{HaveRoom}
 use Rattle.ulfm_world.specs.Replay.{MadeAtRest}
 use Rattle.ulfm_run_reply.specs.Brief.{repeats_in}
 use Rattle.ulfm_command_line.specs.declared.command.RunOptions.{RunOptions}
 use Rattle.ulfm_command_line.specs.Failure.{failed_in, out_of_memory_in}
 use Rattle.ulfm_run_reply.specs.Asking.{as_asked}
+use Rattle.ulfm_run_reply.specs.Rest.{ran_in}
 use Rattle.ulfm_command_line.specs.Stopped.{Asked, IsAskedAt, IsRefusal}
 use Rattle.ulfm_run_reply.specs.Unfinished.{has_unfinished, played_status}
 use Rattle.ulfm_command_line.specs.declared.failure.Failure.TheVariants as run
@@ -55,6 +57,12 @@ pub record AreOfRun (job : JobView) (reports : List Report) : Type 0 where
   pub within : AreWithin lawful.inboxes job.capacity
   pub room : HaveRoom reports job.capacity
 
+-- these are the reports of a run, and it came to rest or not, with what it left in inboxes: at rest running ranks know what `rest` of
+-- `LawfulReport` says
+pub record RanTo (job : JobView) (reports : List Report) (is_at_rest : Bool) : Type 0 where
+  pub run : AreOfRun job reports
+  pub rest : (is_at_rest ≡ true) ↔ IsAtRest run.lawful.inboxes reports
+
 -- the reports are lawful for the job; rings of its places don't hold what is left in inboxes, or allow no order of all logs
 pub record ShowNoRoom (job : JobView) (reports : List Report) : Type 0 where
   pub lawful : IsLawful job reports
@@ -62,12 +70,12 @@ pub record ShowNoRoom (job : JobView) (reports : List Report) : Type 0 where
   pub crowded : HaveRoom reports job.capacity → AreWithin lawful.inboxes job.capacity → ⊥
 
 -- The status and the text that `run` gives: with 0, 6 or 9, the trace of reports that are lawful for the job and had room, whichever thread
--- went when; with 3 the line of what failed. F2 comes for a good job alone, and F4 only with reports of the job's ranks that show it. With
+-- went when, and as JSON whether the run came to rest; with 3 the line of what failed. F2 comes for a good job alone, and F4 only with reports of the job's ranks that show it. With
 -- `--repeat` each distinct trace of so many such runs comes once with its count, and with `--brief` each distinct line.
 pub data IsRunReply (form : Form) (options : RunOptions) (bytes : List ℕ) : ℕ → List ℕ → Type 0 where
-  ran : (asked : Asked) (reports : List Report) → options.repeat ≡ None → IsAskedAt options.place bytes asked
-      → AreOfRun (given_turns options.turns asked.job) reports
-      → IsRunReply form options bytes (played_status options.is_strict (as_asked asked.rows (given_turns options.turns asked.job) reports) (has_unfinished (given_turns options.turns asked.job) reports)) (trace_in form asked.names (given_turns options.turns asked.job) reports)
+  ran : (asked : Asked) (reports : List Report) (is_at_rest : Bool) → options.repeat ≡ None → IsAskedAt options.place bytes asked
+      → RanTo (given_turns options.turns asked.job) reports is_at_rest
+      → IsRunReply form options bytes (played_status options.is_strict (as_asked asked.rows (given_turns options.turns asked.job) reports) (has_unfinished (given_turns options.turns asked.job) reports)) (ran_in form asked.names (given_turns options.turns asked.job) reports is_at_rest)
   repeated : (asked : Asked) (runs : List (List Report)) → options.repeat ≡ Some (length runs) → IsAskedAt options.place bytes asked
       → All (AreOfRun (given_turns options.turns asked.job)) runs
       → IsRunReply form options bytes (played_status options.is_strict (list_all (as_asked asked.rows (given_turns options.turns asked.job)) runs) (list_any (has_unfinished (given_turns options.turns asked.job)) runs)) (repeats_in form options.is_brief asked.names (given_turns options.turns asked.job) runs)

@@ -4,6 +4,7 @@ ghost use Rattle.ulfm_run_reply.specs.AnyBody.{text_in};
 
 use crate::brief::brief_text;
 use crate::lines_at::LinesAt;
+use crate::ran::Ran;
 use crate::swept::sweep_text;
 use crate::tally::{Counted, tally_text};
 use crate::traced::trace_in;
@@ -21,6 +22,8 @@ pub enum AnyBody {
     Plain(Body),
     /// The trace of the reports of a job's ranks.
     Trace(Reading, Vec<RankReport>),
+    /// The trace of a run, and whether it came to rest.
+    Ran(Reading, Ran),
     /// The distinct traces of so many runs, each with its count.
     Tally(u32, Vec<Counted>),
     /// The lines that all of so many runs of a job have, and the others, each with its count.
@@ -43,6 +46,7 @@ impl AnyBody {
             AnyBody::Trace(asked, reports) => {
                 Ok(trace_in(alloc, form, &asked.names, &asked.job, reports.as_slice())?)
             }
+            AnyBody::Ran(asked, ran) => Ok(ran.text(alloc, form, asked)?),
             AnyBody::Tally(times, rows) => tally_text(alloc, form, *times, rows.as_slice()),
             AnyBody::Brief(asked, times, spots) => {
                 brief_text(alloc, form, asked, *times, spots.as_slice())

@@ -19,6 +19,8 @@
 //!   11, or no one order; or where some lawful ones have no order that rings of its `capacity` allow, or leave more of a rank in an inbox than these
 //!   have places. There is an inbox for each rank, and nothing is left in it of others (`failed_in`, Failure.antt of `ulfm_command_line`;
 //!   `ShowUntrue`, Fault.antt of `ulfm_run`; `ShowNoRoom`, `AreOfRanks`, Played.antt).
+//! - [`run_reply`]: as JSON an object below the trace says whether nothing waits for any running rank. Then these know what failed and was revoked
+//!   (`RanTo`, Played.antt; `rest_in`, Rest.antt; `rest` of `LawfulReport`, Lawful.antt of `ulfm_report_laws`).
 //! - With `--turns N` a replay or a run is one of the job with `turns = N` (`given_turns`, Played.antt).
 //! - With `--repeat N` there are `N` lists of lawful reports, and each distinct trace is written once, with its count. With `--brief` too, each
 //!   distinct line is (`repeats_in`, Brief.antt).
@@ -30,7 +32,7 @@
 //!
 //! - `replayed.rt`, `run.rt`, `swept.rt`, `picture.rt`: the four replies
 //! - `any_reply.rt`: a reply, also one of no play; `any_body.rt`: what is written with its status, and its text
-//! - `trace.rt`: the reply that a trace is, with its status; `traced.rt`: its text, in words or as JSON
+//! - `trace.rt`: the reply that a trace is, with its status; `traced.rt`: its text, in words or as JSON; `ran.rt`: what came of a run, and its text
 //! - `demands.rt`: whether answers are as the job asks
 //! - `tally.rt`: `run --repeat`, each trace once with its count; `lines_at.rt`: each line once, place by place; `line_at.rt`: one of them;
 //!   `brief.rt`: what is printed of them
@@ -48,6 +50,7 @@ mod faults;
 mod line_at;
 mod lines_at;
 mod picture;
+mod ran;
 mod remarks;
 mod replayed;
 mod run;
@@ -61,6 +64,7 @@ pub use any_body::AnyBody;
 pub use any_reply::AnyReply;
 pub use lines_at::LinesAt;
 pub use picture::draw_reply;
+pub use ran::Ran;
 pub use replayed::replay_reply;
 pub use run::run_reply;
 pub use swept::sweep_reply;

@@ -9,7 +9,7 @@ ghost use Rattle.ulfm_carrier.specs.Shared.{inbox_capacity, shared_name, shared_
 ghost use Rattle.ulfm_board.specs.Known.{OneBoard, nothing_known};
 ghost use Rattle.ulfm_run_reply.specs.inside.Cells.{AreEnough};
 ghost use Rattle.ulfm_run_reply.specs.AnyBody.{text_in};
-ghost use Rattle.ulfm_run_reply.specs.Played.{AreOfRanks, AreOfRun, IsRunReply};
+ghost use Rattle.ulfm_run_reply.specs.Played.{AreOfRanks, IsRunReply, RanTo};
 ghost use Rattle.ulfm_run_reply.specs.inside.Shown.{IsShown};
 ghost use Rattle.ulfm_command_line.specs.CommandLine.{AreInRange};
 ghost use Rattle.ulfm_report_laws.specs.Lawful.{LawfulReport};
@@ -18,8 +18,9 @@ ghost use Rattle.ulfm_script.specs.Deciding.{Known};
 
 use crate::any_reply::AnyReply;
 use crate::faults::failure_of;
+use crate::ran::Ran;
 use crate::tally::{tally_of, tally_reply};
-use crate::trace::trace_reply;
+use crate::trace::ran_reply;
 use crate::turns::given_turns;
 use std::alloc::{AllocError, Global};
 use std::sync::Wait;
@@ -30,8 +31,7 @@ use ulfm_carrier::{Ends, LaneEnds, SharedEnds, lanes, shared};
 use ulfm_command_line::{Carrier, Failure, RunOptions, asked_at, failed};
 use ulfm_forms::Form;
 use ulfm_job::Job;
-use ulfm_run::{Report, fits, run_job};
-use ulfm_script::RankReport;
+use ulfm_run::{Report, at_rest, fits, run_job};
 
 /// The reply of `run` with these options. Traces that are counted have this form, in which the reply is to be written.
 pub fn run_reply<R: Threads + Wait + Sync>(
@@ -57,7 +57,7 @@ pub fn run_reply<R: Threads + Wait + Sync>(
     }
     let ran = run_by_carrier(rt, alloc, options.carrier, &asked.job);
     match ran {
-        Ok(reports) => Ok(trace_reply(alloc, options.is_strict, asked, reports)),
+        Ok(ran) => Ok(ran_reply(alloc, options.is_strict, asked, ran)),
         Err(failure) => Ok(AnyReply::plain(failed(failure))),
     }
 }
@@ -68,8 +68,8 @@ pub fn run_by_carrier<R: Threads + Wait + Sync>(
     alloc: Global,
     carrier: Carrier,
     job: &Job,
-) -> Result<Vec<RankReport>, Failure>
-    ensures ran { IfOk result (λ reports. AreOfRun job.now reports.items) }
+) -> Result<Ran, Failure>
+    ensures ran { IfOk result (λ ran. RanTo job.now ran.reports.items ran.is_at_rest) }
     ensures shown { IfErr result (λ failure. IsShown job.now failure) }
 {
     match carrier {
@@ -79,12 +79,8 @@ pub fn run_by_carrier<R: Threads + Wait + Sync>(
 }
 
 /// What the ranks of a job did, with a ring for each ordered pair.
-fn run_by_lanes<R: Threads + Wait + Sync>(
-    rt: &R,
-    alloc: Global,
-    job: &Job,
-) -> Result<Vec<RankReport>, Failure>
-    ensures ran { IfOk result (λ reports. AreOfRun job.now reports.items) }
+fn run_by_lanes<R: Threads + Wait + Sync>(rt: &R, alloc: Global, job: &Job) -> Result<Ran, Failure>
+    ensures ran { IfOk result (λ ran. RanTo job.now ran.reports.items ran.is_at_rest) }
     ensures shown { IfErr result (λ failure. IsShown job.now failure) }
 {
     match lanes_of(alloc, job) {
@@ -105,12 +101,8 @@ fn lanes_of(alloc: Global, job: &Job) -> Result<Vec<LaneEnds>, CallError>
 }
 
 /// What the ranks of a job did, with one inbox for each rank.
-fn run_by_shared<R: Threads + Wait + Sync>(
-    rt: &R,
-    alloc: Global,
-    job: &Job,
-) -> Result<Vec<RankReport>, Failure>
-    ensures ran { IfOk result (λ reports. AreOfRun job.now reports.items) }
+fn run_by_shared<R: Threads + Wait + Sync>(rt: &R, alloc: Global, job: &Job) -> Result<Ran, Failure>
+    ensures ran { IfOk result (λ ran. RanTo job.now ran.reports.items ran.is_at_rest) }
     ensures shown { IfErr result (λ failure. IsShown job.now failure) }
 {
     match shared_of(alloc, job) {
@@ -136,12 +128,12 @@ fn run_by<E: Ends + Send, R: Threads + Wait + Sync>(
     alloc: Global,
     job: &Job,
     ends: Vec<E>,
-) -> Result<Vec<RankReport>, Failure>
+) -> Result<Ran, Failure>
     requires each { length ends.items ≡ job.now.ranks }
     requires family { E.one_call (map E.name ends.items) }
     requires places { InPlace E.place ends.items }
     requires fresh { AllFresh E.count E.pushed E.taken E.ready ends.items }
-    ensures ran { IfOk result (λ reports. AreOfRun job.now reports.items) }
+    ensures ran { IfOk result (λ ran. RanTo job.now ran.reports.items ran.is_at_rest) }
     ensures shown { IfErr result (λ failure. IsShown job.now failure) }
 {
     let deciders = match seats_of(alloc, job) {
@@ -157,17 +149,21 @@ fn run_by<E: Ends + Send, R: Threads + Wait + Sync>(
     }
 }
 
-/// What the ranks of a job did, if rings of the job's places allow it and what is left in the inboxes.
-fn fitting<E: Drop, D: Drop>(job: &Job, report: Report<E, D>) -> Result<Vec<RankReport>, Failure>
+/// What the ranks of a job did, if rings of the job's places allow it and what is left in the inboxes, and whether they came to rest.
+fn fitting<E: Drop, D: Drop>(job: &Job, report: Report<E, D>) -> Result<Ran, Failure>
     requires lawful { (knows : List Known) × LawfulReport job.now (contents report.residue.inboxes.items) knows report.ranks.items }
     requires own { AreOfRanks job.now (contents report.residue.inboxes.items) }
-    ensures ran { IfOk result (λ reports. AreOfRun job.now reports.items) }
+    ensures ran { IfOk result (λ ran. RanTo job.now ran.reports.items ran.is_at_rest) }
     ensures shown { IfErr result (λ failure. IsShown job.now failure) }
 {
     if !fits(&report, job.capacity()) {
         return Err(Failure::Untrue);
     }
-    Ok(report.ranks)
+    let is_at_rest = at_rest(&report);
+    Ok(Ran {
+        reports: report.ranks,
+        is_at_rest,
+    })
 }
 
 /// The seats of a job's ranks at one board. It has a cell for each agreement that a rank can come to, as for each shrink.

@@ -93,8 +93,8 @@ pub fn tally_of<R: Threads + Wait + Sync>(
     };
     let mut done = 0;
     while done < times {
-        let reports = run_by_carrier(rt, alloc, options.carrier, &asked.job)?;
-        tally = match counted_run(form, asked, tally, reports.as_slice(), done) {
+        let ran = run_by_carrier(rt, alloc, options.carrier, &asked.job)?;
+        tally = match counted_run(form, asked, tally, ran.reports.as_slice(), done) {
             Ok(tally) => tally,
             Err(_) => return Err(Failure::OutOfMemory),
         };

@@ -4,11 +4,12 @@ ghost use Rattle.ulfm_answer.specs.Report.{is_unfinished};
 ghost use Rattle.ulfm_reader.specs.JobText.{rows_of};
 ghost use Rattle.ulfm_run_reply.specs.Asking.{as_asked};
 ghost use Rattle.ulfm_run_reply.specs.Unfinished.{has_unfinished, left_from, leaves_unfinished, played_status};
-ghost use Rattle.ulfm_run_reply.specs.declared.any_body.AnyBody.TheVariants.{Trace};
+ghost use Rattle.ulfm_run_reply.specs.declared.any_body.AnyBody.TheVariants.{Ran as Run, Trace};
 
 use crate::any_body::AnyBody;
 use crate::any_reply::AnyReply;
 use crate::demands::as_asked;
+use crate::ran::Ran;
 use crate::remarks::remarks_on;
 use std::alloc::Global;
 use ulfm_answer::{StepAnswer, StepReport};
@@ -27,14 +28,35 @@ pub fn trace_reply(
     ensures status { result.status ≡ played_status is_strict (as_asked (rows_of asked.never.items) asked.job reports.items) (has_unfinished asked.job reports.items) }
     ensures body { result.body ≡ Trace asked reports }
 {
-    let is_met = as_asked(alloc, &asked, &reports);
-    let is_unfinished = has_unfinished(&asked.job, &reports);
+    let status = status_of(alloc, is_strict, &asked, reports.as_slice());
     let remarks = remarks_on(alloc, &asked, &reports);
     AnyReply {
-        status: played_status(is_strict, is_met, is_unfinished),
+        status,
         body: AnyBody::Trace(asked, reports),
         remarks,
     }
+}
+
+/// The trace of a run, with its status, by what the text of the job asks for.
+pub fn ran_reply(alloc: Global, is_strict: bool, asked: Reading, ran: Ran) -> AnyReply
+    ensures status { result.status ≡ played_status is_strict (as_asked (rows_of asked.never.items) asked.job ran.reports.items) (has_unfinished asked.job ran.reports.items) }
+    ensures body { result.body ≡ Run asked ran }
+{
+    let status = status_of(alloc, is_strict, &asked, ran.reports.as_slice());
+    let remarks = remarks_on(alloc, &asked, &ran.reports);
+    AnyReply {
+        status,
+        body: AnyBody::Ran(asked, ran),
+        remarks,
+    }
+}
+
+/// The status of the reports of a job's ranks, by what its text asks for.
+fn status_of(alloc: Global, is_strict: bool, asked: &Reading, reports: &[RankReport]) -> u8
+    ensures { result ≡ played_status is_strict (as_asked (rows_of asked.now.never.items) asked.now.job reports.now) (has_unfinished asked.now.job reports.now) }
+{
+    let is_met = as_asked(alloc, asked, reports);
+    played_status(is_strict, is_met, has_unfinished(&asked.job, reports))
 }
 
 /// The status of what was played to its end, by whether the answers are as the job asks, and whether a step was left unfinished.

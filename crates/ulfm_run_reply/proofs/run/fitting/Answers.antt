@@ -12,10 +12,13 @@ pub returns-clause-ran : goal.returns-clause-ran
 returns-clause-ran g c =
     let inboxes = contents c.args.report.residue.inboxes.items in
     let fit = c.fits.ensures.0 c.if-not-fits.false in record {
-      lawful = record { inboxes = inboxes; knows = c.requires.lawful.0; lawful = c.requires.lawful.1 };
-      own = c.requires.own;
-      within = subst (λ (n : ℕ). AreWithin inboxes n) c.capacity.ensures.exact fit.1;
-      room = subst (λ (n : ℕ). HaveRoom c.args.report.ranks.items n) c.capacity.ensures.exact fit.0;
+      run = record {
+        lawful = record { inboxes = inboxes; knows = c.requires.lawful.0; lawful = c.requires.lawful.1 };
+        own = c.requires.own;
+        within = subst (λ (n : ℕ). AreWithin inboxes n) c.capacity.ensures.exact fit.1;
+        room = subst (λ (n : ℕ). HaveRoom c.args.report.ranks.items n) c.capacity.ensures.exact fit.0;
+      };
+      rest = c.at_rest-is_at_rest.ensures;
     }
 
 pub returns-then-not-fits-clause-shown : goal.returns-then-not-fits-clause-shown

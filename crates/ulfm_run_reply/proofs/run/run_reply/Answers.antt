@@ -4,7 +4,7 @@ use Rattle.ulfm_job.specs.Job.{JobView}
 use Rattle.ulfm_reader.specs.JobText.{rows_of}
 use Rattle.ulfm_reader.specs.declared.reading.Reading.{Reading}
 use Rattle.ulfm_command_line.specs.Stopped.{IsAsked, asked_view}
-use Rattle.ulfm_run_reply.specs.Played.{AreOfRun, ran, repeated, not_run, given_turns}
+use Rattle.ulfm_run_reply.specs.Played.{AreOfRun, RanTo, ran, repeated, not_run, given_turns}
 use Rattle.ulfm_forms.specs.Form.{trace_in}
 use Rattle.ulfm_run_reply.specs.Brief.{lines_there, repeats_in}
 use Rattle.ulfm_run_reply.specs.Tally.{tally}
@@ -47,12 +47,13 @@ returns-in-Err-tally_of g c =
 
 pub returns-in-Ok-ran : goal.returns-in-Ok-ran
 returns-in-Ok-ran g c =
-    let reports = c.in-Ok-ran.reports.items in
+    let reports = c.in-Ok-ran.ran.reports.items in
+    let is_at_rest = c.in-Ok-ran.ran.is_at_rest in
     let given = c.given_turns-asked.ensures in
     let job : c.given_turns-asked.result.job ≡ given_turns c.args.options.turns c.in-Ok.asked.job = ap (λ (asked : Reading). asked.job) given in
-    let of_run : AreOfRun (given_turns c.args.options.turns c.in-Ok.asked.job) reports = subst (λ (j : JobView). AreOfRun j reports) job c.in-Ok-ran.ensures.ran in
+    let ran_to : RanTo (given_turns c.args.options.turns c.in-Ok.asked.job) reports is_at_rest = subst (λ (j : JobView). RanTo j reports is_at_rest) job c.in-Ok-ran.ensures.ran in
     let read = subst (IsAsked c.args.options.place c.args.bytes.now) c.in-Ok.is c.in_ok-read.ensures in
-    rw (c.trace_reply.ensures.status, c.trace_reply.ensures.body, given) (ran (asked_view c.in-Ok.asked) reports (without_repeat c.args.options.repeat c.in_default.not-Some) read of_run)
+    rw (c.ran_reply.ensures.status, c.ran_reply.ensures.body, given) (ran (asked_view c.in-Ok.asked) reports is_at_rest (without_repeat c.args.options.repeat c.in_default.not-Some) read ran_to)
 
 pub returns-in-Err-ran : goal.returns-in-Err-ran
 returns-in-Err-ran g c =

@@ -30,7 +30,7 @@ loop-done-preserved g c =
     let is_bad = has_unfinished asked.job in
     let is_good = as_asked (rows_asked asked.never.items) asked.job in
     let runs = known.0 in
-    let reports = c.in_ok-reports.reports.items in
+    let reports = c.in_ok-ran.ran.reports.items in
     let counted = c.in-Ok-counted_run.ensures in
     let value = c.as_slice.ensures.value in (
       omega (arith, c.loop-done-test.true),
@@ -39,7 +39,7 @@ loop-done-preserved g c =
       (
         runs ++ reports ∷ [],
         length-append runs (reports ∷ []) ∙ ap (λ n. n + 1) known.1,
-        All-push (AreOfRun asked.job) runs reports known.2 c.in_ok-reports.ensures.ran,
+        All-push (AreOfRun asked.job) runs reports known.2 c.in_ok-ran.ensures.ran.run,
         counted.unfinished ∙ ap₂ (λ b rs. b || is_bad rs) known.3 value ∙ sym (some_more is_bad runs reports),
         counted.met ∙ ap₂ (λ b rs. b && is_good rs) known.4 value ∙ sym (all_more is_good runs reports),
         counted.traces ∙ ap₂ (λ rows rs. counted_once rows (told rs)) known.5 value ∙ sym (one_more told runs reports),
