@@ -10,7 +10,7 @@ use Rattle.ulfm_outcomes_spec.specs.Unmet.{MeetsExpected}
 use Rattle.ulfm_job.specs.Place.{IsPlaceOf, job_at}
 use Rattle.ulfm_job.specs.declared.place.Place.{Place}
 use Rattle.ulfm_job.specs.declared.place.Place.TheVariants.{Nowhere}
-use Rattle.ulfm_outcomes_reply.specs.Lists.{AreLists, IsListedAt, job_asked_at}
+use Rattle.ulfm_outcomes_reply.specs.Lists.{AreLists, IsListedAt, beyond, job_asked_at, no_place, within}
 use Rattle.ulfm_outcomes_list.specs.declared.place_list.Listed.{Listed}
 use Rattle.ulfm_job.specs.declared.clause.Clause.{Clause}
 use Rattle.ulfm_job.specs.Places.{places_of}
@@ -21,7 +21,7 @@ use Rattle.ulfm_command_line.specs.declared.command.ListOptions.{ListOptions}
 use Rattle.ulfm_outcomes_list.specs.declared.judgement.Judgement.{Judgement}
 use Rattle.ulfm_outcomes_list.specs.declared.judgement.Judgement.TheVariants.{NotKnown}
 use Rattle.ulfm_outcomes_reply.specs.declared.finding.Finding.{Finding}
-use Rattle.ulfm_outcomes_reply.specs.EachPlace.{IsEachPlaceReply, IsJudgedEach, IsUndrawn, listed_all, past_limit_at, places_in}
+use Rattle.ulfm_outcomes_reply.specs.EachPlace.{IsEachPlaceReply, IsJudgedEach, IsUndrawn, listed_all, places_in, some_past_limit}
 use Rattle.ulfm_outcomes_list.specs.Told.{row_in}
 use Rattle.ulfm_outcomes_reply.specs.Chosen.{unknown_part}
 use Rattle.ulfm_outcomes_reply.specs.Outcomes.{goals_asked}
@@ -42,12 +42,12 @@ listed_of asked limit place one inside at =
     (inside, (at.reached.keys, subst (λ (found : List (List ℕ)). IsList (job_asked_at place asked) limit (reach.All (record { keys = at.reached.keys; found = found }))) (sym at.found) at.whole))
 
 -- those of some of its places
-pub lists_of : (asked : Asked) (limit : ℕ) (places : List Place) (listed : List Listed) (past : Option Place) → AreLists asked limit places listed past → All (IsPlaceOf asked.job) places → AreListedOf asked limit listed
-lists_of asked limit places [] past lists inside = All-nil (IsListedOf asked limit)
-lists_of asked limit [] (one ∷ listed) past lists inside = absurd lists
-lists_of asked limit (place ∷ places) (one ∷ listed) past lists inside =
-    All-cons (IsListedOf asked limit) one listed (listed_of asked limit place one (All-head (IsPlaceOf asked.job) place places inside) lists.0)
-    (lists_of asked limit places listed past lists.1 (All-tail (IsPlaceOf asked.job) place places inside))
+pub lists_of : (asked : Asked) (limit : ℕ) (places : List Place) (listed : List Listed) (past : List Place) → AreLists asked limit places listed past → All (IsPlaceOf asked.job) places → AreListedOf asked limit listed
+lists_of asked limit places listed past no_place inside = All-nil (IsListedOf asked limit)
+lists_of asked limit places listed past (within place left one more others at lists) inside =
+    All-cons (IsListedOf asked limit) one more (listed_of asked limit place one (All-head (IsPlaceOf asked.job) place left inside) at)
+    (lists_of asked limit left more others lists (All-tail (IsPlaceOf asked.job) place left inside))
+lists_of asked limit places listed past (beyond place left more others many lists) inside = lists_of asked limit left more others lists (All-tail (IsPlaceOf asked.job) place left inside)
 
 -- the list of a place is one of what is asked for there
 pub list_there : (asked made : Asked) (limit : ℕ) (one : Listed) → IsListedOf asked limit one → made ≡ asked_at one.place asked → HasList made.job limit one.found
@@ -96,13 +96,13 @@ show_each_as form options stops show bytes asked answers (Some look) text read n
         (too_many_at asked answers look.place read named place first.3.0 first.3.1 (sym what.0 ∙ what.0, what.1)))
 
 -- the lists of all places with what is told below them
-pub each_as : (form : Form) (choice : ChoiceView) (options : ListOptions) (stops : ℕ) (bytes : List ℕ) (asked : Asked) (places : List Place) (listed : List Listed) (past : Option Place) (judgement : Judgement) (status : ℕ) (text words : List ℕ)
+pub each_as : (form : Form) (choice : ChoiceView) (options : ListOptions) (stops : ℕ) (bytes : List ℕ) (asked : Asked) (places : List Place) (listed : List Listed) (past : List Place) (judgement : Judgement) (status : ℕ) (text words : List ℕ)
     → IsAskedAt Nowhere bytes asked → unknown_part choice asked ≡ None → AreLists asked options.limit places listed past → places ≡ places_of stops asked.job → All (IsUndrawn options asked) listed
     → IsJudgedEach form options asked (places_in listed) (judgement_past options asked listed past) (status_past options listed past) judgement status words
     → text ≡ text_past form choice asked options listed past judgement ++ words → IsEachPlaceReply form choice options stops bytes status text
-each_as form choice options stops bytes asked places listed None judgement status text words read named are is none judged same =
+each_as form choice options stops bytes asked places listed [] judgement status text words read named are is none judged same =
     subst (λ (t : List ℕ). IsEachPlaceReply form choice options stops bytes status t) (sym same)
-    (listed_all asked listed judgement status words read named (subst (λ (ps : List Place). AreLists asked options.limit ps listed None) is are) none judged)
-each_as form choice options stops bytes asked places listed (Some place) judgement status text words read named are is none judged same =
+    (listed_all asked listed judgement status words read named (subst (λ (ps : List Place). AreLists asked options.limit ps listed []) is are) none judged)
+each_as form choice options stops bytes asked places listed (place ∷ past) judgement status text words read named are is none judged same =
     subst (λ (t : List ℕ). IsEachPlaceReply form choice options stops bytes status t) (sym same)
-    (past_limit_at asked listed place judgement status words read named (subst (λ (ps : List Place). AreLists asked options.limit ps listed (Some place)) is are) none judged)
+    (some_past_limit asked listed place past judgement status words read named (subst (λ (ps : List Place). AreLists asked options.limit ps listed (place ∷ past)) is are) none judged)

@@ -65,7 +65,7 @@ each_judged_known form options asked places lone alone judgement status text kno
 
 each_known : (form : Form) (choice : ChoiceView) (options : ListOptions) (stops : ℕ) (bytes : List ℕ) (status : ℕ) (text : List ℕ) → IsEachPlaceReply form choice options stops bytes status text → IsKnown status
 each_known form choice options stops bytes status text (each.listed_all asked lists judgement k words is named are none judged) = each_judged_known form options asked _ _ _ judgement status _ (list_alone options.is_strict (each_never_ends lists)) judged
-each_known form choice options stops bytes status text (each.past_limit_at asked lists place judgement k words is named are none judged) = each_judged_known form options asked _ _ _ judgement status _ statuses.past judged
+each_known form choice options stops bytes status text (each.some_past_limit asked lists place past judgement k words is named are none judged) = each_judged_known form options asked _ _ _ judgement status _ statuses.past judged
 each_known form choice options stops bytes status text (each.no_room_for_stops asked is named many) = statuses.no_job
 each_known form choice options stops bytes status text (each.drawn_at_place asked lists past k words is named are first) = drawn_known form options _ _ first.left k words first.drawn
 each_known form choice options stops bytes status text (each.misnamed_at_all asked part is named) = statuses.no_job

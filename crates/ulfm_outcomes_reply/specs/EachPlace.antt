@@ -1,5 +1,6 @@
 -- What `outcomes --stops` writes for a job.
-use Rattle.std.specs.Prelude.{◌≡◌, ◌<◌, ◌⊎◌, ℕ, ◌+◌, List, [], ◌++◌, Option, Some, None, All, map, slice_get, take}
+use Rattle.std.specs.Prelude.{◌≡◌, ◌<◌, ◌⊎◌, ℕ, ◌+◌, List, [], ◌∷◌, ◌++◌, Option, Some, None, All, map, slice_get, take}
+use Rattle.std.specs.List.{flat_map}
 use Rattle.std.specs.Str.{trim}
 use Rattle.ulfm_job.specs.declared.fault.JobFault.TheVariants.{TooLarge}
 use Rattle.ulfm_job.specs.Job.{step_count}
@@ -62,20 +63,29 @@ pub record IsFirstPicture (form : Form) (options : ListOptions) (asked : Asked) 
 abbrev pub places_in : List Listed → List Place
 places_in listed = map (λ (one : Listed). one.place) listed
 
+-- the lists of places, which come to this, if there is one
+abbrev pub lists_told : Form → ChoiceView → Asked → Judgement → List Listed → List ℕ
+lists_told form choice asked judgement [] = []
+lists_told form choice asked judgement (one ∷ listed) = lists_in form choice asked judgement (one ∷ listed)
+
+-- a line for each of these places: there are more states than the limit
+abbrev pub places_past : Form → ℕ → List Place → List ℕ
+places_past form limit places = flat_map (more_at form limit) places
+
 -- The status and the text, in this form, that `outcomes --stops` gives for these bytes: the lists of all outcomes at all places with at
--- most so many stops, as one list, with what is told below it; with 7 the line alone that there are more states than the limit at the
--- first place where there are, or below it, with 9, what is told of a place before; with 1 the line of the job's refusal, also of one
+-- most so many stops, as one list, with what is told below it; where there are more states than the limit at some places, these stand
+-- below the list of the others, with 7, or with 9 and what is told of one of the others below them; with 1 the line of the job's refusal, also of one
 -- that has no room for so many stops, or that it has no step of a name; with 3 the line that memory ran out. Where a picture is asked for and a
 -- step never ends at one of them, that alone, of the first such place.
 pub data IsEachPlaceReply (form : Form) (choice : ChoiceView) (options : ListOptions) (stops : ℕ) (bytes : List ℕ) : ℕ → List ℕ → Type 0 where
-  listed_all : (asked : Asked) (listed : List Listed) (judgement : Judgement) (status : ℕ) (text : List ℕ) → IsAskedAt Nowhere bytes asked → unknown_part choice asked ≡ None → AreLists asked options.limit (places_of stops asked.job) listed None → All (IsUndrawn options asked) listed
+  listed_all : (asked : Asked) (listed : List Listed) (judgement : Judgement) (status : ℕ) (text : List ℕ) → IsAskedAt Nowhere bytes asked → unknown_part choice asked ≡ None → AreLists asked options.limit (places_of stops asked.job) listed [] → All (IsUndrawn options asked) listed
       → IsJudgedEach form options asked (places_in listed) (judgement_of_all options.is_strict asked listed) (list_status options.is_strict (some_never_ends listed)) judgement status text
       → IsEachPlaceReply form choice options stops bytes status (lists_in form choice asked judgement listed ++ text)
-  past_limit_at : (asked : Asked) (listed : List Listed) (place : Place) (judgement : Judgement) (status : ℕ) (text : List ℕ) → IsAskedAt Nowhere bytes asked → unknown_part choice asked ≡ None → AreLists asked options.limit (places_of stops asked.job) listed (Some place) → All (IsUndrawn options asked) listed
+  some_past_limit : (asked : Asked) (listed : List Listed) (place : Place) (past : List Place) (judgement : Judgement) (status : ℕ) (text : List ℕ) → IsAskedAt Nowhere bytes asked → unknown_part choice asked ≡ None → AreLists asked options.limit (places_of stops asked.job) listed (place ∷ past) → All (IsUndrawn options asked) listed
       → IsJudgedEach form options asked (places_in listed) NotKnown 7 judgement status text
-      → IsEachPlaceReply form choice options stops bytes status (more_at form options.limit place ++ text)
+      → IsEachPlaceReply form choice options stops bytes status ((lists_told form choice asked judgement listed ++ places_past form options.limit (place ∷ past)) ++ text)
   no_room_for_stops : (asked : Asked) → IsAskedAt Nowhere bytes asked → unknown_part choice asked ≡ None → 256 < step_count asked.job.scripts + stops → IsEachPlaceReply form choice options stops bytes 1 (refused_in form TooLarge)
-  drawn_at_place : (asked : Asked) (listed : List Listed) (past : Option Place) (status : ℕ) (text : List ℕ) → IsAskedAt Nowhere bytes asked → unknown_part choice asked ≡ None
+  drawn_at_place : (asked : Asked) (listed : List Listed) (past : List Place) (status : ℕ) (text : List ℕ) → IsAskedAt Nowhere bytes asked → unknown_part choice asked ≡ None
       → AreLists asked options.limit (places_of stops asked.job) listed past → IsFirstPicture form options asked listed status text → IsEachPlaceReply form choice options stops bytes status text
   misnamed_at_all : (asked : Asked) (part : List ℕ) → IsAskedAt Nowhere bytes asked → unknown_part choice asked ≡ Some part → IsEachPlaceReply form choice options stops bytes 1 (no_name (trim part))
   not_listed_at_all : (status : ℕ) (text : List ℕ) → IsRefusal form Nowhere bytes status text → IsEachPlaceReply form choice options stops bytes status text

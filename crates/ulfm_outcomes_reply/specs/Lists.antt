@@ -1,5 +1,5 @@
 -- The lists of all outcomes of what was asked for, at each of some places.
-use Rattle.std.specs.Prelude.{◌≡◌, ℕ, ⊤, List, [], ◌∷◌, Option, Some, None, length}
+use Rattle.std.specs.Prelude.{◌≡◌, ℕ, List, [], ◌∷◌, length}
 use Rattle.ulfm_job.specs.Job.{JobView}
 use Rattle.ulfm_outcomes_spec.specs.Outcomes.{IsList}
 use Rattle.ulfm_reach.specs.declared.reach.Reach.TheVariants.{All, More}
@@ -20,9 +20,10 @@ pub record IsListedAt (asked : Asked) (limit : ℕ) (place : Place) (one : Liste
   pub states : one.states ≡ length reached.keys
   pub found : one.found ≡ reached.found
 
--- A list for each of these places, in their order, up to the first at which the job has more states than the limit, if there is one.
-abbrev pub AreLists : Asked → ℕ → List Place → List Listed → Option Place → Type 0
-AreLists asked limit [] [] None = ⊤
-AreLists asked limit (place ∷ places) [] (Some past) = (past ≡ place) × IsList (job_asked_at place asked) limit More
-AreLists asked limit (place ∷ places) (one ∷ listed) past = IsListedAt asked limit place one × AreLists asked limit places listed past
-AreLists asked limit _ _ _ = ⊥
+-- A list for each of these places, in their order, or it is past the limit: the job has more states there.
+pub data AreLists (asked : Asked) (limit : ℕ) : List Place → List Listed → List Place → Type 0 where
+  no_place : AreLists asked limit [] [] []
+  within : (place : Place) (places : List Place) (one : Listed) (listed : List Listed) (past : List Place) → IsListedAt asked limit place one
+      → AreLists asked limit places listed past → AreLists asked limit (place ∷ places) (one ∷ listed) past
+  beyond : (place : Place) (places : List Place) (listed : List Listed) (past : List Place) → IsList (job_asked_at place asked) limit More
+      → AreLists asked limit places listed past → AreLists asked limit (place ∷ places) listed (place ∷ past)

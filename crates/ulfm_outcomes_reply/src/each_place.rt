@@ -1,13 +1,12 @@
 //! The reply of `outcomes --stops`: what each step may be answered wherever ranks stop, and below it what the job doesn't want at the first
 //! place where it comes.
-ghost use Rattle.std.specs.Prelude.{◌≡◌, ◌<◌, ◌≤◌, ℕ, List, None, IfOk, string_bytes};
-ghost use Rattle.ulfm_outcomes_list.specs.Told.{more_at};
+ghost use Rattle.std.specs.Prelude.{◌≡◌, ◌++◌, ◌<◌, ◌≤◌, ℕ, List, None, IfOk, OnOk, string_bytes};
 ghost use Rattle.ulfm_job.specs.declared.place.Place.TheVariants.{Nowhere};
 ghost use Rattle.ulfm_command_line.specs.Body.{body_in};
 ghost use Rattle.ulfm_command_line.specs.Stopped.{IsAskedAt, asked_view};
 ghost use Rattle.ulfm_command_line.specs.Wish.{choice_view};
-ghost use Rattle.ulfm_outcomes_reply.specs.Chosen.{unknown_part};
-ghost use Rattle.ulfm_outcomes_reply.specs.EachPlace.{IsEachPlaceReply};
+ghost use Rattle.ulfm_outcomes_reply.specs.Chosen.{lists_in, unknown_part};
+ghost use Rattle.ulfm_outcomes_reply.specs.EachPlace.{IsEachPlaceReply, places_past};
 ghost use Rattle.ulfm_outcomes_reply.specs.inside.Judging.{AreListedOf, AreSharing, IsEachText, lists_judgement, lists_status, lists_text};
 
 use crate::drawing::first_drawn;
@@ -28,7 +27,7 @@ use ulfm_command_line::{
     Body, ListOptions, MOST_THREADS, PAST_LIMIT, Place, Reply, asked_at, refusal,
 };
 use ulfm_job::{JobFault, MOST_STEPS, places};
-use ulfm_outcomes_list::{Judgement, lists_of, push_more_at, some_never_ends};
+use ulfm_outcomes_list::{Judgement, Listed, lists_of, push_more_at, some_never_ends};
 use ulfm_outcomes_spec::Finder;
 use ulfm_reader::Reading;
 
@@ -168,13 +167,13 @@ fn judgement_of<F>(
 ) -> Result<Judgement, AllocError>
     ensures { IfOk result (λ j. j ≡ lists_judgement search.now.options (asked_view asked.now) lists.now) }
 {
-    match lists.past_limit {
-        Some(_) => Ok(Judgement::NotKnown),
-        None => judgement_of_all(search, asked, lists.listed.as_slice()),
+    if !lists.past_limit.is_empty() {
+        return Ok(Judgement::NotKnown);
     }
+    judgement_of_all(search, asked, lists.listed.as_slice())
 }
 
-/// The text of the lists, which come to this, or that they come past the limit.
+/// The text of the lists, which come to this, if there is one, and of the places past the limit.
 fn text_of<F: Finder>(
     search: &Search<'_, F>,
     asked: &Reading,
@@ -183,34 +182,60 @@ fn text_of<F: Finder>(
 ) -> Result<String, AllocError>
     ensures { IfOk result (λ text. string_bytes text ≡ lists_text search.now.form (choice_view search.now.choice) (asked_view asked.now) search.now.options lists.now judgement) }
 {
-    match lists.past_limit {
-        Some(place) => more_text(search, place),
-        None => {
-            let steps = chosen(search, asked)?;
-            let steps = steps.as_slice();
-            let listed = lists.listed.as_slice();
-            let list = lists_of(search.alloc, &asked.job, steps, judgement, listed)?;
-            printed(search, asked, &list)
-        }
+    let listed = lists.listed.as_slice();
+    if lists.past_limit.is_empty() {
+        return listed_text(search, asked, listed, judgement);
     }
+    let mut text = if listed.is_empty() {
+        String::new(search.alloc)
+    } else {
+        listed_text(search, asked, listed, judgement)?
+    };
+    push_places_past(&mut text, search, lists.past_limit.as_slice())?;
+    Ok(text)
 }
 
-/// That there are more states than the limit at a place.
-fn more_text<F>(search: &Search<'_, F>, place: Place) -> Result<String, AllocError>
-    ensures { IfOk result (λ text. string_bytes text ≡ more_at search.now.form search.now.options.limit place) }
+/// The text of the lists of places, which come to this.
+fn listed_text<F: Finder>(
+    search: &Search<'_, F>,
+    asked: &Reading,
+    listed: &[Listed],
+    judgement: Judgement,
+) -> Result<String, AllocError>
+    ensures { IfOk result (λ text. string_bytes text ≡ lists_in search.now.form (choice_view search.now.choice) (asked_view asked.now) judgement listed.now) }
+{
+    let steps = chosen(search, asked)?;
+    let list = lists_of(
+        search.alloc,
+        &asked.job,
+        steps.as_slice(),
+        judgement,
+        listed,
+    )?;
+    printed(search, asked, &list)
+}
+
+/// Puts below a text that there are more states than the limit at these places, a line for each.
+fn push_places_past<F>(
+    text: &mut String,
+    search: &Search<'_, F>,
+    places: &[Place],
+) -> Result<(), AllocError>
+    ensures { OnOk result (string_bytes text.new ≡ string_bytes text.old ++ places_past search.now.form search.now.options.limit places.now) }
 {
     let limit = search.options.limit as usize;
-    let mut text = String::new(search.alloc);
-    push_more_at(&mut text, search.form, limit, place)?;
-    Ok(text)
+    for place in places {
+        push_more_at(text, search.form, limit, *place)?;
+    }
+    Ok(())
 }
 
 /// The status of lists below which nothing is told.
 fn status_of(options: ListOptions, lists: &Lists) -> u8
     ensures { result ≡ lists_status options lists.now }
 {
-    match lists.past_limit {
-        Some(_) => PAST_LIMIT,
-        None => list_status(options.is_strict, some_never_ends(lists.listed.as_slice())),
+    if !lists.past_limit.is_empty() {
+        return PAST_LIMIT;
     }
+    list_status(options.is_strict, some_never_ends(lists.listed.as_slice()))
 }

@@ -18,9 +18,9 @@
 //!   Outcomes.antt).
 //! - With `--draw` alone the schedule is that of the first step that never ends, with `--stops` at the first place where one does; if none does, the
 //!   list is written (`IsDrawn`, Drawn.antt; `IsFirstPicture`, EachPlace.antt).
-//! - With `--stops` there is a list for each place, in order, up to the first with more states than the limit. Each is the list of all outcomes of
+//! - With `--stops` there is a list for each place, in order, but for those with more states than the limit. Each is the list of all outcomes of
 //!   the job at its place, whatever the number of threads ([`list_places`]: `AreLists`, `IsListedAt`, Lists.antt). They are written as one list,
-//!   that of all places (`IsEachPlaceReply`, EachPlace.antt).
+//!   that of these places, and below it stand the others (`IsEachPlaceReply`, EachPlace.antt).
 //! - With `--stops` and 9 one schedule follows that fails an expectation, or has all answers of a row of `never` that is looked at: that of the
 //!   first place that has one. Earlier places have none, unless a row of `never` there couldn't be decided within the limit. With 7 none is found at
 //!   any place, and the first such row is told (`IsJudgedEach`, EachPlace.antt).

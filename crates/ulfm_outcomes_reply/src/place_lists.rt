@@ -1,13 +1,14 @@
 //! The lists of some places, one after another.
-ghost use Rattle.std.specs.Prelude.{All, IfOk};
+ghost use Rattle.std.specs.Prelude.{◌≡◌, ◌++◌, All, IfOk, OnOk};
 ghost use Rattle.ulfm_job.specs.Place.{IsPlaceOf};
 ghost use Rattle.ulfm_outcomes_reply.specs.Lists.{AreLists};
-ghost use Rattle.ulfm_outcomes_reply.specs.inside.Parts.{IsListOf};
+ghost use Rattle.ulfm_outcomes_reply.specs.inside.Parts.{IsListOf, listed_of, past_of};
 ghost use Rattle.ulfm_command_line.specs.Stopped.{asked_view};
 
 use crate::lists::Lists;
 use crate::onlooker::{Onlooker, Seen};
 use crate::search::Search;
+use std::alloc::AllocError;
 use ulfm_base::OutOfMemory;
 use ulfm_command_line::stopped_at;
 use ulfm_job::Place;
@@ -38,7 +39,7 @@ fn list_place<F: Finder, L: Onlooker>(
     }
 }
 
-/// The lists of these places, as far as they go.
+/// The lists of these places.
 pub(crate) fn list_part<F: Finder, L: Onlooker>(
     search: &Search<'_, F>,
     asked: &Reading,
@@ -46,22 +47,30 @@ pub(crate) fn list_part<F: Finder, L: Onlooker>(
     onlooker: &L,
 ) -> Result<Lists, OutOfMemory>
     requires { All (IsPlaceOf asked.now.job) places.now }
-    ensures { IfOk result (λ lists. AreLists (asked_view asked.now) search.now.options.limit places.now lists.listed.items lists.past_limit) }
+    ensures { IfOk result (λ lists. AreLists (asked_view asked.now) search.now.options.limit places.now lists.listed.items lists.past_limit.items) }
 {
     let mut listed = Vec::new(search.alloc);
+    let mut past_limit = Vec::new(search.alloc);
     for place in places {
-        match list_place(search, asked, *place, onlooker)? {
-            Some(one) => listed.push(one)?,
-            None => {
-                return Ok(Lists {
-                    listed,
-                    past_limit: Some(*place),
-                })
-            }
-        }
+        let one = list_place(search, asked, *place, onlooker)?;
+        put(&mut listed, &mut past_limit, *place, one)?;
     }
-    Ok(Lists {
-        listed,
-        past_limit: None,
-    })
+    Ok(Lists { listed, past_limit })
+}
+
+/// Puts the list of a place behind these, or where there is none, the place behind those that are past the limit.
+fn put(
+    listed: &mut Vec<Listed>,
+    past_limit: &mut Vec<Place>,
+    place: Place,
+    one: Option<Listed>,
+) -> Result<(), AllocError>
+    ensures listed { OnOk result (listed.new.items ≡ listed.old.items ++ listed_of one) }
+    ensures past_limit { OnOk result (past_limit.new.items ≡ past_limit.old.items ++ past_of place one) }
+{
+    match one {
+        Some(one) => listed.push(one)?,
+        None => past_limit.push(place)?,
+    }
+    Ok(())
 }

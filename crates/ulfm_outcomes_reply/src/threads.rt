@@ -18,7 +18,7 @@ use ulfm_job::Place;
 use ulfm_outcomes_spec::Finder;
 use ulfm_reader::Reading;
 
-/// The lists of all outcomes of what was asked for at these places, in their order, up to the first where the job has more states than the limit. So
+/// The lists of all outcomes of what was asked for at these places, in their order, but for those where the job has more states than the limit. So
 /// many threads share the places. The onlooker is told how far they are.
 ///
 /// # Errors
@@ -38,7 +38,7 @@ where
     L: Onlooker + Sync,
     requires inside { All (IsPlaceOf asked.now.job) places.now }
     requires threads { 0 < threads }
-    ensures { IfOk result (λ lists. AreLists (asked_view asked.now) search.now.options.limit places.now lists.listed.items lists.past_limit) }
+    ensures { IfOk result (λ lists. AreLists (asked_view asked.now) search.now.options.limit places.now lists.listed.items lists.past_limit.items) }
 {
     let size = part_size(places.len(), threads);
     let parts = list_parts(rt, search, asked, places, size, onlooker)?;
@@ -81,21 +81,14 @@ where
 
 /// The lists of all parts, one part after another.
 fn joined(alloc: Global, parts: Vec<Result<Lists, OutOfMemory>>) -> Result<Lists, OutOfMemory>
-    ensures { IfOk result (λ lists. AreJoined parts.items lists.listed.items lists.past_limit) }
+    ensures { IfOk result (λ lists. AreJoined parts.items lists.listed.items lists.past_limit.items) }
 {
     let mut listed = Vec::new(alloc);
+    let mut past_limit = Vec::new(alloc);
     for part in parts {
         let mut lists = part?;
         listed.append(&mut lists.listed)?;
-        if lists.past_limit.is_some() {
-            return Ok(Lists {
-                listed,
-                past_limit: lists.past_limit,
-            });
-        }
+        past_limit.append(&mut lists.past_limit)?;
     }
-    Ok(Lists {
-        listed,
-        past_limit: None,
-    })
+    Ok(Lists { listed, past_limit })
 }

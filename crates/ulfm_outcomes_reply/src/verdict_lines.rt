@@ -47,7 +47,7 @@ pub(crate) fn lists_remarks<F: Finder, L: Onlooker>(
     lists: &Lists,
     onlooker: &L,
 ) -> Option<Vec<Remark>> {
-    if lists.past_limit.is_some() {
+    if !lists.past_limit.is_empty() {
         return None;
     }
     let listed = lists.listed.as_slice();

@@ -1,5 +1,5 @@
 -- What single functions find of a job at places.
-use Rattle.std.specs.Prelude.{◌≡◌, ◌≤◌, ℕ, ⊤, ◌==◌, ◌++◌, Bool, false, List, Option, Some, None, All, max, option_map, slice_get, string_bytes, take}
+use Rattle.std.specs.Prelude.{◌≡◌, ◌≤◌, ℕ, ⊤, ◌==◌, ◌∷◌, [], ◌++◌, Bool, false, List, Option, Some, None, All, max, option_map, slice_get, string_bytes, take}
 use Rattle.ulfm_job.specs.declared.clause.Clause.{Clause}
 use Rattle.ulfm_job.specs.Job.{JobView}
 use Rattle.ulfm_job.specs.Place.{IsPlaceOf, job_at}
@@ -15,8 +15,7 @@ use Rattle.ulfm_command_line.specs.declared.reply.Reply.{Reply}
 use Rattle.ulfm_outcomes_reply.specs.declared.finding.Finding.{Finding}
 use Rattle.ulfm_outcomes_list.specs.declared.judgement.Judgement.{Judgement}
 use Rattle.ulfm_outcomes_list.specs.declared.judgement.Judgement.TheVariants.{NotKnown}
-use Rattle.ulfm_outcomes_reply.specs.EachPlace.{IsFirstPicture, IsJudgedEach, IsToldAt, IsUndrawn, IsUnfound, places_in}
-use Rattle.ulfm_outcomes_list.specs.Told.{more_at}
+use Rattle.ulfm_outcomes_reply.specs.EachPlace.{IsFirstPicture, IsJudgedEach, IsToldAt, IsUndrawn, IsUnfound, lists_told, places_in, places_past}
 use Rattle.ulfm_command_line.specs.Wish.{ChoiceView}
 use Rattle.ulfm_outcomes_reply.specs.Chosen.{lists_in}
 use Rattle.ulfm_outcomes_reply.specs.Hangs.{judgement_of_all}
@@ -72,31 +71,31 @@ IsUnfoundUpTo form options asked listed count (Some told) = (number : ℕ) × (p
     × All (λ (one : Listed). IsUnfound form options asked one.place) (take count listed) × (told.judgement ≡ NotKnown) × (told.status ≡ 7) × IsToldAt form options place (asked_at place asked) NotKnown 7 (string_bytes told.text)
 
 -- the status of lists below which nothing is told
-abbrev pub status_past : ListOptions → List Listed → Option Place → ℕ
-status_past options listed None = list_status options.is_strict (some_never_ends listed)
-status_past options listed (Some place) = 7
+abbrev pub status_past : ListOptions → List Listed → List Place → ℕ
+status_past options listed [] = list_status options.is_strict (some_never_ends listed)
+status_past options listed (place ∷ past) = 7
 
 -- that of these lists
 abbrev pub lists_status : ListOptions → Lists → ℕ
-lists_status options lists = status_past options lists.listed.items lists.past_limit
+lists_status options lists = status_past options lists.listed.items lists.past_limit.items
 
 -- what lists come to below which nothing is told: past the limit that isn't known
-abbrev pub judgement_past : ListOptions → Asked → List Listed → Option Place → Judgement
-judgement_past options asked listed None = judgement_of_all options.is_strict asked listed
-judgement_past options asked listed (Some place) = NotKnown
+abbrev pub judgement_past : ListOptions → Asked → List Listed → List Place → Judgement
+judgement_past options asked listed [] = judgement_of_all options.is_strict asked listed
+judgement_past options asked listed (place ∷ past) = NotKnown
 
 -- that of these lists
 abbrev pub lists_judgement : ListOptions → Asked → Lists → Judgement
-lists_judgement options asked lists = judgement_past options asked lists.listed.items lists.past_limit
+lists_judgement options asked lists = judgement_past options asked lists.listed.items lists.past_limit.items
 
--- the text of lists that come to this, or that they come past the limit
-abbrev pub text_past : Form → ChoiceView → Asked → ListOptions → List Listed → Option Place → Judgement → List ℕ
-text_past form choice asked options listed None judgement = lists_in form choice asked judgement listed
-text_past form choice asked options listed (Some place) judgement = more_at form options.limit place
+-- the text of lists that come to this, and of the places past the limit
+abbrev pub text_past : Form → ChoiceView → Asked → ListOptions → List Listed → List Place → Judgement → List ℕ
+text_past form choice asked options listed [] judgement = lists_in form choice asked judgement listed
+text_past form choice asked options listed (place ∷ past) judgement = lists_told form choice asked judgement listed ++ places_past form options.limit (place ∷ past)
 
 -- that of these lists
 abbrev pub lists_text : Form → ChoiceView → Asked → ListOptions → Lists → Judgement → List ℕ
-lists_text form choice asked options lists judgement = text_past form choice asked options lists.listed.items lists.past_limit judgement
+lists_text form choice asked options lists judgement = text_past form choice asked options lists.listed.items lists.past_limit.items judgement
 
 -- the status of lists and their text, with what is told below it
 abbrev pub IsEachText : Form → ChoiceView → ListOptions → Asked → Lists → ℕ → List ℕ → Type 0

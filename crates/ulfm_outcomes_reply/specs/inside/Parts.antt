@@ -14,9 +14,19 @@ abbrev pub IsListOf : Asked → ℕ → Place → Option Listed → Type 0
 IsListOf asked limit place (Some one) = IsListedAt asked limit place one
 IsListOf asked limit place None = IsList (job_asked_at place asked) limit More
 
+-- the list of a place, if it has one
+abbrev pub listed_of : Option Listed → List Listed
+listed_of (Some one) = one ∷ []
+listed_of None = []
+
+-- the place, if it has none
+abbrev pub past_of : Place → Option Listed → List Place
+past_of place (Some one) = []
+past_of place None = place ∷ []
+
 -- the lists of a part, or that memory ran out
 abbrev pub IsPart : Asked → ℕ → List Place → Result Lists AllocError → Type 0
-IsPart asked limit places (Ok lists) = AreLists asked limit places lists.listed.items lists.past_limit
+IsPart asked limit places (Ok lists) = AreLists asked limit places lists.listed.items lists.past_limit.items
 IsPart asked limit places (Err fault) = ⊤
 
 -- the places are parted into as many parts, of which each came to this
@@ -25,14 +35,14 @@ AreParts asked limit places [] = places ≡ []
 AreParts asked limit places (part ∷ parts) = (front rest : List Place) × (places ≡ front ++ rest) × IsPart asked limit front part × AreParts asked limit rest parts
 
 -- whatever the lists of the rest of the places are, behind these they are those of all
-abbrev pub GoesOn : Asked → ℕ → List Place → List Listed → List Place → Type 0
-GoesOn asked limit places listed rest = (more : List Listed) (past : Option Place) → AreLists asked limit rest more past → AreLists asked limit places (listed ++ more) past
+abbrev pub GoesOn : Asked → ℕ → List Place → List Listed → List Place → List Place → Type 0
+GoesOn asked limit places listed past rest = (more : List Listed) (others : List Place) → AreLists asked limit rest more others → AreLists asked limit places (listed ++ more) (past ++ others)
 
 -- the lists of the places that are parted so
-abbrev pub AreJoined : List (Result Lists AllocError) → List Listed → Option Place → Type 0
+abbrev pub AreJoined : List (Result Lists AllocError) → List Listed → List Place → Type 0
 AreJoined parts listed past = (asked : Asked) (limit : ℕ) (places : List Place) → AreParts asked limit places parts → AreLists asked limit places listed past
 
 -- the lists of the first of them, and what is left of the parts and of the places
-abbrev pub AreJoinedSoFar : List (Result Lists AllocError) → List Listed → List (Result Lists AllocError) → Type 0
-AreJoinedSoFar parts listed left =
-    (asked : Asked) (limit : ℕ) (places : List Place) → AreParts asked limit places parts → (rest : List Place) × GoesOn asked limit places listed rest × AreParts asked limit rest left
+abbrev pub AreJoinedSoFar : List (Result Lists AllocError) → List Listed → List Place → List (Result Lists AllocError) → Type 0
+AreJoinedSoFar parts listed past left =
+    (asked : Asked) (limit : ℕ) (places : List Place) → AreParts asked limit places parts → (rest : List Place) × GoesOn asked limit places listed past rest × AreParts asked limit rest left

@@ -20,7 +20,7 @@ pub judged-requires : goal.judged-requires
 judged-requires g c =
     let asked = asked_view c.args.asked.now in
     record {
-      listed = lists_of asked c.args.search.now.options.limit c.as_slice.result.now c.in_ok-lists.lists.listed.items c.in_ok-lists.lists.past_limit c.in_ok-lists.ensures
+      listed = lists_of asked c.args.search.now.options.limit c.as_slice.result.now c.in_ok-lists.lists.listed.items c.in_ok-lists.lists.past_limit.items c.in_ok-lists.ensures
           (subst (All (IsPlaceOf asked.job)) (sym c.as_slice.ensures.value) c.in_ok-places.ensures.inside);
     }
 
@@ -28,7 +28,7 @@ pub first_drawn-requires : goal.first_drawn-requires
 first_drawn-requires g c =
     let asked = asked_view c.args.asked.now in
     subst (AreListedOf asked c.args.search.now.options.limit) (sym c.as_slice-2.ensures.value)
-    (lists_of asked c.args.search.now.options.limit c.as_slice.result.now c.in_ok-lists.lists.listed.items c.in_ok-lists.lists.past_limit c.in_ok-lists.ensures
+    (lists_of asked c.args.search.now.options.limit c.as_slice.result.now c.in_ok-lists.lists.listed.items c.in_ok-lists.lists.past_limit.items c.in_ok-lists.ensures
     (subst (All (IsPlaceOf asked.job)) (sym c.as_slice.ensures.value) c.in_ok-places.ensures.inside))
 
 pub returns-in-Some : goal.returns-in-Some
@@ -40,8 +40,8 @@ returns-in-Some g c = λ bytes read named.
     let reply = c.in-Some.reply in
     let of_slice = subst (IsFirstDrawn form options asked c.as_slice-2.result.now) c.in-Some.is c.in_ok-reply.ensures in
     let first = subst (λ (listed : List Listed). IsFirstDrawn form options asked listed (Some reply)) c.as_slice-2.ensures.value of_slice in
-    drawn_at_place asked lists.listed.items lists.past_limit reply.status (body_in form reply.body) read named
-    (subst (λ (ps : List Place). AreLists asked options.limit ps lists.listed.items lists.past_limit) (c.as_slice.ensures.value ∙ c.in_ok-places.ensures.exact) c.in_ok-lists.ensures) first
+    drawn_at_place asked lists.listed.items lists.past_limit.items reply.status (body_in form reply.body) read named
+    (subst (λ (ps : List Place). AreLists asked options.limit ps lists.listed.items lists.past_limit.items) (c.as_slice.ensures.value ∙ c.in_ok-places.ensures.exact) c.in_ok-lists.ensures) first
 
 pub returns : goal.returns
 returns g c = λ bytes read named.
@@ -51,5 +51,5 @@ returns g c = λ bytes read named.
     let lists = c.in_ok-lists.lists in
     let of_slice = subst (IsFirstDrawn form options asked c.as_slice-2.result.now) c.in-None.is c.in_ok-reply.ensures in
     let none = subst (λ (listed : List Listed). IsFirstDrawn form options asked listed None) c.as_slice-2.ensures.value of_slice in
-    IfOk-weaker c.judged.result _ _ (λ r h. each_as form (choice_view c.args.search.now.choice) options c.args.stops bytes asked c.as_slice.result.now lists.listed.items lists.past_limit h.0 r.status (body_in c.args.search.now.form r.body) h.1 read named
+    IfOk-weaker c.judged.result _ _ (λ r h. each_as form (choice_view c.args.search.now.choice) options c.args.stops bytes asked c.as_slice.result.now lists.listed.items lists.past_limit.items h.0 r.status (body_in c.args.search.now.form r.body) h.1 read named
     c.in_ok-lists.ensures (c.as_slice.ensures.value ∙ c.in_ok-places.ensures.exact) none h.2 h.3) c.judged.ensures
