@@ -33,7 +33,7 @@ use Rattle.ulfm_outcomes_list.specs.declared.search_result.Told.{Told}
 use Rattle.ulfm_outcomes_list.specs.declared.search_result.Told.TheVariants as told
 use Rattle.ulfm_outcomes_reply.specs.inside.Judging.{AreListedOf, IsFirstLook, IsInside, IsListedOf, IsLookAtText, IsUnwanted, IsUnwantedAt, judgement_past, look_at_status, status_past, text_past}
 use Rattle.ulfm_outcomes_spec.specs.Told.{IsLook}
-use Rattle.ulfm_outcomes_reply.specs.inside.Looking.{IsFirstRow, IsLookText, look_status, row_judgement, row_status}
+use Rattle.ulfm_outcomes_reply.specs.inside.Looking.{IsFirstRow, IsFirstTold, IsLookText, look_status, row_judgement, row_status}
 
 -- the list of a place of the job
 listed_of : (asked : Asked) (limit : ℕ) (place : Place) (one : Listed) → IsPlaceOf asked.job place → IsListedAt asked limit place one → IsListedOf asked limit one
@@ -63,12 +63,13 @@ unwanted_there form options one asked made (Some finding) of is told = (one.foun
 -- what is told of a row
 pub row_told_as : (form : Form) (options : ListOptions) (at : Option Place) (asked : Asked) (found : List (List ℕ)) (first : FirstRow) → MeetsExpected asked.job → IsFirstRow asked.job asked.rows options.is_brief options.limit (Some first)
     → IsToldOf form options at asked found (row_judgement first.told) (row_status first.told) (row_in form at asked.names asked.job first.number first.told)
-row_told_as form options at asked found first meets is = by first.told is.3.2
+row_told_as form options at asked found first meets is = by first.told is
   where
-    by : (what : Told) → IsLook asked.job is.3.0 options.is_brief options.limit (Some what) → IsToldOf form options at asked found (row_judgement what) (row_status what) (row_in form at asked.names asked.job first.number what)
-    by (told.Schedule schedule) shows = together first.number is.0 is.3.0 schedule meets is.1 is.2 is.3.1 shows
-    by (told.Many limit) shows =
-        subst (λ (n : ℕ). IsToldOf form options at asked found NotKnown 7 (row_in form at asked.names asked.job first.number (told.Many n))) (sym shows.0) (unsearched first.number is.0 is.3.0 meets is.1 is.2 is.3.1 (sym shows.0 ∙ shows.0, shows.1))
+    by : (what : Told) → IsFirstTold asked.job asked.rows options.is_brief options.limit first.number what → IsToldOf form options at asked found (row_judgement what) (row_status what) (row_in form at asked.names asked.job first.number what)
+    by (told.Schedule schedule) of = together first.number of.0 of.3.0 schedule meets of.1 of.2 of.3.1 of.3.2
+    by (told.Many limit) of =
+        subst (λ (n : ℕ). IsToldOf form options at asked found NotKnown 7 (row_in form at asked.names asked.job first.number (told.Many n))) (sym of.4)
+        (unsearched first.number of.0 of.5.0 meets of.1 of.2 of.3 of.5.1 of.5.2)
 
 -- what came of a search at each of the job's places came at one of them
 pub look_inside : (j : JobView) (clauses : List Clause) (is_brief : Bool) (limit : ℕ) (places : List Place) (look : Option LookAt) → All (IsPlaceOf j) places → IsFirstLook j clauses is_brief limit places look → IsInside j look

@@ -6,7 +6,6 @@ use Rattle.std.proofs.lemmas.Option.{get_or_from_slice_get, slice_get-get_or, sl
 use Rattle.std.specs.Borrow.{Bor}
 use Rattle.std.specs.declared.alloc.Global.{Global}
 use Rattle.ulfm_reader.specs.JobText.{rows_of}
-use Rattle.ulfm_job.specs.Job.{JobView}
 use Rattle.ulfm_job.specs.declared.clause.Clause.{Clause}
 use Rattle.ulfm_forms.specs.declared.form.Form.{Form}
 use Rattle.ulfm_command_line.specs.Stopped.{Asked, IsAskedAt}
@@ -15,7 +14,6 @@ use Rattle.ulfm_outcomes_list.specs.Goals.{AreOfClauses}
 use Rattle.ulfm_outcomes_spec.specs.Told.{IsLook}
 use Rattle.ulfm_outcomes_list.specs.declared.goals.Goals.{Goals}
 use Rattle.ulfm_outcomes_reply.specs.Outcomes.{IsShowReply, goals_asked, nowhere, shown, too_many}
-use Rattle.ulfm_outcomes_reply.specs.Wanted.{NeverComes, NoneComes}
 use Rattle.ulfm_outcomes_list.specs.Told.{told_in}
 use Rattle.ulfm_outcomes_list.specs.declared.search_result.Told.{Told}
 use Rattle.ulfm_outcomes_list.specs.declared.search_result.Told.TheVariants as told
@@ -57,7 +55,3 @@ row_here rows n kept row inside is same =
 -- what holds of each of the first elements holds of one more
 pub each_more : {X : Type 0} (P : X → Type 0) (xs : List X) (n : ℕ) (x : X) → n < length xs → slice_get xs n ≡ Some x → All P (take n xs) → P x → All P (take (n + 1) xs)
 each_more P xs n x inside here before one = All-more P xs n x inside before (subst P (sym (get_or_from_slice_get xs n x x here)) one)
-
--- after one more row that never comes
-pub none_more : (job : JobView) (rows : List (List Clause)) (n : ℕ) (row : List Clause) → n < length rows → slice_get rows n ≡ Some row → NoneComes job (take n rows) → NeverComes job row → NoneComes job (take (n + 1) rows)
-none_more job rows n row inside here before one = each_more (NeverComes job) rows n row inside here before one

@@ -6,3 +6,4 @@ pub mod Unfound
 pub mod Statuses
 pub mod Joining
 pub mod Parting
+pub mod RowsFound

@@ -31,7 +31,7 @@ list_alone false is_open = statuses.done
 told_known : (form : Form) (options : ListOptions) (at : Option Place) (asked : Asked) (found : List (List ℕ)) (judgement : Judgement) (status : ℕ) (text : List ℕ) → IsToldOf form options at asked found judgement status text → IsKnown status
 told_known form options at asked found judgement status text (unmet one goals what first is shows) = statuses.not_wanted
 told_known form options at asked found judgement status text (together number row goals schedule meets here none are shows) = statuses.not_wanted
-told_known form options at asked found judgement status text (unsearched number row goals meets here none are shows) = statuses.past
+told_known form options at asked found judgement status text (unsearched number row goals meets here none others are shows) = statuses.past
 
 drawn_known : (form : Form) (options : ListOptions) (at : Option Place) (asked : Asked) (left : Unmet) (status : ℕ) (text : List ℕ) → IsDrawn form options at asked left status text → IsKnown status
 drawn_known form options at asked left status text (picture goals schedule words are shows same) = statuses.done

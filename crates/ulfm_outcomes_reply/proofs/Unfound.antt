@@ -34,7 +34,7 @@ module _ (form : Form) (options : ListOptions) (asked : Asked) where
       by : (what : Judgement) (k : ℕ) (words : List ℕ) → IsToldOf form options (Some place) (asked_at place asked) told.0 what k words → (k == 9) ≡ true → k ≡ 9
       by what k words (unmet one goals shown first is shows) nine = refl
       by what k words (together number row goals schedule meets here none are shows) nine = refl
-      by what k words (unsearched number row goals meets here none are shows) nine = absurd (false≢true nine)
+      by what k words (unsearched number row goals meets here none others are shows) nine = absurd (false≢true nine)
 
   -- and all else with 7, and isn't known
   told-unfound : (place : Place) (judgement : Judgement) (status : ℕ) (text : List ℕ) → is_told place judgement status text → (status == 9) ≡ false → (judgement ≡ NotKnown) × (status ≡ 7) × is_told place NotKnown 7 text
@@ -43,7 +43,7 @@ module _ (form : Form) (options : ListOptions) (asked : Asked) where
       by : (what : Judgement) (k : ℕ) (words : List ℕ) → IsToldOf form options (Some place) (asked_at place asked) told.0 what k words → (k == 9) ≡ false → (what ≡ NotKnown) × (k ≡ 7) × is_told place NotKnown 7 words
       by what k words (unmet one goals shown first is shows) other = absurd (false≢true (sym other))
       by what k words (together number row goals schedule meets here none are shows) other = absurd (false≢true (sym other))
-      by what k words (unsearched number row goals meets here none are shows) other = (refl, refl, (told.0, told.1, unsearched number row goals meets here none are shows))
+      by what k words (unsearched number row goals meets here none others are shows) other = (refl, refl, (told.0, told.1, unsearched number row goals meets here none others are shows))
 
   module _ (listed : List Listed) where
     -- at none of so many places a schedule was found

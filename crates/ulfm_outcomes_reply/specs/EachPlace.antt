@@ -1,5 +1,5 @@
 -- What `outcomes --stops` writes for a job.
-use Rattle.std.specs.Prelude.{◌≡◌, ◌<◌, ◌⊎◌, ℕ, ◌+◌, List, [], ◌∷◌, ◌++◌, Option, Some, None, All, map, slice_get, take}
+use Rattle.std.specs.Prelude.{◌≡◌, ◌<◌, ◌⊎◌, ℕ, ◌+◌, List, [], ◌∷◌, ◌++◌, Some, None, All, map, slice_get, take}
 use Rattle.std.specs.List.{flat_map}
 use Rattle.std.specs.Str.{trim}
 use Rattle.ulfm_job.specs.declared.fault.JobFault.TheVariants.{TooLarge}

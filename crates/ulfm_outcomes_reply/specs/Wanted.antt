@@ -1,5 +1,5 @@
 -- What a job doesn't want, and what is told of it: below a list, or at a place.
-use Rattle.std.specs.Prelude.{◌≡◌, ℕ, ◌==◌, ◌&&◌, not, Bool, true, List, Option, Some, None, All as Each, length, slice_get, take}
+use Rattle.std.specs.Prelude.{◌≡◌, ◌⊎◌, ℕ, ◌==◌, ◌&&◌, not, Bool, true, List, Option, Some, None, All as Each, length, slice_get, take}
 use Rattle.ulfm_job.specs.declared.clause.Clause.{Clause}
 use Rattle.ulfm_job.specs.Job.{JobView}
 use Rattle.ulfm_reach.specs.declared.reach.Reach.TheVariants.{All}
@@ -41,6 +41,14 @@ NeverComes job row = is_looked_at job row ≡ true → (goals : Goals) × AreOfC
 abbrev pub NoneComes : JobView → List (List Clause) → Type 0
 NoneComes job rows = Each (NeverComes job) rows
 
+-- whether the row comes isn't known: more states than the limit would be looked at for it
+abbrev pub IsUnknown : Bool → ℕ → JobView → List Clause → Type 0
+IsUnknown is_brief limit job row = (goals : Goals) × AreOfRow job row goals × IsTold job goals is_brief limit (told.Many limit)
+
+-- none of these rows is found to come: it never does, or that isn't known
+abbrev pub NoneIsFound : Bool → ℕ → JobView → List (List Clause) → Type 0
+NoneIsFound is_brief limit job rows = Each (λ row. NeverComes job row ⊎ IsUnknown is_brief limit job row) rows
+
 -- no schedule has an answer that its step doesn't expect, nor all answers of a row of `never`
 pub record IsWanted (asked : Asked) : Type 0 where
   pub meets : MeetsExpected asked.job
@@ -57,12 +65,12 @@ filed (Some place) unmet = record unmet { step = filed_number place unmet.rank u
 
 -- What the list comes to, the status, and what is told where some schedule has one, by a list of all outcomes. With 9 the first step that has an answer which it
 -- doesn't expect, and a schedule that shows it, or that more states than the limit would be looked at for it. Where there is no such step,
--- with 9 the first row of `never` that comes together, with a schedule, or with 7 the first that can't be looked for within the limit. At
--- a place steps are numbered as in the file, and in the schedule as in the job with its stops.
+-- with 9 the first row of `never` that is found to come together, with a schedule; or where none is, with 7 the first that can't be looked for
+-- within the limit. At a place steps are numbered as in the file, and in the schedule as in the job with its stops.
 pub data IsToldOf (form : Form) (options : ListOptions) (at : Option Place) (asked : Asked) (found : List (List ℕ)) : Judgement → ℕ → List ℕ → Type 0 where
   unmet : (one : Unmet) (goals : Goals) (what : Told) → first_unmet asked.job found ≡ Some one → IsUnmet asked.job one goals → IsTold asked.job goals options.is_brief options.limit what
       → IsToldOf form options at asked found (unmet_judgement one) 9 (unmet_in form at asked.names asked.job (filed at one) what)
-  together : (number : ℕ) (row : List Clause) (goals : Goals) (schedule : Schedule) → MeetsExpected asked.job → slice_get asked.rows number ≡ Some row → NoneComes asked.job (take number asked.rows) → AreOfRow asked.job row goals
+  together : (number : ℕ) (row : List Clause) (goals : Goals) (schedule : Schedule) → MeetsExpected asked.job → slice_get asked.rows number ≡ Some row → NoneIsFound options.is_brief options.limit asked.job (take number asked.rows) → AreOfRow asked.job row goals
       → IsTold asked.job goals options.is_brief options.limit (told.Schedule schedule) → IsToldOf form options at asked found ComeTogether 9 (row_in form at asked.names asked.job number (told.Schedule schedule))
-  unsearched : (number : ℕ) (row : List Clause) (goals : Goals) → MeetsExpected asked.job → slice_get asked.rows number ≡ Some row → NoneComes asked.job (take number asked.rows) → AreOfRow asked.job row goals
-      → IsTold asked.job goals options.is_brief options.limit (told.Many options.limit) → IsToldOf form options at asked found NotKnown 7 (row_in form at asked.names asked.job number (told.Many options.limit))
+  unsearched : (number : ℕ) (row : List Clause) (goals : Goals) → MeetsExpected asked.job → slice_get asked.rows number ≡ Some row → NoneComes asked.job (take number asked.rows) → NoneIsFound options.is_brief options.limit asked.job asked.rows
+      → AreOfRow asked.job row goals → IsTold asked.job goals options.is_brief options.limit (told.Many options.limit) → IsToldOf form options at asked found NotKnown 7 (row_in form at asked.names asked.job number (told.Many options.limit))

@@ -1,9 +1,9 @@
 -- What single functions find that look for schedules.
-use Rattle.std.specs.Prelude.{◌≡◌, ◌⊎◌, ℕ, Bool, false, All as Each, Contains, List, Option, Some, None, slice_get, take}
+use Rattle.std.specs.Prelude.{◌≡◌, ◌⊎◌, ◌==◌, ℕ, Bool, false, All as Each, Contains, List, Option, Some, None, slice_get, take}
 use Rattle.ulfm_job.specs.declared.clause.Clause.{Clause}
 use Rattle.ulfm_job.specs.Job.{JobView}
 use Rattle.ulfm_outcomes_spec.specs.Goals.{is_some_open}
-use Rattle.ulfm_outcomes_spec.specs.Told.{IsLook}
+use Rattle.ulfm_outcomes_spec.specs.Told.{IsLook, IsTold}
 use Rattle.ulfm_outcomes_list.specs.Goals.{AreOfClauses}
 use Rattle.ulfm_outcomes_list.specs.declared.goals.Goals.{Goals}
 use Rattle.ulfm_outcomes_list.specs.declared.unmet.Unmet.{Unmet}
@@ -21,7 +21,7 @@ use Rattle.ulfm_command_line.specs.declared.reply.Reply.{Reply}
 use Rattle.ulfm_job.specs.declared.place.Place.{Place}
 use Rattle.ulfm_outcomes_reply.specs.Drawn.{IsDrawn, left_drawn}
 use Rattle.ulfm_outcomes_reply.specs.Outcomes.{nowhere_in}
-use Rattle.ulfm_outcomes_reply.specs.Wanted.{AreOfRow, NeverComes, NoneComes}
+use Rattle.ulfm_outcomes_reply.specs.Wanted.{AreOfRow, IsUnknown, NeverComes, NoneComes, NoneIsFound}
 use Rattle.ulfm_outcomes_reply.specs.declared.never_rows.FirstRow.{FirstRow}
 
 -- what came of a search for the answers of a row: none for one that isn't looked at
@@ -42,10 +42,43 @@ abbrev pub IsSoughtRow : JobView → List Clause → Option Goals → Type 0
 IsSoughtRow job row None = NeverComes job row
 IsSoughtRow job row (Some goals) = AreOfRow job row goals
 
--- no row came together, or none before that of this number, of which that is told
+-- what a list comes to below which this is told of a row
+abbrev pub row_judgement : Told → Judgement
+row_judgement (Schedule schedule) = ComeTogether
+row_judgement (Many limit) = NotKnown
+
+-- the status of a list below which this is told of a row
+abbrev pub row_status : Told → ℕ
+row_status (Schedule schedule) = 9
+row_status (Many limit) = 7
+
+-- what came of a search for the row of this number
+abbrev pub numbered : ℕ → Option Told → Option FirstRow
+numbered number None = None
+numbered number (Some told) = Some (record { number = number; told = told })
+
+-- a schedule was found that has all answers of a row, by what is told of it
+abbrev pub is_row_found : Option FirstRow → Bool
+is_row_found None = false
+is_row_found (Some first) = row_status first.told == 9
+
+-- that is told of the row of this number: a schedule, and none is found before it; or it is the first of which it isn't known, and none is found
+abbrev pub IsFirstTold : JobView → List (List Clause) → Bool → ℕ → ℕ → Told → Type 0
+IsFirstTold job rows is_brief limit number (Schedule schedule) = (row : List Clause) × (slice_get rows number ≡ Some row) × NoneIsFound is_brief limit job (take number rows)
+    × ((goals : Goals) × AreOfRow job row goals × IsTold job goals is_brief limit (Schedule schedule))
+IsFirstTold job rows is_brief limit number (Many most) = (row : List Clause) × (slice_get rows number ≡ Some row) × NoneComes job (take number rows) × NoneIsFound is_brief limit job rows
+    × (most ≡ limit) × IsUnknown is_brief limit job row
+
+-- no row comes together, or that is told of one
 abbrev pub IsFirstRow : JobView → List (List Clause) → Bool → ℕ → Option FirstRow → Type 0
 IsFirstRow job rows is_brief limit None = NoneComes job rows
-IsFirstRow job rows is_brief limit (Some first) = (row : List Clause) × (slice_get rows first.number ≡ Some row) × NoneComes job (take first.number rows) × IsLookForRow job row is_brief limit (Some first.told)
+IsFirstRow job rows is_brief limit (Some first) = IsFirstTold job rows is_brief limit first.number first.told
+
+-- of so many of the rows none comes together, or none is found, and that is the first of which it isn't known
+abbrev pub IsUnfoundOf : JobView → List (List Clause) → Bool → ℕ → ℕ → Option FirstRow → Type 0
+IsUnfoundOf job rows is_brief limit count None = NoneComes job (take count rows)
+IsUnfoundOf job rows is_brief limit count (Some first) = (row : List Clause) × (slice_get rows first.number ≡ Some row) × NoneComes job (take first.number rows) × NoneIsFound is_brief limit job (take count rows)
+    × (first.told ≡ Many limit) × IsUnknown is_brief limit job row
 
 -- the status of what came of a search for answers that the words name, or that no schedule shows them
 abbrev pub look_status : Option Told → ℕ
@@ -63,13 +96,3 @@ IsLookText form drawn at asked (Some (Many limit)) text = text ≡ told_in form 
 abbrev pub IsDrawnOf : Form → ListOptions → Option Place → Asked → List (List ℕ) → Option Reply → Type 0
 IsDrawnOf form options at asked found None = left_drawn options.drawn asked.job found ≡ None
 IsDrawnOf form options at asked found (Some reply) = (left : Unmet) × (left_drawn options.drawn asked.job found ≡ Some left) × IsDrawn form options at asked left reply.status (body_in form reply.body)
-
--- what a list comes to below which this is told of a row
-abbrev pub row_judgement : Told → Judgement
-row_judgement (Schedule schedule) = ComeTogether
-row_judgement (Many limit) = NotKnown
-
--- the status of a list below which this is told of a row
-abbrev pub row_status : Told → ℕ
-row_status (Schedule schedule) = 9
-row_status (Many limit) = 7
