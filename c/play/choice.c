@@ -217,7 +217,7 @@ uint32_t __wrap_ulfm_get_failed(ulfm_slot *slot, uint32_t comm, ulfm_group *fail
     bool is_event = um_is_played && before_look(event_of(ASKS_FAILED, comm, NOBODY, ULFM_ANY), 0, true);
     uint32_t code = __real_ulfm_get_failed(slot, comm, failed);
     if (um_is_played && um_players[um_me->number].looks_anew) failed->size = 0;
-    if (um_footprints && is_event) um_end_question(bits_of_group(failed));
+    if (um_footprints && is_event) um_end_listed(failed);
     return code;
 }
 

@@ -14,6 +14,7 @@ enum { OF_ANYBODY = -3, OF_NOBODY = -2, BEFORE = -2 };
 static struct learnt {
     int use[MAX_RANKS][CONTEXTS], tag[MAX_RANKS][CONTEXTS];
     bool polls_in_passing; /* shrinks and agreements whose requests are looked at */
+    uint8_t lists_failed;  /* bits of ranks that ask which failures they know */
     bool copies, is_new;   /* duplicates that don't block; that isn't known yet */
 } * learnt;
 
@@ -169,6 +170,11 @@ static bool are_match_and_stop(const struct footprint *a, const struct footprint
     return (a->kind == STOPS && b->kind == TAKES && b->matches) || (b->kind == STOPS && a->kind == TAKES && a->matches);
 }
 
+/* A rank that asks which failures it knows, or acknowledges some, has them in the order in which word of them came. */
+static bool are_listed(const struct footprint *a, const struct footprint *b) {
+    return learnt->lists_failed >> a->rank & 1 && is_failure(a) && is_failure(b);
+}
+
 /* Whether an event may not commute with one of another rank. */
 bool um_is_across(const struct footprint *e) { return is_poll(e) || e->matches || e->kind == LOOKS_AT_SEND || e->sends || e->gives; }
 
@@ -215,7 +221,7 @@ bool um_is_dependent(const struct footprint *a, int at, const struct footprint *
     if (are_match_and_stop(a, b) || is_silent_before(a, b)) return true;
     if (brings_nothing(b)) return is_before_word(a, at, b);
     return is_before_revocation(a, at, b) || is_after_revocation(a, at, b) || is_before_failure(a, b) || is_after_failure(a, at, b) ||
-           is_before_message(a, b) || is_after_message(a, at, b) || are_entry_and_poll(a, at, b) || are_of_copy(a, b);
+           is_before_message(a, b) || is_after_message(a, at, b) || are_entry_and_poll(a, at, b) || are_of_copy(a, b) || are_listed(a, b);
 }
 
 /* Whether both are of one ring: an item is taken, and what is behind is lost. */
@@ -246,14 +252,16 @@ void um_note_copy(void) {
     if (!learnt->copies) learnt->copies = learnt->is_new = true;
 }
 
-/* Learns which receives name no source, and whether polls are made in passing, from the events that were run. Whether it learnt something: then the search
-   begins anew. */
+/* Learns which receives name no source, whether polls are made in passing, and who asks for failures, from the events that were run. Whether it learnt
+   something: then the search begins anew. */
 bool um_learn(int count) {
     bool has_learnt = learnt->is_new;
     learnt->is_new = false;
     for (int j = 0; j < count; j++) {
         const struct footprint *e = &um_footprints[j];
         if (is_poll(e) && !e->waits && !learnt->polls_in_passing) learnt->polls_in_passing = has_learnt = true;
+        bool lists = (e->kind == ASKS_FAILED || e->kind == ACKNOWLEDGES) && !(learnt->lists_failed >> e->rank & 1);
+        if (lists) learnt->lists_failed |= (uint8_t)(1u << e->rank), has_learnt = true;
         if (e->kind != POSTS && e->kind != PROBES) continue;
         int *use = &learnt->use[e->rank][e->comm], *tag = &learnt->tag[e->rank][e->comm];
         if (e->flags & OF_ANY && *use == NAMED_ALONE) {

@@ -183,6 +183,13 @@ void um_end_question(uint32_t answer) {
     own->fails = (uint8_t)members_of(own->rank, (uint32_t)own->comm);
 }
 
+/* .. for whose failures it knows, which have an order. */
+void um_end_listed(const ulfm_group *failed) {
+    uint32_t list = 0;
+    for (uint32_t k = 0; k < failed->size; k++) list = list << 4 | (failed->members[k] + 1u);
+    um_end_question(list);
+}
+
 uint32_t um_topic_of(uint32_t comm, bool agrees, int round) { return 1 + (comm * 2 + agrees) * MOST_ROUNDS + (uint32_t)round; }
 
 void um_end_entry(bool agrees, uint32_t flag, uint32_t code) {

@@ -131,6 +131,7 @@ void um_end_look(uint64_t id, uint32_t code, const ulfm_status *status);
 void um_end_probe(uint32_t source, uint32_t code, bool takes);
 void um_end_revoke(bool was_revoked);
 void um_end_question(uint32_t answer);
+void um_end_listed(const ulfm_group *failed);
 void um_end_entry(bool agrees, uint32_t flag, uint32_t code);
 void um_end_poll(bool agrees, const struct proposal *proposal, uint32_t answer);
 void um_end_stop(void);
