@@ -118,6 +118,7 @@ bool um_is_handler(MPI_Errhandler handler) {
 static void end_by(const char *name, int code) {
     const char *call = um_me->call.name;
     char line[256];
+    if (um_is_played) um_wait_to_end_all();
     um_begin_report();
     fprintf(stderr, "ulfm-mpirun: rank %d: %s%s: %s; errors are fatal on %s: the run ends\n", um_me->number, call,
             um_line_of(&um_me->call, line, sizeof line), text_of(code), name);

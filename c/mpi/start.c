@@ -2,6 +2,7 @@
 #define _GNU_SOURCE
 #include "launcher/launcher.h"
 #include "mpi/calls.h"
+#include "play/play.h"
 #include "progress/progress.h"
 #include <stdlib.h>
 #include <string.h>
@@ -110,6 +111,7 @@ int MPI_Finalize(void) {
 
 int MPI_Abort(MPI_Comm comm, int errorcode) {
     (void)comm;
+    if (um_me && um_is_played) um_wait_to_end_all();
     if (um_me) {
         char line[256];
         struct call call = um_me->call;

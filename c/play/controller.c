@@ -43,6 +43,12 @@ static void wait_for_more(struct player *own) {
     atomic_store(&um_me->shared.idle, 0);
 }
 
+/* The rank ends the run, by MPI_Abort or a fatal error, once nobody else can do anything more: so the search sees what might have come before. */
+void um_wait_to_end_all(void) {
+    um_players[um_me->number].state = ENDS_ALL;
+    um_to_controller();
+}
+
 void um_wait_as_played(bool (*is_done)(void *, bool is_settled), void *of) {
     struct player *own = &um_players[um_me->number];
     bool was_in_wait = own->in_wait;

@@ -36,8 +36,8 @@ struct event {
     int32_t tag; /* of a message; of a look at a request its number; of an entry into an agreement that one's; -1: none, or any */
 };
 
-/* A rank stands before a call, waits, or has ended. */
-enum state { AT_CALL, WAITS, OVER };
+/* A rank stands before a call, waits, is about to end the run, or has ended. */
+enum state { AT_CALL, WAITS, ENDS_ALL, OVER };
 enum { LOOKS = 256 };
 
 /* What the controller knows of a rank. */
@@ -69,6 +69,7 @@ void um_end_schedule(int status);
 /* controller.c */
 void um_wait_as_played(bool (*is_done)(void *, bool is_settled), void *of);
 void um_look_as_played(void);
+void um_wait_to_end_all(void);
 
 /* context.c */
 bool um_make_context(int rank);

@@ -102,6 +102,8 @@ static void play_schedule(void) {
         if (alarms) um_tell_late(TIME_IS_OVER);
     }
     if (um_is_searching() && um_cut_of_search() != NOT_CUT) return;
+    for (int k = 0; k < um_options.ranks && has_room; k++)
+        if (um_players[k].state == ENDS_ALL) um_resume(k); /* which doesn't return */
     if (!has_room) um_tell_table("long\n");
     else if (!have_all_ended()) tell_end();
 }
