@@ -125,6 +125,8 @@ int MPI_Type_create_darray(int size, int rank, int dims, const int sizes[], cons
                            MPI_Datatype type, MPI_Datatype *made);
 int MPI_Type_create_resized(MPI_Datatype type, MPI_Aint lower, MPI_Aint extent, MPI_Datatype *made);
 int MPI_Type_dup(MPI_Datatype type, MPI_Datatype *made);
+/* MPI_ERR_ARG: the class has no type of this size. */
+int MPI_Type_match_size(int typeclass, int size, MPI_Datatype *type);
 int MPI_Type_get_envelope(MPI_Datatype type, int *ints, int *addresses, int *types, int *combiner);
 int MPI_Type_get_contents(MPI_Datatype type, int ints, int addresses, int types, int number[], MPI_Aint address[], MPI_Datatype of[]);
 int MPI_Type_set_name(MPI_Datatype type, const char *name);

@@ -242,10 +242,18 @@ typedef void MPI_User_function_c(void *, void *, MPI_Count *, MPI_Datatype *);
 #define MPI_COMPLEX16 MPI_C_DOUBLE_COMPLEX
 #define MPI_DOUBLE_COMPLEX MPI_C_DOUBLE_COMPLEX
 #define MPI_2INTEGER MPI_2INT
+/* Pairs of Fortran: the place is a number of the value's type. */
+#define MPI_2REAL ULFM_MPI_TYPE(41)
+#define MPI_2DOUBLE_PRECISION ULFM_MPI_TYPE(42)
 #define MPI_CXX_BOOL MPI_C_BOOL
 #define MPI_CXX_FLOAT_COMPLEX MPI_C_FLOAT_COMPLEX
 #define MPI_CXX_DOUBLE_COMPLEX MPI_C_DOUBLE_COMPLEX
 #define MPI_CXX_LONG_DOUBLE_COMPLEX MPI_C_LONG_DOUBLE_COMPLEX
+
+/* Classes of MPI_Type_match_size (19.1.9). */
+#define MPI_TYPECLASS_REAL 1
+#define MPI_TYPECLASS_INTEGER 2
+#define MPI_TYPECLASS_COMPLEX 3
 
 /* How a datatype was made (5.1.13). */
 #define MPI_COMBINER_NAMED 1

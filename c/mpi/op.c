@@ -73,10 +73,10 @@ FOLD(fold_bool, _Bool, LOGICAL(_Bool))
 FOLD(fold_byte, unsigned char, BITWISE(unsigned char))
 
 /* MAXLOC and MINLOC (6.9.4): the value, and the least of the places where it is. */
-#define LOCATE(name, T) \
+#define LOCATE(name, T, P) \
     static bool name(const void *in, void *into, int count, int op) { \
-        const struct { T value; int place; } *a = in; \
-        struct { T value; int place; } *b = into; \
+        const struct { T value; P place; } *a = in; \
+        struct { T value; P place; } *b = into; \
         if (op != 11 && op != 12) return false; \
         for (int k = 0; k < count; k++) { \
             bool wins = op == 11 ? a[k].value > b[k].value : a[k].value < b[k].value; \
@@ -85,19 +85,21 @@ FOLD(fold_byte, unsigned char, BITWISE(unsigned char))
         return true; \
     }
 
-LOCATE(locate_float, float)
-LOCATE(locate_double, double)
-LOCATE(locate_long, long)
-LOCATE(locate_int, int)
-LOCATE(locate_short, short)
-LOCATE(locate_ldouble, long double)
+LOCATE(locate_float, float, int)
+LOCATE(locate_double, double, int)
+LOCATE(locate_long, long, int)
+LOCATE(locate_int, int, int)
+LOCATE(locate_short, short, int)
+LOCATE(locate_ldouble, long double, int)
+LOCATE(locate_reals, float, float)
+LOCATE(locate_doubles, double, double)
 
 typedef bool folding(const void *, void *, int, int);
 static folding *const foldings[] = {
     0, fold_char, fold_char, fold_uchar, fold_byte, 0, fold_short, fold_ushort, fold_int, fold_uint, fold_long, fold_ulong, fold_llong,
     fold_ullong, fold_float, fold_double, fold_ldouble, 0, fold_bool, fold_char, fold_short, fold_int, fold_long, fold_uchar,
     fold_ushort, fold_uint, fold_ulong, fold_long, fold_llong, fold_llong, locate_float, locate_double, locate_long, locate_int,
-    locate_short, locate_ldouble, fold_cfloat, fold_cdouble, fold_cldouble,
+    locate_short, locate_ldouble, fold_cfloat, fold_cdouble, fold_cldouble, 0, 0, locate_reals, locate_doubles,
 };
 /* clang-format on */
 

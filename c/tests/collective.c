@@ -21,7 +21,8 @@ static void product(void *in, void *into, int *count, MPI_Datatype *type) {
 static void reductions(void) {
     struct { double value; int place; } in = {(rank * 7) % 5, rank}, out = {0, 0};
     int x = rank + 1, sum = 0, most = 0, bits = 0, scan = 0, exscan = -1;
-    double d = 0.1 * rank, total = 0;
+    double d = 0.1 * rank, total = 0, pair[2] = {-rank, rank}, least[2] = {0};
+    float of_reals[2] = {(float)(rank % 2), (float)rank}, highest[2] = {0};
     MPI_Op op;
     MPI_Datatype matrix;
     long m[4] = {1, rank + 1, rank, 1}, result[4] = {0};
@@ -29,6 +30,9 @@ static void reductions(void) {
     MPI_Allreduce(&x, &most, 1, MPI_INT, MPI_MAX, world);
     MPI_Allreduce(&x, &bits, 1, MPI_INT, MPI_BXOR, world);
     MPI_Allreduce(&in, &out, 1, MPI_DOUBLE_INT, MPI_MAXLOC, world);
+    MPI_Allreduce(pair, least, 1, MPI_2DOUBLE_PRECISION, MPI_MINLOC, world);
+    MPI_Allreduce(of_reals, highest, 1, MPI_2REAL, MPI_MAXLOC, world);
+    CHECK(least[0] == 1 - size && least[1] == size - 1 && highest[0] == (size > 1) && highest[1] == (size > 1));
     MPI_Allreduce(&d, &total, 1, MPI_DOUBLE, MPI_SUM, world);
     MPI_Scan(&x, &scan, 1, MPI_INT, MPI_SUM, world);
     MPI_Exscan(&x, &exscan, 1, MPI_INT, MPI_SUM, world);

@@ -155,6 +155,10 @@ contains
   subroutine functions()
     external :: add_squares
     integer :: op, sum
+    real :: pair(2), found(2)
+    pair = [real(mod(rank, 2)), real(rank)]
+    call MPI_Allreduce(pair, found, 1, MPI_2REAL, MPI_MAXLOC, MPI_COMM_WORLD, code)
+    call check(found(1) == min(size - 1, 1) .and. found(2) == min(size - 1, 1), 'the place of the largest')
     call MPI_Op_create(add_squares, .true., op, code)
     call MPI_Allreduce(rank * rank, sum, 1, MPI_INTEGER, op, MPI_COMM_WORLD, code)
     call check(sum == (size - 1) * size * (2 * size - 1) / 6, 'an operation of the program')

@@ -20,7 +20,7 @@ static const char *const names[BASIC_TYPES] = {
     "MPI_LONG_DOUBLE", "MPI_WCHAR", "MPI_C_BOOL", "MPI_INT8_T", "MPI_INT16_T", "MPI_INT32_T", "MPI_INT64_T", "MPI_UINT8_T", "MPI_UINT16_T",
     "MPI_UINT32_T", "MPI_UINT64_T", "MPI_AINT", "MPI_OFFSET", "MPI_COUNT", "MPI_FLOAT_INT", "MPI_DOUBLE_INT", "MPI_LONG_INT", "MPI_2INT",
     "MPI_SHORT_INT", "MPI_LONG_DOUBLE_INT", "MPI_C_COMPLEX", "MPI_C_DOUBLE_COMPLEX", "MPI_C_LONG_DOUBLE_COMPLEX",
-    "MPI_LB", "MPI_UB"};
+    "MPI_LB", "MPI_UB", "MPI_2REAL", "MPI_2DOUBLE_PRECISION"};
 /* clang-format on */
 
 /* Where the name stands that a program gave a type; of a basic one, null where it gave none and there is no memory for it. */

@@ -7,16 +7,21 @@
 #include <string.h>
 #include <wchar.h>
 
-enum { FIRST_PAIR = 30, FIRST_COMPLEX = 36, LOWER_MARK = 39, UPPER_MARK = 40, BASIC = BASIC_TYPES };
+enum { FIRST_PAIR = 30, FIRST_COMPLEX = 36, LOWER_MARK = 39, UPPER_MARK = 40, FIRST_OF_FORTRAN = 41, BASIC = BASIC_TYPES };
 
 /* clang-format off */
-#define PAIR(first) {sizeof(first), sizeof(struct { first value; int place; })}
+#define PAIR(first, second) {sizeof(first), sizeof(struct { first value; second place; }), sizeof(second)}
 static const size_t sizes[FIRST_PAIR] = {0, 1, 1, 1, 1, 1, sizeof(short), sizeof(short), sizeof(int), sizeof(int), sizeof(long), sizeof(long),
                                          sizeof(long long), sizeof(long long), sizeof(float), sizeof(double), sizeof(long double), sizeof(wchar_t),
                                          sizeof(_Bool), 1, 2, 4, 8, 1, 2, 4, 8, sizeof(MPI_Aint), sizeof(MPI_Offset), sizeof(MPI_Count)};
 /* clang-format on */
-/* Of pairs (6.9.4): the bytes of the value, and of the pair in memory. */
-static const size_t pairs[FIRST_COMPLEX - FIRST_PAIR][2] = {PAIR(float), PAIR(double), PAIR(long), PAIR(int), PAIR(short), PAIR(long double)};
+/* Of pairs (6.9.4): the bytes of the value, of the pair in memory, and of the place; behind those of C two of Fortran. */
+struct pair {
+    size_t value, whole, place;
+};
+static const struct pair pairs[FIRST_COMPLEX - FIRST_PAIR + BASIC - FIRST_OF_FORTRAN] = {
+    PAIR(float, int), PAIR(double, int),      PAIR(long, int),    PAIR(int, int),
+    PAIR(short, int), PAIR(long double, int), PAIR(float, float), PAIR(double, double)};
 static const size_t parts_of_complex[LOWER_MARK - FIRST_COMPLEX] = {sizeof(float), sizeof(double), sizeof(long double)};
 struct type um_basic_types[BASIC];
 static struct block basic_blocks[BASIC][2];
@@ -34,33 +39,42 @@ static enum external external_of(uintptr_t number) {
     return type == MPI_LONG_DOUBLE || type == MPI_LONG_DOUBLE_INT || type == MPI_C_LONG_DOUBLE_COMPLEX ? QUAD : SAME;
 }
 
+static const struct pair *pair_at(int number) {
+    if (number >= FIRST_OF_FORTRAN) return &pairs[FIRST_COMPLEX - FIRST_PAIR + number - FIRST_OF_FORTRAN];
+    return number >= FIRST_PAIR && number < FIRST_COMPLEX ? &pairs[number - FIRST_PAIR] : 0;
+}
+
+static void make_basic(int number) {
+    struct block *block = basic_blocks[number];
+    const struct pair *pair = pair_at(number);
+    bool is_complex = number >= FIRST_COMPLEX && !pair;
+    size_t part = is_complex ? parts_of_complex[number - FIRST_COMPLEX] : pair ? pair->value : sizes[number], place = pair ? pair->place : 0;
+    size_t first = is_complex ? 2 * part : part, whole = pair ? pair->whole : first;
+    enum external external = external_of((uintptr_t)number);
+    block[0] = block_at(0, first, part, external);
+    block[1] = block_at(first < place ? place : first, place, place, SAME);
+    um_basic_types[number] = (struct type){.users = 1,
+                                           .is_committed = true,
+                                           .is_basic = true,
+                                           .is_plain = first + place == whole,
+                                           .size = first + place,
+                                           .upper = (ptrdiff_t)whole,
+                                           .blocks = pair ? 2 : 1,
+                                           .elements = pair ? 2 : 1,
+                                           .most = pair ? block[1].at + (ptrdiff_t)place : (ptrdiff_t)first,
+                                           .alignment = (uint32_t)(part < place ? place : part),
+                                           .external = (external == HALF || external == UNSIGNED_HALF ? first / 2
+                                                        : external == QUAD                            ? first / part * 16
+                                                                                                      : first) +
+                                                       place,
+                                           .block = block,
+                                           .base = (MPI_Datatype)(uintptr_t)number};
+}
+
 /* Before any program asks for them. */
 static void __attribute__((constructor)) make_basics(void) {
-    for (int k = 1; k < LOWER_MARK; k++) {
-        struct block *block = basic_blocks[k];
-        bool is_complex = k >= FIRST_COMPLEX, is_pair = k >= FIRST_PAIR && !is_complex;
-        size_t part = is_complex ? parts_of_complex[k - FIRST_COMPLEX] : is_pair ? pairs[k - FIRST_PAIR][0] : sizes[k];
-        size_t first = is_complex ? 2 * part : part, whole = is_pair ? pairs[k - FIRST_PAIR][1] : first;
-        enum external external = external_of((uintptr_t)k);
-        block[0] = block_at(0, first, part, external);
-        block[1] = block_at(first < sizeof(int) ? sizeof(int) : first, sizeof(int), sizeof(int), SAME);
-        um_basic_types[k] = (struct type){.users = 1,
-                                          .is_committed = true,
-                                          .is_basic = true,
-                                          .size = is_pair ? first + sizeof(int) : first,
-                                          .upper = (ptrdiff_t)whole,
-                                          .blocks = is_pair ? 2 : 1,
-                                          .block = block,
-                                          .base = (MPI_Datatype)(uintptr_t)k};
-        um_basic_types[k].is_plain = um_basic_types[k].size == whole;
-        um_basic_types[k].elements = um_basic_types[k].blocks;
-        um_basic_types[k].most = is_pair ? block[1].at + (ptrdiff_t)block[1].length : (ptrdiff_t)first;
-        um_basic_types[k].alignment = (uint32_t)(is_pair && part < sizeof(int) ? sizeof(int) : part);
-        um_basic_types[k].external = (external == HALF || external == UNSIGNED_HALF ? first / 2
-                                      : external == QUAD                            ? first / part * 16
-                                                                                    : first) +
-                                     (is_pair ? sizeof(int) : 0);
-    }
+    for (int k = 1; k < BASIC; k++)
+        if (k < LOWER_MARK || k > UPPER_MARK) make_basic(k);
     for (int k = LOWER_MARK; k <= UPPER_MARK; k++)
         um_basic_types[k] = (struct type){.users = 1,
                                           .is_committed = true,
@@ -236,6 +250,23 @@ int MPI_Get_count(const MPI_Status *status, MPI_Datatype type, int *count) {
     size_t bytes = status->bytes, whole = of->size ? bytes / of->size : 0;
     *count = whole * of->size == bytes && whole <= INT_MAX ? (int)whole : MPI_UNDEFINED;
     return MPI_SUCCESS;
+}
+
+/* The first type of a class that has so many bytes, in the order of sizes (19.1.9). */
+int MPI_Type_match_size(int typeclass, int size, MPI_Datatype *type) {
+    static const MPI_Datatype classes[][4] = {{MPI_FLOAT, MPI_DOUBLE, MPI_LONG_DOUBLE},
+                                              {MPI_INT8_T, MPI_INT16_T, MPI_INT32_T, MPI_INT64_T},
+                                              {MPI_C_FLOAT_COMPLEX, MPI_C_DOUBLE_COMPLEX, MPI_C_LONG_DOUBLE_COMPLEX}};
+    ENTER_LOOK(0, MPI_UNDEFINED, MPI_UNDEFINED);
+    WRITES(0, type);
+    for (int k = 0; k < 4 && typeclass >= MPI_TYPECLASS_REAL && typeclass <= MPI_TYPECLASS_COMPLEX; k++) {
+        MPI_Datatype found = classes[typeclass - MPI_TYPECLASS_REAL][k];
+        if (found && um_type_at(found)->size == (size_t)size) {
+            *type = found;
+            return MPI_SUCCESS;
+        }
+    }
+    return um_fail(0, MPI_ERR_ARG);
 }
 
 void um_clear_types(void) {

@@ -49,7 +49,7 @@ struct type {
     MPI_Datatype base;            /* the basic type of all its data, or null */
     char name[MPI_MAX_OBJECT_NAME];
 };
-enum { BASIC_TYPES = 41 };
+enum { BASIC_TYPES = 43 };
 
 /* The arguments of a call that makes a type, in the order in which MPI_Type_get_contents tells them (5.1.13): lists of ints, addresses, types. */
 enum { INT_LISTS = 8 };
