@@ -87,6 +87,10 @@ static void errors(void) {
     MPI_Type_commit(&mixed);
     CHECK(class_of(MPI_Accumulate(own, 1, mixed, next, 0, 1, mixed, MPI_SUM, win)) == MPI_ERR_TYPE && class_of(MPI_Accumulate(own, 1, MPI_INT, next, 0, 1, MPI_INT, MPI_OP_NULL, win)) == MPI_ERR_OP);
     MPI_Type_free(&mixed);
+    MPI_Type_contiguous(0, MPI_INT, &mixed);
+    MPI_Type_commit(&mixed);
+    CHECK(MPI_Accumulate(own, 2, mixed, next, 0, 1, mixed, MPI_SUM, win) == MPI_SUCCESS && MPI_Get_accumulate(own, 1, mixed, own, 0, MPI_INT, next, 0, 0, MPI_DOUBLE, MPI_MAX, win) == MPI_SUCCESS);
+    MPI_Type_free(&mixed);
     CHECK(class_of(MPI_Put_c(own, 3000000000, MPI_INT, next, 0, 3000000000, MPI_INT, win)) == MPI_ERR_RMA_RANGE);
     void *value;
     CHECK(MPI_Win_get_attr(win, MPI_WIN_BASE, &value, &flag) == MPI_SUCCESS && flag && value == values);

@@ -127,14 +127,16 @@ static int ask(MPI_Win win, struct window *window, struct deed deed, const struc
     return um_answer_window(window, win, code);
 }
 
-/* The basic type that a fold is of, in `deed`: one for all data (12.3.4), and an operation of MPI for it. */
+/* The basic type that a fold is of, in `deed`: one for all data (12.3.4), and an operation of MPI for it. Of no data there is none. */
 static int base_of(MPI_Op op, MPI_Datatype type, struct deed *deed) {
-    if (!um_type_at(type)) return MPI_ERR_TYPE;
-    deed->base = (uint32_t)(uintptr_t)um_type_at(type)->base;
+    const struct type *of = um_type_at(type);
+    if (!of) return MPI_ERR_TYPE;
+    deed->base = (uint32_t)(uintptr_t)of->base;
     deed->op = (uint32_t)(uintptr_t)op;
-    if (!deed->base) return MPI_ERR_TYPE;
+    if (!deed->base && of->size) return MPI_ERR_TYPE;
     if (op == MPI_REPLACE || op == MPI_NO_OP) return MPI_SUCCESS;
-    return um_is_basic_op(op) ? um_check_op(op, (MPI_Datatype)(uintptr_t)deed->base) : MPI_ERR_OP;
+    if (!um_is_basic_op(op)) return MPI_ERR_OP;
+    return deed->base ? um_check_op(op, of->base) : MPI_SUCCESS;
 }
 
 int MPI_Put(const void *buf, int count, MPI_Datatype type, int target, MPI_Aint disp, int targetcount, MPI_Datatype targettype, MPI_Win win) {
