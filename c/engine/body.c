@@ -6,15 +6,31 @@
 #include "search/search.h"
 #include <string.h>
 
-enum { REFERRING = sizeof(struct reference), AMBIGUOUS = REFERRING - 1 };
+enum { REFERRING = sizeof(struct reference) };
+
+/* Copies a message: mostly one of few bytes, by two moves that may overlap. */
+static inline void copy_few(void *to, const void *from, size_t length) {
+    uint64_t first, last;
+    if (length < sizeof first || length > 2 * sizeof first) {
+        if (length) memcpy(to, from, length);
+        return;
+    }
+    memcpy(&first, from, sizeof first);
+    memcpy(&last, (const char *)from + length - sizeof last, sizeof last);
+    memcpy(to, &first, sizeof first);
+    memcpy((char *)to + length - sizeof last, &last, sizeof last);
+}
 
 static bool is_reference(const struct received *received) { return received->body.content == REFERENCE; }
 
-static int send_whole(uint32_t context, int dest, int tag, struct bytes message) {
+int um_send_short(uint32_t context, int dest, int tag, struct bytes message) {
     union body body;
     body.whole.content = MESSAGE;
-    if (message.length) memcpy(body.whole.message, message.at, message.length);
-    return um_class_of(ulfm_isend(um_me->slot, context, (uint32_t)dest, (uint32_t)tag, &body.content, 1 + message.length));
+    copy_few(body.whole.message, message.at, message.length);
+    uint32_t code = ulfm_isend(um_me->slot, context, (uint32_t)dest, (uint32_t)tag, &body.content, 1 + message.length);
+    if (code != ULFM_OK) return um_class_of(code);
+    um_move_once();
+    return MPI_SUCCESS;
 }
 
 static int send_reference(struct parcel *parcel, int dest) {
@@ -22,7 +38,7 @@ static int send_reference(struct parcel *parcel, int dest) {
     return um_class_of(ulfm_isend(um_me->slot, parcel->context, (uint32_t)dest, (uint32_t)parcel->tag, &reference.content, sizeof reference));
 }
 
-static int send_parcel(const struct parcel *like, int dest, struct parcel **waits) {
+static __attribute__((noinline)) int send_parcel(const struct parcel *like, int dest, struct parcel **waits) {
     struct parcel *parcel = um_new_parcel(like);
     if (!parcel) return MPI_ERR_NO_MEM;
     bool is_known = waits && !um_is_played; /* else see play/matches.c */
@@ -42,7 +58,7 @@ static int send_parcel(const struct parcel *like, int dest, struct parcel **wait
 }
 
 int um_send_body(uint32_t context, int dest, int world, int tag, struct bytes message, struct parcel **waits) {
-    if (waits || message.length > AT_ONCE || message.length == AMBIGUOUS)
+    if (waits || !um_is_short(message.length))
         return send_parcel(&(struct parcel){.users = waits ? 3 : 2,
                                             .is_waited_for = waits != 0,
                                             .from = um_me->number,
@@ -52,9 +68,7 @@ int um_send_body(uint32_t context, int dest, int world, int tag, struct bytes me
                                             .length = message.length,
                                             .source = message.at},
                            dest, waits);
-    int code = send_whole(context, dest, tag, message);
-    if (code == MPI_SUCCESS) um_move_once();
-    return code;
+    return um_send_short(context, dest, tag, message);
 }
 
 bool um_is_long(size_t length) { return length == REFERRING; }
@@ -75,7 +89,7 @@ void um_take_body(const struct received *received, void *buffer, size_t room, MP
     struct parcel *parcel = is_reference(received) ? received->body.reference.parcel : 0;
     size_t whole = length_in(received), length = whole < room ? whole : room;
     if (parcel) um_empty_parcel(parcel, buffer, length);
-    else if (length) memcpy(buffer, received->body.whole.message, length);
+    else copy_few(buffer, received->body.whole.message, length);
     *code = whole > room ? MPI_ERR_TRUNCATE : MPI_SUCCESS;
     *status = (MPI_Status){.MPI_SOURCE = (int)received->told.source, .MPI_TAG = (int)received->told.tag, .bytes = length};
     if (!parcel) return;

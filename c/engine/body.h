@@ -32,6 +32,12 @@ struct bytes {
     size_t length;
 };
 
+/* Sends a message that stands in its body to the position `dest`, where nobody waits for its match. */
+int um_send_short(uint32_t context, int dest, int tag, struct bytes message);
+
+/* Whether a message of this length can stand in its body. No such body is as long as one that refers to a parcel. */
+static inline bool um_is_short(size_t length) { return length <= AT_ONCE && length != sizeof(struct reference) - 1; }
+
 /* Sends a message to the position `dest`, the world rank `world`. Where `waits` isn't null, it gets a parcel whose flag tells the match. */
 int um_send_body(uint32_t context, int dest, int world, int tag, struct bytes message, struct parcel **waits);
 

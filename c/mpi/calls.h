@@ -97,6 +97,7 @@ int um_begin_receive(const struct transfer *receive, struct request **made);
 int um_begin_both(const struct transfer *send, const struct transfer *receive, struct request **sent, struct request **received);
 int um_copy_to_send(struct transfer *send);
 int um_send_buffered(const struct transfer *send);
+int um_receive_soon(const struct transfer *of, size_t room, MPI_Status *status, struct request **waiting);
 void um_free_start(struct start *start);
 
 /* attribute.c */

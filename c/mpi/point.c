@@ -1,5 +1,6 @@
 /* Sends and receives (MPI 4.0, 3.2, 3.4, 3.7, 3.10). A failure or a revocation that a send or a receive which doesn't block meets is told where
    its request ends; wrong arguments are told at once. A standard send is buffered; with --sends wait it ends at its match. */
+#include "engine/body.h"
 #include "mpi/calls.h"
 #include <limits.h>
 #include <stdlib.h>
@@ -10,9 +11,9 @@ static inline int check(const struct transfer *of, bool is_receive, size_t *byte
     int code;
     if (!of->comm) return MPI_ERR_COMM;
     if (!um_check_type(of->data.count, of->data.type, bytes, &code)) return code;
-    bool is_any = is_receive && of->peer == MPI_ANY_SOURCE;
-    if (!is_any && of->peer != MPI_PROC_NULL && (of->peer < 0 || of->peer >= of->comm->size)) return MPI_ERR_RANK;
-    if (!(is_receive && of->tag == MPI_ANY_TAG) && (of->tag < 0 || of->tag > MPI_TAG_UB_VALUE)) return MPI_ERR_TAG;
+    bool is_member = (unsigned)of->peer < (unsigned)of->comm->size, is_tag = (unsigned)of->tag <= MPI_TAG_UB_VALUE;
+    if (!is_member && of->peer != MPI_PROC_NULL && !(is_receive && of->peer == MPI_ANY_SOURCE)) return MPI_ERR_RANK;
+    if (!is_tag && !(is_receive && of->tag == MPI_ANY_TAG)) return MPI_ERR_TAG;
     if (!um_is_buffer(of->data.at, *bytes, of->data.type)) return MPI_ERR_BUFFER;
     return MPI_SUCCESS;
 }
@@ -44,7 +45,11 @@ int um_send_buffered(const struct transfer *send) {
     void *packed;
     int code = check(send, false, &bytes);
     if (code != MPI_SUCCESS || send->peer == MPI_PROC_NULL) return code;
-    if (um_type_at(send->data.type)->is_plain) return um_send_now(send->comm, send->peer, send->tag, send->data.at, bytes, 0);
+    const struct comm *comm = send->comm;
+    if (um_type_at(send->data.type)->is_plain)
+        return um_is_short(bytes) && !comm->is_part
+                   ? um_send_short(comm->context, comm->engine_position[send->peer], send->tag, (struct bytes){send->data.at, bytes})
+                   : um_send_now(send->comm, send->peer, send->tag, send->data.at, bytes, 0);
     code = um_pack_data(send->data.at, send->data.count, send->data.type, &data, &packed);
     if (code == MPI_SUCCESS) code = um_send_now(send->comm, send->peer, send->tag, data, bytes, 0);
     free(packed);
@@ -82,7 +87,7 @@ static int finish(struct request *request, MPI_Status *status) {
     return code;
 }
 
-static int send_and_wait(const struct transfer *send, bool waits) {
+static inline int send_and_wait(const struct transfer *send, bool waits) {
     struct request *request;
     if (!waits) return um_answer(send->comm, um_send_buffered(send));
     int code = um_begin_send(send, waits, &request);
@@ -109,10 +114,16 @@ int MPI_Rsend(const void *buf, int count, MPI_Datatype type, int dest, int tag, 
 
 int MPI_Recv(void *buf, int count, MPI_Datatype type, int source, int tag, MPI_Comm comm, MPI_Status *status) {
     struct comm *of = um_comm_at(comm);
-    struct request *request;
+    struct request *request = 0;
+    size_t bytes = 0;
     ENTER(of, source, tag);
-    int code = um_begin_receive(&(struct transfer){{buf, count, type}, source, tag, of}, &request);
-    return code != MPI_SUCCESS ? um_fail(of, code) : um_answer(of, finish(request, status));
+    const struct transfer receive = {{buf, count, type}, source, tag, of};
+    int code = check(&receive, true, &bytes);
+    if (code != MPI_SUCCESS) return um_fail(of, code);
+    bool may_be_soon = !um_is_played && !of->is_part && source != MPI_PROC_NULL && um_type_at(type)->is_plain;
+    if (may_be_soon) code = um_receive_soon(&receive, bytes, status, &request);
+    else code = um_begin_receive(&receive, &request);
+    return um_answer(of, request ? finish(request, status) : code);
 }
 
 static int isend(const struct transfer *send, bool waits, MPI_Request *made) {

@@ -20,20 +20,21 @@ struct request *um_active_at(MPI_Request handle) {
 }
 
 /* A place of the table that is free, or -1 where there is no memory. */
-static int free_place(void) {
-    while (um_me->mpi.first_free < um_me->mpi.request_count && um_me->mpi.requests[um_me->mpi.first_free]) um_me->mpi.first_free++;
-    if (um_me->mpi.first_free < um_me->mpi.request_count) return um_me->mpi.first_free;
-    if (!um_grow(&um_me->mpi.requests, um_me->mpi.request_count, sizeof *um_me->mpi.requests)) return -1;
-    um_me->mpi.requests[um_me->mpi.request_count] = 0;
-    return um_me->mpi.request_count++;
+static inline int free_place(struct objects *mpi) {
+    while (mpi->first_free < mpi->request_count && mpi->requests[mpi->first_free]) mpi->first_free++;
+    if (mpi->first_free < mpi->request_count) return mpi->first_free;
+    if (!um_grow(&mpi->requests, mpi->request_count, sizeof *mpi->requests)) return -1;
+    mpi->requests[mpi->request_count] = 0;
+    return mpi->request_count++;
 }
 
 /* A request that isn't over, or null where there is no memory. */
 struct request *um_new_request(enum kind kind, struct comm *comm, int peer, int tag) {
-    struct request *request = um_me->mpi.spare;
-    int place = free_place();
+    struct objects *mpi = &um_me->mpi;
+    struct request *request = mpi->spare;
+    int place = free_place(mpi);
     if (place < 0 || (!request && !(request = calloc(1, sizeof *request)))) return 0;
-    if (um_me->mpi.spare) um_me->mpi.spare = request->next;
+    if (mpi->spare) mpi->spare = request->next;
     request->kind = kind;
     request->comm = comm;
     request->context = comm->context;
@@ -48,8 +49,8 @@ struct request *um_new_request(enum kind kind, struct comm *comm, int peer, int 
     request->status = (MPI_Status){.MPI_SOURCE = peer, .MPI_TAG = tag};
     request->next = request->previous = 0;
     request->handle = place + 1;
-    um_me->mpi.requests[place] = request;
-    if (kind == RECOVERY) um_me->mpi.recoveries++;
+    mpi->requests[place] = request;
+    if (kind == RECOVERY) mpi->recoveries++;
     return request;
 }
 
@@ -113,6 +114,15 @@ static void end_with_nobody(struct request *request) {
     request->over = true;
 }
 
+static inline uint32_t post(const struct comm *comm, uint32_t context, int source, int tag, uint64_t *id) {
+    uint32_t from = comm->is_self ? comm->engine_position[0] : source == MPI_ANY_SOURCE ? ULFM_ANY : comm->engine_position[source];
+    return ulfm_irecv(um_me->slot, context, from, tag == MPI_ANY_TAG ? ULFM_ANY : (uint32_t)tag, BODY, id);
+}
+
+static inline uint32_t test(uint64_t id, struct received *received) {
+    return ulfm_test(um_me->slot, id, &received->told, &received->body.content, sizeof received->body);
+}
+
 /* Posts the receive of a request. A refusal is told where the request ends. */
 void um_start_receive(struct request *request, void *buffer, size_t room) {
     request->buffer = buffer;
@@ -122,9 +132,8 @@ void um_start_receive(struct request *request, void *buffer, size_t room) {
         return;
     }
     const struct comm *comm = request->comm;
-    uint32_t source = comm->is_self ? comm->engine_position[0] : request->peer == MPI_ANY_SOURCE ? ULFM_ANY : comm->engine_position[request->peer];
-    uint32_t tag = request->tag == MPI_ANY_TAG ? ULFM_ANY : (uint32_t)request->tag, code = ULFM_REVOKED;
-    if (!comm->is_part || !um_is_revoked(comm)) code = ulfm_irecv(um_me->slot, request->context, source, tag, BODY, &request->id);
+    uint32_t code = ULFM_REVOKED;
+    if (!comm->is_part || !um_is_revoked(comm)) code = post(comm, request->context, request->peer, request->tag, &request->id);
     link_open(request);
     if (code != ULFM_OK) um_end_request(request, um_class_of(code));
     else if (um_is_waited_for() && !um_is_played) um_look_at(request);
@@ -159,35 +168,74 @@ static int look_at_send(struct request *request) {
     return MPI_SUCCESS;
 }
 
-/* The engine answered that the receive is over. */
-static void end_receive(struct request *request, const struct received *received) {
+/* The engine answered that a receive is over: takes its message. The error code. */
+static inline int take(const struct comm *comm, const struct received *received, void *buffer, size_t room, MPI_Status *status) {
     const ulfm_status *told = &received->told;
     int code = MPI_SUCCESS;
-    if (told->cancelled) request->status.cancelled = 1;
+    if (told->cancelled) status->cancelled = 1;
     else if (told->error) code = um_class_of(told->error);
     else {
-        um_take_body(received, request->buffer, request->room, &request->status, &code);
-        request->status.MPI_SOURCE = um_position_at(request->comm, told->source);
-        if (request->landing) um_land(request->landing, request->status.bytes);
+        um_take_body(received, buffer, room, status, &code);
+        status->MPI_SOURCE = um_position_at(comm, told->source);
     }
+    return code;
+}
+
+static void end_receive(struct request *request, const struct received *received) {
+    int code = take(request->comm, received, request->buffer, request->room, &request->status);
+    if (request->landing && !received->told.cancelled && !received->told.error) um_land(request->landing, request->status.bytes);
     um_end_request(request, code);
 }
 
 /* Cancels a receive. */
-static uint32_t cancel(const struct request *request, struct received *received) {
-    return ulfm_cancel(um_me->slot, request->id, &received->told, &received->body.content, sizeof received->body);
+static uint32_t cancel(uint64_t id, struct received *received) {
+    return ulfm_cancel(um_me->slot, id, &received->told, &received->body.content, sizeof received->body);
+}
+
+/* What was posted goes on as a request. */
+static int wait_later(const struct transfer *of, size_t room, uint64_t id, struct request **waiting) {
+    struct request *request = um_new_request(RECEIVE, of->comm, of->peer, of->tag);
+    struct received received;
+    *waiting = request;
+    if (!request) {
+        if (cancel(id, &received) == ULFM_OK && !received.told.cancelled && !received.told.error) um_drop_body(&received);
+        return MPI_ERR_NO_MEM;
+    }
+    request->buffer = um_into(of->data);
+    request->room = room;
+    request->id = id;
+    link_open(request);
+    return MPI_SUCCESS;
+}
+
+/* Receives a message in a call that blocks, on a communicator of a whole group, where the run isn't played. Mostly the message is there: then no request is
+   needed. Else `waiting` is one that waits for it. */
+int um_receive_soon(const struct transfer *of, size_t room, MPI_Status *status, struct request **waiting) {
+    struct received received;
+    MPI_Status told = {.MPI_SOURCE = of->peer, .MPI_TAG = of->tag};
+    uint64_t id;
+    uint32_t code = post(of->comm, of->comm->context, of->peer, of->tag, &id);
+    if (code == ULFM_OK) {
+        um_move_once();
+        code = test(id, &received);
+        if (code == ULFM_NOT_YET || code == ULFM_PENDING) return wait_later(of, room, id, waiting);
+    }
+    int ended = code == ULFM_OK ? take(of->comm, &received, um_into(of->data), room, &told) : um_class_of(code);
+    um_learn_of_success();
+    um_tell_status(status, &told);
+    return ended;
 }
 
 /* Ends a receive that waits on a part that is revoked. */
 static void end_revoked(struct request *request) {
     struct received received;
-    if (cancel(request, &received) == ULFM_OK && !received.told.cancelled) end_receive(request, &received);
+    if (cancel(request->id, &received) == ULFM_OK && !received.told.cancelled) end_receive(request, &received);
     else um_end_request(request, MPIX_ERR_REVOKED);
 }
 
 static int look_at_receive(struct request *request) {
     struct received received;
-    uint32_t code = ulfm_test(um_me->slot, request->id, &received.told, &received.body.content, sizeof received.body);
+    uint32_t code = test(request->id, &received);
     bool is_open = code == ULFM_NOT_YET || code == ULFM_PENDING;
     if (is_open && request->comm->is_part && um_is_revoked(request->comm)) {
         end_revoked(request);
@@ -224,7 +272,7 @@ void um_look_at_all(void) {
 void um_withdraw(struct request *request) {
     if (request->over || request->kind != RECEIVE) return;
     struct received received;
-    uint32_t code = cancel(request, &received);
+    uint32_t code = cancel(request->id, &received);
     if (code == ULFM_OK) end_receive(request, &received);
     else um_end_request(request, um_class_of(code));
 }
@@ -232,13 +280,10 @@ void um_withdraw(struct request *request) {
 void um_clear_requests(void) {
     for (int k = 0; k < um_me->mpi.request_count; k++) {
         struct request *request = um_me->mpi.requests[k];
-        if (request && request->parcel) um_let_go(request->parcel);
-        if (request) um_free_landing(request->landing);
-        if (request) um_free_start(request->start);
-        if (request) um_free_repeated(request->repeated);
-        if (request) um_free_reduction(request->reduction);
-        if (request) um_free_copy(request);
-        if (request) free(request->more);
+        if (!request) continue;
+        if (request->parcel) um_let_go(request->parcel);
+        um_free_landing(request->landing);
+        free_rest(request);
         free(request);
     }
     free(um_me->mpi.requests);

@@ -18,8 +18,8 @@ static void refuse(const char *call, const char *why) {
     um_end_run(STATUS_FATAL);
 }
 
-static inline void begin(struct rank *me, const struct call *call, bool counts) {
-    me->call = *call;
+/* The call is held, and stands there. */
+static inline void begin(struct rank *me, bool counts) {
     um_let_call_go(me);
     me->played.looks = 0;
     if (counts) um_count_call();
@@ -35,16 +35,20 @@ static __attribute__((noinline)) void enter_slowly(const struct call *like, bool
     if (um_me->recovery.known_count < atomic_load_explicit(&um_stopped_ranks, memory_order_relaxed)) um_note_failures();
     if (um_me->program.called_from) call.from = um_me->program.called_from;
     um_hold_call(um_me);
-    begin(um_me, &call, counts);
+    um_me->call = call;
+    begin(um_me, counts);
 }
 
 void um_enter_call(const char *name, const void *from, struct comm *comm, int peer, int tag, bool counts) {
     struct rank *me = um_me;
-    const struct call call = {.name = name, .from = from, .comm = comm, .peer = peer, .tag = tag};
     bool is_plain = me && me->life.has_begun && !me->life.has_finalized && !me->mpi.is_starting && !me->program.called_from &&
                     me->recovery.known_count >= atomic_load_explicit(&um_stopped_ranks, memory_order_relaxed);
-    if (is_plain && um_try_to_hold_call(me)) begin(me, &call, counts);
-    else enter_slowly(&call, counts);
+    if (!is_plain || !um_try_to_hold_call(me)) {
+        enter_slowly(&(const struct call){.name = name, .from = from, .comm = comm, .peer = peer, .tag = tag}, counts);
+        return;
+    }
+    me->call = (struct call){.name = name, .from = from, .comm = comm, .peer = peer, .tag = tag};
+    begin(me, counts);
 }
 
 /* By a wrapper of Fortran (fortran/fortran.h), before and after a call. */

@@ -9,9 +9,7 @@ void um_set_call(struct call call) {
     um_let_call_go(um_me);
 }
 
-/* Bits of the world ranks for which the call waits; mostly they are the same as at its last look. */
-void um_set_awaited(uint32_t ranks) {
-    if (um_me->call.waits_for == ranks) return;
+void um_change_awaited(uint32_t ranks) {
     um_hold_call(um_me);
     um_me->call.waits_for = ranks;
     um_let_call_go(um_me);

@@ -48,15 +48,8 @@ static void look_at_plan(void) {
     if (um_options.branches >= 0 && um_is_branch()) stop_by_plan();
 }
 
-/* Whether anything is done at places; mostly nothing is. */
-static bool has_plan(void) { return um_options.calls || um_options.yields || um_options.stops || um_options.branches >= 0; }
-
-/* A call that counts is reached. The rank's thread alone counts. */
-void um_count_call(void) {
-    struct plan *plan = &um_me->plan;
-    atomic_store_explicit(&plan->calls, atomic_load_explicit(&plan->calls, memory_order_relaxed) + 1, memory_order_relaxed);
-    plan->insides = 0;
-    if (!has_plan()) return;
+/* A call that counts is reached, and something is done at places. */
+void um_follow_plan(void) {
     if (um_options.calls) um_tell_table("call %d %d %s\n", um_me->number, um_me->plan.calls, um_me->call.name);
     vary();
     look_at_plan();

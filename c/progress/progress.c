@@ -63,6 +63,9 @@ static bool turn(void) {
     return true;
 }
 
+/* Whether anything is open that what came may concern, where the run isn't played; mostly nothing is. */
+static inline bool has_open(const struct rank *me) { return atomic_load(&me->shared.waited_for) > 0 || me->mpi.recoveries > 0; }
+
 /* Something came, perhaps: tells the senders that wait for a match, and looks at shrinks and agreements that are open. */
 void um_look_at_open(void) {
     if (um_me->life.has_stopped) return;
@@ -74,7 +77,7 @@ void um_look_at_open(void) {
 bool um_move_once(void) {
     if (um_is_played) um_look_as_played();
     if (um_is_played || !turn()) return false;
-    um_look_at_open();
+    if (has_open(um_me)) um_look_at_open();
     return true;
 }
 
@@ -82,7 +85,7 @@ bool um_move_once(void) {
 static bool move_much(void) {
     int turns = 0;
     while (turns < TURNS && turn()) turns++;
-    if (turns) um_look_at_open();
+    if (turns && has_open(um_me)) um_look_at_open();
     return turns > 0;
 }
 
@@ -129,7 +132,7 @@ void um_progress(void) {
    collective takes, so that ranks which all slept come together again. */
 static void learn(bool has_slept) {
     if (has_slept) um_me->patience.impatience += (MOST_LOOKS - um_me->patience.impatience) / 2;
-    else um_me->patience.impatience -= um_me->patience.impatience / 4;
+    else um_learn_of_success();
 }
 
 /* Makes progress until `is_done` says so, which looks once each time: when something came, and `is_settled` where nothing did for some time. What it looks
@@ -142,7 +145,7 @@ void um_wait_until(bool (*is_done)(void *, bool is_settled), void *of, bool is_d
     uint64_t seen = 0, asked_at = um_count_of_marks();
     bool has_moved = is_dear ? move_much() : um_move_once(), has_slept = false;
     if (is_done(of, !has_moved)) {
-        learn(false);
+        um_learn_of_success();
         return;
     }
     for (int looks = has_moved ? 0 : 1, most = looks_before_yield();;) {

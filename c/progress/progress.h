@@ -43,6 +43,8 @@ uint64_t um_count_of_marks(void);
 void um_look_at_open(void);
 /* Whether a sender may wait for a match here, or a request is open that was freed. */
 static inline bool um_is_waited_for(void) { return atomic_load(&um_me->shared.waited_for) > 0; }
+/* A look served. */
+static inline void um_learn_of_success(void) { um_me->patience.impatience -= um_me->patience.impatience / 4; }
 void um_wait_until(bool (*is_done)(void *, bool is_settled), void *of, bool is_dear);
 bool um_all_are_gone(void *unused, bool is_settled);
 
@@ -55,7 +57,11 @@ struct sight {
     char name[MPI_MAX_OBJECT_NAME];
 };
 void um_set_call(struct call call);
-void um_set_awaited(uint32_t ranks);
+void um_change_awaited(uint32_t ranks);
+/* Bits of the world ranks for which the call waits; mostly they are the same as at its last look. */
+static inline void um_set_awaited(uint32_t ranks) {
+    if (um_me->call.waits_for != ranks) um_change_awaited(ranks);
+}
 static inline bool um_try_to_hold_call(struct rank *rank) { return !atomic_exchange_explicit(&rank->call_is_held, true, memory_order_acquire); }
 static inline void um_hold_call(struct rank *rank) {
     while (!um_try_to_hold_call(rank)) sched_yield();
@@ -78,7 +84,14 @@ void um_tell_places(enum moment moment);
 void um_tell_stuck(void);
 
 /* plan.c */
-void um_count_call(void);
+void um_follow_plan(void);
+/* A call that counts is reached. The rank's thread alone counts. Mostly nothing is done at places. */
+static inline void um_count_call(void) {
+    struct plan *plan = &um_me->plan;
+    atomic_store_explicit(&plan->calls, atomic_load_explicit(&plan->calls, memory_order_relaxed) + 1, memory_order_relaxed);
+    plan->insides = 0;
+    if (um_options.calls || um_options.yields || um_options.stops || um_options.branches >= 0) um_follow_plan();
+}
 void um_count_inside(void);
 
 #endif
