@@ -19,8 +19,15 @@ void um_enter_call(const char *call, const void *from, struct comm *comm, int pe
 
 /* request.c */
 struct request *um_new_request(enum kind kind, struct comm *comm, int peer, int tag);
-struct request *um_request_at(MPI_Request handle);
-struct request *um_active_at(MPI_Request handle);
+static inline struct request *um_request_at(MPI_Request handle) {
+    uintptr_t number = (uintptr_t)handle;
+    return number && number <= (uintptr_t)um_me->mpi.request_count ? um_me->mpi.requests[number - 1] : 0;
+}
+/* What a handle stands for now: of a persistent request what it started; null where there is nothing to wait for. */
+static inline struct request *um_active_at(MPI_Request handle) {
+    struct request *request = um_request_at(handle);
+    return request && request->kind == PERSISTENT ? request->active : request;
+}
 void um_free_request(struct request *request);
 void um_end_request(struct request *request, int code);
 void um_start_receive(struct request *request, void *buffer, size_t room);

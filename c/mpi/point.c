@@ -24,10 +24,31 @@ int um_check_transfer(const struct transfer *of, bool is_receive) {
     return check(of, is_receive, &bytes);
 }
 
+/* Whether a message can go in its body, if nobody waits for its match. */
+static inline bool is_short(const struct transfer *send, size_t bytes) {
+    return um_is_short(bytes) && !send->comm->is_part && um_type_at(send->data.type)->is_plain;
+}
+
+static inline int send_short(const struct transfer *send, size_t bytes) {
+    const struct comm *comm = send->comm;
+    return um_send_short(comm->context, comm->engine_position[send->peer], send->tag, (struct bytes){send->data.at, bytes});
+}
+
+/* A request of a message that went. A refusal is told where it ends. */
+static int begin_short(const struct transfer *send, size_t bytes, struct request **made) {
+    struct request *request = *made = um_new_request(SENT, send->comm, send->peer, send->tag);
+    if (!request) return MPI_ERR_NO_MEM;
+    request->over = true;
+    request->code = send_short(send, bytes);
+    request->status.bytes = bytes;
+    return MPI_SUCCESS;
+}
+
 int um_begin_send(const struct transfer *send, bool waits, struct request **made) {
     size_t bytes = 0;
     int code = check(send, false, &bytes);
     if (code != MPI_SUCCESS) return code;
+    if (!waits && send->peer != MPI_PROC_NULL && is_short(send, bytes)) return begin_short(send, bytes, made);
     const void *data;
     void *packed;
     code = um_pack_data(send->data.at, send->data.count, send->data.type, &data, &packed);
@@ -45,11 +66,8 @@ int um_send_buffered(const struct transfer *send) {
     void *packed;
     int code = check(send, false, &bytes);
     if (code != MPI_SUCCESS || send->peer == MPI_PROC_NULL) return code;
-    const struct comm *comm = send->comm;
-    if (um_type_at(send->data.type)->is_plain)
-        return um_is_short(bytes) && !comm->is_part
-                   ? um_send_short(comm->context, comm->engine_position[send->peer], send->tag, (struct bytes){send->data.at, bytes})
-                   : um_send_now(send->comm, send->peer, send->tag, send->data.at, bytes, 0);
+    if (is_short(send, bytes)) return send_short(send, bytes);
+    if (um_type_at(send->data.type)->is_plain) return um_send_now(send->comm, send->peer, send->tag, send->data.at, bytes, 0);
     code = um_pack_data(send->data.at, send->data.count, send->data.type, &data, &packed);
     if (code == MPI_SUCCESS) code = um_send_now(send->comm, send->peer, send->tag, data, bytes, 0);
     free(packed);

@@ -8,17 +8,6 @@
 #include <stdlib.h>
 #include <string.h>
 
-struct request *um_request_at(MPI_Request handle) {
-    uintptr_t number = (uintptr_t)handle;
-    return number && number <= (uintptr_t)um_me->mpi.request_count ? um_me->mpi.requests[number - 1] : 0;
-}
-
-/* What a handle stands for now: of a persistent request what it started; null where there is nothing to wait for. */
-struct request *um_active_at(MPI_Request handle) {
-    struct request *request = um_request_at(handle);
-    return request && request->kind == PERSISTENT ? request->active : request;
-}
-
 /* A place of the table that is free, or -1 where there is no memory. */
 static inline int free_place(struct objects *mpi) {
     while (mpi->first_free < mpi->request_count && mpi->requests[mpi->first_free]) mpi->first_free++;

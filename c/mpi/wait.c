@@ -213,13 +213,21 @@ static int release_all(struct several *several, MPI_Status statuses[]) {
     return um_answer(comm, result);
 }
 
+/* The last one that isn't over, or null. */
+static const struct request *last_open(const struct several *several) {
+    for (int k = several->count - 1; k >= 0; k--) {
+        const struct request *request = um_active_at(several->handles[k]);
+        if (request && !request->over) return request;
+    }
+    return 0;
+}
+
 int MPI_Waitall(int count, MPI_Request handles[], MPI_Status statuses[]) {
     struct several several = {.count = count, .handles = handles, .wants_all = true};
     ENTER(0, MPI_UNDEFINED, MPI_UNDEFINED);
     int code = check_requests(count, handles, true);
     if (code != MPI_SUCCESS) return um_fail(0, code);
-    for (int k = 0; k < count; k++)
-        if (um_active_at(handles[k]) && !um_active_at(handles[k])->over) tell_place(um_active_at(handles[k]));
+    tell_place(last_open(&several));
     wait_for(&several, false);
     return release_all(&several, statuses);
 }
