@@ -15,7 +15,7 @@ HEADERS = ("mpi.h", "ulfm_mpi_topologies.h", "ulfm_mpi_windows.h")
 DECLARED = pathlib.Path(__file__).resolve().parent / "include"
 MESSAGES = """Send Bsend Ssend Rsend Recv Isend Ibsend Issend Irsend Irecv Sendrecv Sendrecv_replace Isendrecv Isendrecv_replace
     Send_init Bsend_init Ssend_init Rsend_init Recv_init Mrecv Imrecv Reduce_local
-    Put Get Accumulate Get_accumulate""".split()
+    Put Get Accumulate Get_accumulate Rput Rget Raccumulate Rget_accumulate""".split()
 # Each is there in three forms: one that blocks, one that doesn't, and one that is started.
 COLLECTIVES = """Barrier Bcast Gather Gatherv Scatter Scatterv Allgather Allgatherv Alltoall Alltoallv Alltoallw Reduce Allreduce Reduce_scatter_block
     Reduce_scatter Scan Exscan Neighbor_allgather Neighbor_allgatherv Neighbor_alltoall Neighbor_alltoallv Neighbor_alltoallw""".split()

@@ -120,7 +120,7 @@ class Wrapper:
             self.behind.append(f"um_f_text_of_c({it.name}, {it.name}_length, {here});")
 
     def add_buffer(self, it, here):
-        if it.name == "base" and self.call.name in ("MPI_Alloc_mem", "MPI_Win_allocate"):
+        if it.name == "base" and self.call.name in ("MPI_Alloc_mem", "MPI_Win_allocate", "MPI_Win_allocate_shared", "MPI_Win_shared_query"):
             self.take(it, "MPI_Aint *", it.name)
         elif self.call.name == "MPI_Buffer_detach" and it.name == "buffer":
             self.before.append(f"void *{here};")

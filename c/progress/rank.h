@@ -156,7 +156,7 @@ struct objects {
     struct op *ops;
     struct keyval *keyvals;
     struct info **infos;
-    struct window **windows;
+    struct window **windows, *left_windows;
     struct added *added; /* classes and codes of errors */
     void *attached;      /* by MPI_Buffer_attach */
     MPI_Count attached_size;

@@ -29,11 +29,11 @@ static bool answer(struct pile *answers, const struct deed *deed, char *at, size
     return true;
 }
 
-/* Does one of them in this rank's window. */
-static int do_deed(const struct window *window, const struct deed *deed, const struct run *run, const char *data, struct pile *answers) {
+/* Does one of them in the window that begins there. */
+static int do_deed(char *base, const struct deed *deed, const struct run *run, const char *data, struct pile *answers) {
     bool is_asked = deed->what == GET || deed->what == GET_AND_FOLD || deed->what == SWAP;
     for (size_t k = 0; k < deed->runs; k++) {
-        char *at = (char *)window->base + run[k].at;
+        char *at = (char *)((uintptr_t)base + run[k].at);
         size_t length = run[k].length;
         if (is_asked && !answer(answers, deed, at, length)) return MPI_ERR_NO_MEM;
         if (deed->what == PUT || (deed->what == SWAP && memcmp(at, data + length, length) == 0)) memcpy(at, data, length);
@@ -44,13 +44,13 @@ static int do_deed(const struct window *window, const struct deed *deed, const s
 }
 
 /* Does all that a rank asked. */
-static int do_all(const struct window *window, const struct pile *asked, struct pile *answers) {
+int um_do_all(char *base, const struct pile *asked, struct pile *answers) {
     int code = MPI_SUCCESS;
     for (size_t at = 0; at < asked->length && code == MPI_SUCCESS;) {
         const struct deed *deed = (const struct deed *)(asked->bytes + at);
         const struct run *run = (const struct run *)(deed + 1);
         const char *data = (const char *)(run + deed->runs);
-        code = do_deed(window, deed, run, data, answers);
+        code = do_deed(base, deed, run, data, answers);
         at += sizeof *deed + deed->runs * sizeof *run + (deed->bytes + ALIGNED - 1) / ALIGNED * ALIGNED;
     }
     return code;
@@ -87,7 +87,7 @@ static int make_room(struct pile piles[]) {
 }
 
 /* Puts what came where it was wanted, in the order in which it was asked. */
-static void hand_out(const struct window *window, const struct pile results[]) {
+void um_hand_out(const struct window *window, const struct pile results[]) {
     size_t at[MAX_RANKS] = {0};
     for (int k = 0; k < window->result_count; k++) {
         const struct result *of = &window->results[k];
@@ -108,10 +108,10 @@ static int do_epoch(struct window *window, struct pile in[], struct pile answers
     note(&code, make_room(results));
     if (code == MPI_ERR_NO_MEM) return code;
     note(&code, um_exchange(window, window->asked, in, false));
-    for (int k = 0; k < window->comm->size; k++) note(&code, do_all(window, k == own ? &window->asked[own] : &in[k], &answers[k]));
+    for (int k = 0; k < window->comm->size; k++) note(&code, um_do_all(window->base, k == own ? &window->asked[own] : &in[k], &answers[k]));
     note(&code, um_exchange(window, answers, results, false));
     if (answers[own].length) memcpy(results[own].bytes, answers[own].bytes, answers[own].length);
-    if (code == MPI_SUCCESS) hand_out(window, results);
+    if (code == MPI_SUCCESS) um_hand_out(window, results);
     return code;
 }
 

@@ -1,5 +1,5 @@
-/* What is asked of windows (MPI 4.0, 12.3): it is written down, with its data, and goes out in the next fence. Whether it can be is known here, by the sizes
-   of all windows. */
+/* What is asked of windows (MPI 4.0, 12.3): it is written down, with its data, and goes out in the next fence, or is done at once. Whether it can be is known
+   here, by the sizes of all windows. */
 #include "mpi/calls.h"
 #include "progress/progress.h"
 #include "windows/windows.h"
@@ -11,6 +11,8 @@ struct target {
     int rank;
     MPI_Aint disp;
     struct data data;
+    bool gives; /* a request */
+    MPI_Request *request;
 };
 
 /* Writes runs of bytes down. */
@@ -19,6 +21,7 @@ struct writing {
     size_t first; /* where the runs begin in it */
     size_t runs, limit;
     const struct type *element; /* where each is a run of its own, whatever blocks it has */
+    struct exposure *attached;  /* where memory is attached to the window */
     size_t blocks;              /* of elements that were seen */
     int code;
 };
@@ -29,6 +32,7 @@ static bool write_run(void *of, ptrdiff_t at, const struct block *block) {
     size_t length = element ? element->size : block->length, reach = element ? (size_t)element->most : length;
     if (element && writing->blocks++ % element->blocks) return true;
     if (at < 0 || (size_t)at > writing->limit || reach > writing->limit - (size_t)at) writing->code = MPI_ERR_RMA_RANGE;
+    if (writing->attached && !um_is_attached(writing->attached, (uintptr_t)at, reach)) writing->code = MPI_ERR_RMA_RANGE;
     struct run *runs = (struct run *)(writing->pile->bytes + writing->first), *last = writing->runs && !element ? runs + writing->runs - 1 : 0;
     if (last && last->at + last->length == (size_t)at) {
         last->length += length;
@@ -45,7 +49,9 @@ static int write_runs(const struct window *window, const struct target *target, 
     const struct type *type = um_type_at(target->data.type);
     ptrdiff_t at, extent = extent_of(type);
     if (__builtin_mul_overflow(target->disp, window->units[target->rank], &at)) return MPI_ERR_DISP;
-    writing->limit = (size_t)window->sizes[target->rank];
+    bool is_dynamic = window->flavor == MPI_WIN_FLAVOR_DYNAMIC;
+    writing->limit = is_dynamic ? PTRDIFF_MAX : (size_t)window->sizes[target->rank];
+    writing->attached = is_dynamic ? window->exposures[target->rank] : 0;
     for (int k = 0; k < target->data.count && writing->code == MPI_SUCCESS; k++) um_each_run(type, at + k * extent, write_run, writing);
     return writing->code;
 }
@@ -85,7 +91,9 @@ static int check_data(const struct data *data, bool has_buffer, size_t *bytes) {
 static int check(const struct window *window, const struct data *given, const struct data *got, const struct target *target, size_t *bytes) {
     size_t other;
     if (target->rank != MPI_PROC_NULL && (target->rank < 0 || target->rank >= window->comm->size)) return MPI_ERR_RANK;
-    if (!window->is_open) return MPI_ERR_RMA_SYNC;
+    if (target->gives && !target->request) return MPI_ERR_ARG;
+    bool is_fenced = window->is_open && !target->gives;
+    if (target->rank != MPI_PROC_NULL && !is_fenced && !um_acts_at_once(window, target->rank)) return MPI_ERR_RMA_SYNC;
     int code = check_data(&target->data, false, bytes);
     for (int k = 0; k < 2 && code == MPI_SUCCESS; k++) {
         const struct data *data = k ? got : given;
@@ -116,14 +124,53 @@ static int write_down(struct window *window, struct deed deed, const struct data
     return code;
 }
 
-/* Asks for it in the next fence. Of a swap two values are given. */
+/* One piece goes to a window, or comes from there, at once. */
+static int move_piece(struct window *window, const struct data *given, const struct data *got, const struct target *target, size_t bytes) {
+    struct exposure *there = window->exposures[target->rank];
+    bool is_dynamic = window->flavor == MPI_WIN_FLAVOR_DYNAMIC;
+    size_t size = (size_t)window->sizes[target->rank];
+    ptrdiff_t at;
+    if (__builtin_mul_overflow(target->disp, window->units[target->rank], &at)) return MPI_ERR_DISP;
+    bool fits = is_dynamic ? um_is_attached(there, (uintptr_t)at, bytes) : bytes <= size && (size_t)at <= size - bytes;
+    int code = fits ? um_why_no_access(window, target->rank) : MPI_ERR_RMA_RANGE;
+    char *place = (char *)((uintptr_t)window->bases[target->rank] + (uintptr_t)at);
+    pthread_mutex_lock(&there->guard);
+    if (code == MPI_SUCCESS && there->is_closed) code = MPI_ERR_RMA_SYNC;
+    if (code == MPI_SUCCESS) memmove(given ? place : um_into(*got), given ? given->at : place, bytes);
+    pthread_mutex_unlock(&there->guard);
+    return code;
+}
+
+/* Does it, now that it can be done. */
+static int do_at_once(struct window *window, struct deed deed, const struct data *given, const struct data *got, const struct target *target,
+                      size_t bytes) {
+    const struct data *own = given ? given : got;
+    bool is_move = deed.what == PUT || deed.what == GET;
+    if (is_move && um_type_at(own->type)->is_plain && um_type_at(target->data.type)->is_plain) return move_piece(window, given, got, target, bytes);
+    int code = write_down(window, deed, given, got, target, bytes);
+    return code == MPI_SUCCESS ? um_do_now(window, target->rank) : code;
+}
+
+/* A request of what is done. */
+static int give_request(struct window *window, const struct target *target) {
+    struct request *made = um_new_request(NOTHING, window->comm, target->rank, MPI_UNDEFINED);
+    if (!made) return MPI_ERR_NO_MEM;
+    made->status = um_empty_status;
+    made->over = true;
+    *target->request = (MPI_Request)(uintptr_t)made->handle;
+    return MPI_SUCCESS;
+}
+
+/* Asks for it in the next fence, or does it. Of a swap two values are given. */
 static int ask(MPI_Win win, struct window *window, struct deed deed, const struct data *given, const struct data *got, const struct target *target) {
     size_t bytes = 0;
     struct call call = um_me->call;
     call.peer = target->rank;
     um_set_call(call);
     int code = check(window, deed.what == SWAP ? 0 : given, got, target, &bytes);
-    if (code == MPI_SUCCESS && bytes && target->rank != MPI_PROC_NULL) code = write_down(window, deed, given, got, target, bytes);
+    bool does_any = code == MPI_SUCCESS && bytes && target->rank != MPI_PROC_NULL;
+    if (does_any) code = (um_acts_at_once(window, target->rank) ? do_at_once : write_down)(window, deed, given, got, target, bytes);
+    if (code == MPI_SUCCESS && target->gives) code = give_request(window, target);
     return um_answer_window(window, win, code);
 }
 
@@ -141,42 +188,71 @@ static int base_of(MPI_Op op, MPI_Datatype type, struct deed *deed) {
 
 int MPI_Put(const void *buf, int count, MPI_Datatype type, int target, MPI_Aint disp, int targetcount, MPI_Datatype targettype, MPI_Win win) {
     WINDOW(win, true);
-    struct target there = {target, disp, {0, targetcount, targettype}};
+    struct target there = {target, disp, {0, targetcount, targettype}, false, 0};
+    return ask(win, of, (struct deed){.what = PUT}, &(struct data){buf, count, type}, 0, &there);
+}
+
+int MPI_Rput(const void *buf, int count, MPI_Datatype type, int target, MPI_Aint disp, int targetcount, MPI_Datatype targettype, MPI_Win win,
+             MPI_Request *request) {
+    WINDOW(win, true);
+    struct target there = {target, disp, {0, targetcount, targettype}, true, request};
     return ask(win, of, (struct deed){.what = PUT}, &(struct data){buf, count, type}, 0, &there);
 }
 
 int MPI_Get(void *buf, int count, MPI_Datatype type, int target, MPI_Aint disp, int targetcount, MPI_Datatype targettype, MPI_Win win) {
     WINDOW(win, true);
-    struct target there = {target, disp, {0, targetcount, targettype}};
+    struct target there = {target, disp, {0, targetcount, targettype}, false, 0};
     return ask(win, of, (struct deed){.what = GET}, 0, &(struct data){buf, count, type}, &there);
+}
+
+int MPI_Rget(void *buf, int count, MPI_Datatype type, int target, MPI_Aint disp, int targetcount, MPI_Datatype targettype, MPI_Win win,
+             MPI_Request *request) {
+    WINDOW(win, true);
+    struct target there = {target, disp, {0, targetcount, targettype}, true, request};
+    return ask(win, of, (struct deed){.what = GET}, 0, &(struct data){buf, count, type}, &there);
+}
+
+/* Folds data into a window, and gets what stood there before where `got` isn't null. */
+static int fold(MPI_Win win, struct window *window, MPI_Op op, const struct data *given, const struct data *got, const struct target *there) {
+    struct deed deed = {.what = got ? GET_AND_FOLD : FOLD};
+    int code = base_of(op, there->data.type, &deed);
+    if (code != MPI_SUCCESS) return um_fail_window(window, win, code);
+    return ask(win, window, deed, got && op == MPI_NO_OP ? 0 : given, got, there);
 }
 
 int MPI_Accumulate(const void *buf, int count, MPI_Datatype type, int target, MPI_Aint disp, int targetcount, MPI_Datatype targettype, MPI_Op op,
                    MPI_Win win) {
     WINDOW(win, true);
-    struct target there = {target, disp, {0, targetcount, targettype}};
-    struct deed deed = {.what = FOLD};
-    int code = base_of(op, targettype, &deed);
-    return code != MPI_SUCCESS ? um_fail_window(of, win, code) : ask(win, of, deed, &(struct data){buf, count, type}, 0, &there);
+    struct target there = {target, disp, {0, targetcount, targettype}, false, 0};
+    return fold(win, of, op, &(struct data){buf, count, type}, 0, &there);
+}
+
+int MPI_Raccumulate(const void *buf, int count, MPI_Datatype type, int target, MPI_Aint disp, int targetcount, MPI_Datatype targettype, MPI_Op op,
+                    MPI_Win win, MPI_Request *request) {
+    WINDOW(win, true);
+    struct target there = {target, disp, {0, targetcount, targettype}, true, request};
+    return fold(win, of, op, &(struct data){buf, count, type}, 0, &there);
 }
 
 int MPI_Get_accumulate(const void *buf, int count, MPI_Datatype type, void *result, int resultcount, MPI_Datatype resulttype, int target,
                        MPI_Aint disp, int targetcount, MPI_Datatype targettype, MPI_Op op, MPI_Win win) {
     WINDOW(win, true);
-    struct target there = {target, disp, {0, targetcount, targettype}};
-    struct deed deed = {.what = GET_AND_FOLD};
-    int code = base_of(op, targettype, &deed);
-    if (code != MPI_SUCCESS) return um_fail_window(of, win, code);
-    return ask(win, of, deed, op == MPI_NO_OP ? 0 : &(struct data){buf, count, type}, &(struct data){result, resultcount, resulttype}, &there);
+    struct target there = {target, disp, {0, targetcount, targettype}, false, 0};
+    return fold(win, of, op, &(struct data){buf, count, type}, &(struct data){result, resultcount, resulttype}, &there);
+}
+
+int MPI_Rget_accumulate(const void *buf, int count, MPI_Datatype type, void *result, int resultcount, MPI_Datatype resulttype, int target,
+                        MPI_Aint disp, int targetcount, MPI_Datatype targettype, MPI_Op op, MPI_Win win, MPI_Request *request) {
+    WINDOW(win, true);
+    struct target there = {target, disp, {0, targetcount, targettype}, true, request};
+    return fold(win, of, op, &(struct data){buf, count, type}, &(struct data){result, resultcount, resulttype}, &there);
 }
 
 int MPI_Fetch_and_op(const void *buf, void *result, MPI_Datatype type, int target, MPI_Aint disp, MPI_Op op, MPI_Win win) {
     WINDOW(win, true);
-    struct target there = {target, disp, {0, 1, type}};
-    struct deed deed = {.what = GET_AND_FOLD};
-    int code = um_is_basic_type(type) ? base_of(op, type, &deed) : MPI_ERR_TYPE;
-    if (code != MPI_SUCCESS) return um_fail_window(of, win, code);
-    return ask(win, of, deed, op == MPI_NO_OP ? 0 : &(struct data){buf, 1, type}, &(struct data){result, 1, type}, &there);
+    struct target there = {target, disp, {0, 1, type}, false, 0};
+    if (!um_is_basic_type(type)) return um_fail_window(of, win, MPI_ERR_TYPE);
+    return fold(win, of, op, &(struct data){buf, 1, type}, &(struct data){result, 1, type}, &there);
 }
 
 /* Its data are the new value, and behind it the one that has to be there. */
@@ -184,7 +260,7 @@ int MPI_Compare_and_swap(const void *buf, const void *compare, void *result, MPI
     WINDOW(win, true);
     enum { MOST = 2 * ALIGNED };
     char both[MOST];
-    struct target there = {target, disp, {0, 1, type}};
+    struct target there = {target, disp, {0, 1, type}, false, 0};
     if (!um_is_basic_type(type) || um_type_at(type)->size > ALIGNED) return um_fail_window(of, win, MPI_ERR_TYPE);
     if (!buf || !compare) return um_fail_window(of, win, MPI_ERR_BUFFER);
     size_t size = um_type_at(type)->size;
