@@ -7,9 +7,9 @@ use crate::topics::{Purpose, Topic};
 use crate::world::World;
 
 impl World {
-    /// Whether a rank runs and may stop. A stop that may be skipped counts too.
+    /// Whether a rank runs and may stop, or die. A stop that may be skipped counts too.
     pub fn has_stop_ahead(&self, job: &Job, rank: usize) -> bool {
-        self.steps_ahead(job, rank).any(|step| *step == Step::Stop)
+        self.may_die(job, rank) || self.steps_ahead(job, rank).any(|step| *step == Step::Stop)
     }
 
     /// Whether a rank runs now and will never stop.

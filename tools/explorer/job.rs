@@ -46,6 +46,10 @@ pub struct Job {
     pub bodies: Vec<String>,
     /// The steps, by rank and number, that may be given up while they stand open.
     pub left: Vec<(usize, usize)>,
+    /// How many ranks may die at most, each at any moment.
+    pub deaths: usize,
+    /// The ranks that may; all of them where none is named.
+    pub dying: Vec<usize>,
 }
 
 impl Step {
@@ -68,7 +72,7 @@ impl Job {
         let ranks: usize = number(&mut words).filter(|ranks| (1..=8).contains(ranks)).ok_or(head)?;
         let capacity = number(&mut words).ok_or(head)?;
         let alternatives = (0..ranks).map(|_| vec![]).collect();
-        let mut job = Job { capacity, steps: vec![vec![]; ranks], alternatives, bodies: vec![], left: vec![] };
+        let mut job = Job { capacity, steps: vec![vec![]; ranks], alternatives, bodies: vec![], left: vec![], deaths: 0, dying: vec![] };
         for line in lines {
             let mut words = line.split_whitespace();
             let rank: usize = number(&mut words).filter(|rank| *rank < ranks).ok_or(line)?;

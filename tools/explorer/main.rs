@@ -2,13 +2,14 @@
 //! input. It shares no code with the program that it checks, and nothing of it is proved.
 //!
 //!     explorer [--carrier lanes|shared] [--reduce NAMES] [--limit N] [--capacity N] [--stop R.K].. [--left R.K]..
-//!              [--row 'R.K WORDS;R.K WORDS'].. [--count]
+//!              [--deaths N] [--dying R].. [--row 'R.K WORDS;R.K WORDS'].. [--count]
 
 mod agree;
 mod ahead;
 mod calls;
 mod carriers;
 mod communicators;
+mod deaths;
 mod deciding;
 mod failures;
 mod first;
@@ -49,6 +50,9 @@ struct Asked {
     stops: Vec<(usize, usize)>,
     /// The steps that may be given up while they stand open, by the numbers that they have then.
     left: Vec<(usize, usize)>,
+    /// How many ranks may die at most, each at any moment, and which; all where none is named.
+    deaths: usize,
+    dying: Vec<usize>,
     /// The rows of answers of which is told whether they come together.
     rows: Rows,
     counts_only: bool,
@@ -63,6 +67,8 @@ fn asked(mut words: impl Iterator<Item = String>) -> Option<Asked> {
         capacity: None,
         stops: vec![],
         left: vec![],
+        deaths: 0,
+        dying: vec![],
         rows: Rows::default(),
         counts_only: false,
     };
@@ -80,6 +86,8 @@ fn asked(mut words: impl Iterator<Item = String>) -> Option<Asked> {
             "--capacity" => asked.capacity = Some(words.next()?.parse().ok()?),
             "--stop" => asked.stops.push(place(&words.next()?)?),
             "--left" => asked.left.push(place(&words.next()?)?),
+            "--deaths" => asked.deaths = words.next()?.parse().ok()?,
+            "--dying" => asked.dying.push(words.next()?.parse().ok()?),
             "--row" => asked.rows.add(&words.next()?)?,
             "--count" => asked.counts_only = true,
             _ => return None,
@@ -98,7 +106,7 @@ fn place(text: &str) -> Option<(usize, usize)> {
 fn main() {
     let Some(asked) = asked(std::env::args().skip(1)) else {
         eprintln!("explorer: [--carrier lanes|shared] [--reduce NAMES] [--limit N] [--capacity N] [--stop R.K]..");
-        eprintln!("          [--left R.K].. [--row 'R.K WORDS;R.K WORDS'].. [--count]");
+        eprintln!("          [--left R.K].. [--deaths N] [--dying R].. [--row 'R.K WORDS;R.K WORDS'].. [--count]");
         exit(2)
     };
     let mut text = String::new();
@@ -123,6 +131,7 @@ fn main() {
             exit(2)
         }
     }
+    (job.deaths, job.dying) = (asked.deaths, asked.dying);
     let mut search = Search::new(&job, asked.carrier, asked.reductions, asked.rows);
     if !search.run(asked.limit) {
         println!("more than {} states", asked.limit);
