@@ -23,12 +23,14 @@
 //! - [`rows_stay_away`]: if no schedule of a job has all answers of a row of `never`, as status 0 of `outcomes` says, the reports of one of its
 //!   schedules don't have them, whatever its turns (`RowsStayAway`, Laws.antt; `AreOfSchedule`, Scheduled.antt of `ulfm_outcomes_spec`). Those of a run
 //!   and a replay are such by laws of `ulfm_outcomes`.
+//! - [`expands_alike`]: the text that `expand` writes is read as the same job, with the same rows, names and provisos; its steps come from other
+//!   places of the file. It isn't longer than a job's text may be, nor nested deeper than TOML is read (`ExpandsAlike`, Laws.antt).
 //! - [`without_words`]: if the words can't be had, the line that says so is written, with 4 a beginning of it (`not_text`, `GetsFrontOf`,
 //!   Replies.antt; `out_of_memory_text`, Failure.antt of `ulfm_command_line`).
 //!
 //! Files:
 //!
-//! - `files.rt`: [`run_each`], file by file; `laws.rt`: the law of rows
+//! - `files.rt`: [`run_each`], file by file; `laws.rt`: the laws of rows, and of `expand`
 //! - `app.rt`: [`run_on`], from words and one input to a status; [`without_words`], where there are no words
 //! - `reply.rt`: which reply a command gets; `engine.rt`: what plays a job for it, in one value
 //! - `progress.rt`, `far.rt`: how far a search is, on standard error
@@ -59,5 +61,5 @@ mod unwanted;
 pub use app::{run_on, without_words};
 pub use engine::Engine;
 pub use files::run_each;
-pub use laws::rows_stay_away;
+pub use laws::{expands_alike, rows_stay_away};
 pub use page::page_of;
