@@ -1,4 +1,5 @@
 pub mod Replies
 pub mod Files
 pub mod Laws
+pub mod Deaths
 pub mod inside

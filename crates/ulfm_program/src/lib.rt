@@ -39,7 +39,8 @@
 //! - `page.rt`: that page, from a job's bytes to its text; `column.rt`, `cell.rt`: a place, and what a step comes to there; `unwanted.rt`:
 //!   whatever isn't as wanted, with its schedule; `silent_watch.rt`: who looks on meanwhile
 //!
-//! Not here: how words are read (`ulfm_command_line`), and what standard error says of a reply (`ulfm_explain`). No contract speaks of standard
+//! Not here: a proof that places are all moments of a death. That is stated (`PlacesAreEvery`, Deaths.antt), and `tools/gate/deaths-check` holds it.
+//! Nor is it here how words are read (`ulfm_command_line`), and what standard error says of a reply (`ulfm_explain`). No contract speaks of standard
 //! error or of the page, whose lists and schedules come from a `Finder`, and are what that promises. It isn't promised either that the bytes of a
 //! file are those on the disk: no contract can say it.
 #![tactic(auto)]

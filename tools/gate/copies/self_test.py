@@ -171,5 +171,10 @@ def run(check, allowed, findings_of):
     if any("copy" in line for line in lines) or not any("`no_such` matches nothing" in line for line in lines):
         failed += 1
         print(f"exceptions: found {lines}")
-    print(f"check-copies: {len(EXAMPLES) + 1 - failed} passed, {failed} failed")
+    stands = {"crates/a/proofs/One.antt": PRELUDE + LEMMA + "pub one : (b : Bool) → b ≡ b || false\none b = sym (or_false b)\n"}
+    lines = findings_of(check(stands), allowed("one crates/a/proofs/One.antt : a test"))[0]
+    if any("cite" in line or "matches nothing" in line for line in lines):
+        failed += 1
+        print(f"what may stand dead, with what it cites: found {lines}")
+    print(f"check-copies: {len(EXAMPLES) + 2 - failed} passed, {failed} failed")
     return 1 if failed else 0
