@@ -30,10 +30,10 @@ const int16_t *um_left_in_ring(int from, int to, int *count) {
     return ring->at + ring->first;
 }
 
-/* To all but those that are known to have failed. */
+/* To all, also those that are known to have failed: these take nothing, but they might have taken it before they stopped, where word of that comes later. */
 void um_push_to_all(int from, uint32_t members) {
     for (int k = 0; k < um_options.ranks; k++)
-        if (k != from && members >> k & 1 && !um_knows_failed(from, k)) um_note_push(from, k);
+        if (k != from && members >> k & 1) um_note_push(from, k);
 }
 
 /* An item is taken: the event that pushed it. */
