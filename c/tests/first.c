@@ -52,6 +52,14 @@ static int all(void) {
 /* Rank 2 stops. Whether the message of rank 1 came before word of that. */
 static int wild(void) { return me ? send(0, 1), 0 : receive(MPI_ANY_SOURCE, 1) != MPI_SUCCESS; }
 
+/* The run ends where the message of rank 1 comes before that of rank 2. */
+static int aborted(void) {
+    if (me) return send(0, 1), 0;
+    MPI_Recv(&in[0], 1, MPI_INT, MPI_ANY_SOURCE, 1, MPI_COMM_WORLD, &statuses[0]);
+    if (statuses[0].MPI_SOURCE == 1) MPI_Abort(MPI_COMM_WORLD, 3);
+    return receive(1, 1) != MPI_SUCCESS;
+}
+
 static int probe(void) { return me ? send(0, 1), 0 : MPI_Probe(MPI_ANY_SOURCE, 1, MPI_COMM_WORLD, MPI_STATUS_IGNORE) != MPI_SUCCESS; }
 
 /* Which of two sends that wait was matched first. */
@@ -160,7 +168,7 @@ int main(int count, char **words) {
         int (*play)(void);
     } plays[] = {{"any", any},     {"some", some},   {"all", all},       {"wild", wild},       {"probe", probe},
                  {"sends", sends}, {"mixed", mixed}, {"tested", tested}, {"matched", matched}, {"revoked", revoked},
-                 {"ordered", ordered}, {"left", left}, {"told", told}, {"decided", decided}, {"hurried", hurried}, {"part", part}};
+                 {"ordered", ordered}, {"left", left}, {"told", told}, {"decided", decided}, {"hurried", hurried}, {"part", part}, {"aborted", aborted}};
     int met = NONE;
     MPI_Init(&count, &words);
     MPI_Comm_set_errhandler(MPI_COMM_WORLD, MPI_ERRORS_RETURN);
