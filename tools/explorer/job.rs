@@ -50,6 +50,8 @@ pub struct Job {
     pub deaths: usize,
     /// The ranks that may; all of them where none is named.
     pub dying: Vec<usize>,
+    /// Whether each end is told, with all answers of its schedule together.
+    pub tells_ends: bool,
 }
 
 impl Step {
@@ -72,7 +74,7 @@ impl Job {
         let ranks: usize = number(&mut words).filter(|ranks| (1..=8).contains(ranks)).ok_or(head)?;
         let capacity = number(&mut words).ok_or(head)?;
         let alternatives = (0..ranks).map(|_| vec![]).collect();
-        let mut job = Job { capacity, steps: vec![vec![]; ranks], alternatives, bodies: vec![], left: vec![], deaths: 0, dying: vec![] };
+        let mut job = Job { capacity, steps: vec![vec![]; ranks], alternatives, bodies: vec![], left: vec![], deaths: 0, dying: vec![], tells_ends: false };
         for line in lines {
             let mut words = line.split_whitespace();
             let rank: usize = number(&mut words).filter(|rank| *rank < ranks).ok_or(line)?;

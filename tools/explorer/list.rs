@@ -4,7 +4,7 @@ use crate::search::Search;
 use crate::words::{answer_words, step_words};
 
 impl Search<'_> {
-    /// A line for each step of each rank, in the order of the trace, then one for each row, and a last one that counts.
+    /// A line for each step of each rank, in the order of the trace, then one for each row and each end, and a last one that counts.
     pub fn list(&self) -> String {
         let mut lines = vec![];
         for (rank, steps) in self.job.steps.iter().enumerate() {
@@ -16,6 +16,7 @@ impl Search<'_> {
             let comes = if self.rows.came.contains(&row) { "comes" } else { "never comes" };
             lines.push(format!("row {row}: {comes}"));
         }
+        lines.extend(self.ends.iter().map(|end| format!("end: {end}")));
         lines.push(self.count());
         lines.join("\n")
     }

@@ -2,7 +2,7 @@
 //! input. It shares no code with the program that it checks, and nothing of it is proved.
 //!
 //!     explorer [--carrier lanes|shared] [--reduce NAMES] [--limit N] [--capacity N] [--stop R.K].. [--left R.K]..
-//!              [--deaths N] [--dying R].. [--row 'R.K WORDS;R.K WORDS'].. [--count]
+//!              [--deaths N] [--dying R].. [--row 'R.K WORDS;R.K WORDS'].. [--ends] [--count]
 
 mod agree;
 mod ahead;
@@ -11,6 +11,7 @@ mod carriers;
 mod communicators;
 mod deaths;
 mod deciding;
+mod ends;
 mod failures;
 mod first;
 mod group;
@@ -55,6 +56,7 @@ struct Asked {
     dying: Vec<usize>,
     /// The rows of answers of which is told whether they come together.
     rows: Rows,
+    tells_ends: bool,
     counts_only: bool,
 }
 
@@ -70,6 +72,7 @@ fn asked(mut words: impl Iterator<Item = String>) -> Option<Asked> {
         deaths: 0,
         dying: vec![],
         rows: Rows::default(),
+        tells_ends: false,
         counts_only: false,
     };
     while let Some(word) = words.next() {
@@ -89,6 +92,7 @@ fn asked(mut words: impl Iterator<Item = String>) -> Option<Asked> {
             "--deaths" => asked.deaths = words.next()?.parse().ok()?,
             "--dying" => asked.dying.push(words.next()?.parse().ok()?),
             "--row" => asked.rows.add(&words.next()?)?,
+            "--ends" => asked.tells_ends = true,
             "--count" => asked.counts_only = true,
             _ => return None,
         }
@@ -106,7 +110,7 @@ fn place(text: &str) -> Option<(usize, usize)> {
 fn main() {
     let Some(asked) = asked(std::env::args().skip(1)) else {
         eprintln!("explorer: [--carrier lanes|shared] [--reduce NAMES] [--limit N] [--capacity N] [--stop R.K]..");
-        eprintln!("          [--left R.K].. [--deaths N] [--dying R].. [--row 'R.K WORDS;R.K WORDS'].. [--count]");
+        eprintln!("          [--left R.K].. [--deaths N] [--dying R].. [--row 'R.K WORDS;R.K WORDS'].. [--ends] [--count]");
         exit(2)
     };
     let mut text = String::new();
@@ -131,7 +135,7 @@ fn main() {
             exit(2)
         }
     }
-    (job.deaths, job.dying) = (asked.deaths, asked.dying);
+    (job.deaths, job.dying, job.tells_ends) = (asked.deaths, asked.dying, asked.tells_ends);
     let mut search = Search::new(&job, asked.carrier, asked.reductions, asked.rows);
     if !search.run(asked.limit) {
         println!("more than {} states", asked.limit);

@@ -1,7 +1,7 @@
 //! What one rank holds.
 
 use crate::group::Group;
-use crate::items::{Item, Letter, Refusal};
+use crate::items::{Answer, Item, Letter, Refusal};
 use crate::job::{Context, Place};
 use crate::topics::{Contribution, Round, Topic};
 use std::collections::{BTreeMap, BTreeSet, VecDeque};
@@ -38,6 +38,8 @@ pub struct Rank {
     pub me: Place,
     /// How many of its steps are answered.
     pub answered: usize,
+    /// These answers, if ends are to be told.
+    pub told: Vec<Answer>,
     /// The later steps with an alternative whose conditions all hold of the answers so far.
     pub chosen: BTreeSet<usize>,
     /// The alternatives of later steps that aren't chosen of which a condition doesn't hold, by step and number.
@@ -75,6 +77,7 @@ impl Rank {
         Rank {
             me,
             answered: 0,
+            told: vec![],
             chosen: BTreeSet::new(),
             missed: BTreeSet::new(),
             is_open: false,

@@ -53,6 +53,9 @@ impl Rank {
                 }
             }
         }
+        if job.tells_ends {
+            self.told.push(answer.clone());
+        }
         self.chosen.remove(&passed);
         let chosen = &self.chosen;
         self.missed.retain(|(step, _)| *step > passed && !chosen.contains(step));
