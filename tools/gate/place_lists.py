@@ -16,6 +16,11 @@ def answered(asked, text, *words):
     return ran.returncode, ran.stdout
 
 
+def is_past(objects):
+    """Whether the program met too many states at some place, by its objects: then what it lists isn't that of all places."""
+    return any(line.startswith('{"more_states_than"') for line in objects.splitlines())
+
+
 def stops_of(place):
     """The step before which each rank stops at a place, by its text; and the steps that may be given up, as `R.K`. A rank that dies inside
     a step stops behind it."""
