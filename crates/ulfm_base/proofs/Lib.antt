@@ -8,3 +8,4 @@ pub mod Numbers
 pub mod Places
 pub mod Topics
 pub mod Longer
+pub mod Tables

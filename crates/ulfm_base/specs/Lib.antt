@@ -1,6 +1,7 @@
 pub mod RankSet
 pub mod Group
 pub mod Context
+pub mod Table
 pub mod Pattern
 pub mod Items
 pub mod Noted

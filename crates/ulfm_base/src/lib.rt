@@ -4,13 +4,14 @@
 //! - An [`Item`] goes from rank to rank: a letter, a notice of a stop or of a revocation, or an entrance into a shrink or an agreement.
 //! - A [`Pattern`] says which envelopes a receive or a probe admits (`Admits`, Pattern.antt).
 //! - A [`Decision`] is what the members of a communicator agree on (`IsLawfulDecision`, Decision.antt): each value is lawful by its type.
+//! - A [`Table`] has values by context, with room that is made before it is needed (`put_at`, Table.antt).
 //! - A [`CallError`] is a refusal: its number and its name are those of traces.
 //!
 //! A context names a communicator: 0 is the world's, and that of number c has its duplicate at 2c + 1 and its shrink at 2c + 2.
 //!
 //! Files:
 //!
-//! - names: `rank.rt`, `group.rt`, `rank_set.rt`, `context.rt`, `tag.rt`
+//! - names: `rank.rt`, `group.rt`, `rank_set.rt`, `context.rt`, `tag.rt`; values by context: `table.rt`
 //! - messages and receives: `envelope.rt`, `body.rt`, `pattern.rt`, `request_id.rt`
 //! - items, and as a log keeps them: `item.rt`, `item_kind.rt`, `noted.rt`, `noted_item.rt`, `noted_letter.rt`
 //! - shrinks and agreements: `topic.rt`, `entrance.rt`, `contribution.rt`, `decision.rt`; refusals: `error.rt`
@@ -36,6 +37,7 @@ mod pattern;
 mod rank;
 mod rank_set;
 mod request_id;
+mod table;
 mod tag;
 mod topic;
 
@@ -56,5 +58,6 @@ pub use pattern::{Pattern, Source};
 pub use rank::{MOST_RANKS, RANK_PLACES, WorldRank};
 pub use rank_set::RankSet;
 pub use request_id::RequestId;
+pub use table::Table;
 pub use tag::Tag;
 pub use topic::{Purpose, Topic};
