@@ -1,5 +1,6 @@
 -- The names that most proofs of matching cite, passed on from one place. Declares nothing.
 pub use Rattle.indexmap.specs.IndexMap.{IsUnique, get}
+pub use Rattle.std.proofs.lemmas.Bool.{and_parts}
 pub use Rattle.std.proofs.lemmas.Bool.Decides.{nat_tests}
 pub use Rattle.std.proofs.lemmas.List.Elements.{Contains-append_cases, Contains-append_left, Contains-append_right, Contains-push, Contains-push_cases}
 pub use Rattle.std.proofs.lemmas.Option.{slice_get_within}
@@ -18,7 +19,6 @@ pub use Rattle.ulfm_match.specs.inside.Pools.{FindsFirst, HasPlace, IsFirstAt, I
 pub use Rattle.ulfm_match.specs.declared.pool.Pool.{Pool}
 pub use Rattle.indexmap.proofs.CallerLemmas.{filter-RetainsPairs}
 pub use Rattle.std.proofs.lemmas.Map.Views.{exact_unsigned_eq, hash_map_get_iff}
-pub use Rattle.ulfm_base.proofs.Places.{get_or-blank}
 pub use Rattle.ulfm_base.specs.declared.pattern.Source.{Source}
 pub use Rattle.ulfm_base.specs.declared.pattern.Source.TheVariants.{Any, One}
 pub use Rattle.ulfm_base.specs.declared.rank.WorldRank.{WorldRank}

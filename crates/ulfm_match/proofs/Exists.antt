@@ -1,7 +1,6 @@
 -- Each history that can happen has a lawful pairing.
-use Rattle.std.proofs.Common.{◌≡◌, ℕ, zero, suc, ◌+◌, inl, inr, Bool, true, false, List, [], ◌∷◌, ◌++◌, length, refl, sym, subst, append-nil, append_assoc, filter, not, get_or, set, replicate, ◌==◌, ◌∙◌, arith, length-append}
-use Rattle.std.proofs.lemmas.List.{length-replicate, get_or-set_same, get_or-set_other}
-use Rattle.ulfm_match.proofs.Common.{Pattern, Admits, Letter, MatchEvent, Post, Come, End, Clear, PostAt, IsWellFormed, count_before, Pairing, LawfulPairing, Matching, is_cleared, Tracks, IsUncleared, slice_get_within, get_or-blank}
+use Rattle.std.proofs.Common.{◌≡◌, ℕ, ◌+◌, inl, inr, Bool, false, List, [], ◌∷◌, ◌++◌, length, refl, sym, subst, append-nil, append_assoc, filter, not, ◌==◌}
+use Rattle.ulfm_match.proofs.Common.{Pattern, Admits, Letter, MatchEvent, Post, Come, End, Clear, PostAt, IsWellFormed, count_before, Pairing, LawfulPairing, Matching, is_cleared, Tracks, IsUncleared, slice_get_within}
 use Rattle.ulfm_match.proofs.ArriveKeeps.{arrive_keeps}
 use Rattle.ulfm_match.proofs.ArriveTakes.{arrive_takes}
 use Rattle.ulfm_match.proofs.Ascending.{ascending_filter}
@@ -14,6 +13,8 @@ use Rattle.ulfm_match.proofs.PostTakes.{post_takes}
 use Rattle.ulfm_match.proofs.PostWaits.{post_waits}
 use Rattle.ulfm_match.proofs.Admitted.{admits_either}
 use Rattle.ulfm_base.proofs.Longer.{get_here}
+use Rattle.ulfm_base.proofs.Tables.{value_there, marked_here, marked_there}
+use Rattle.ulfm_base.specs.Table.{Marks, put_at}
 
 -- a history with a lawful pairing and its remains
 record IsPaired (h : List MatchEvent) : Type 0 where
@@ -21,14 +22,8 @@ record IsPaired (h : List MatchEvent) : Type 0 where
   pub state : Matching
   pub tracks : Tracks h pairing state
 
-abbrev a_state : List (ℕ × Pattern) → List (ℕ × Letter) → ℕ → List Bool → Matching
+abbrev a_state : List (ℕ × Pattern) → List (ℕ × Letter) → ℕ → Marks → Matching
 a_state waiting kept count cleared = record { waiting = waiting; kept = kept; count = count; cleared = cleared; prepared = false }
-
--- with blanks behind it a list reads the same
-blanks : (n : ℕ) (bs : List Bool) (d : ℕ) → get_or (bs ++ replicate n false) d false ≡ get_or bs d false
-blanks n [] d = get_or-blank n d false
-blanks n (b ∷ bs) zero = refl
-blanks n (b ∷ bs) (suc d) = blanks n bs d
 
 module _ (h : List MatchEvent) (t : IsPaired h) where
   paired-post : (p : Pattern) → IsUncleared h p.context.number → IsPaired (h ++ Post p ∷ [])
@@ -77,9 +72,8 @@ module _ (h : List MatchEvent) (t : IsPaired h) where
   paired-clear : (c : ℕ) → IsPaired (h ++ Clear c ∷ [])
   paired-clear c =
       let s = t.state in
-      let longer = s.cleared ++ replicate (c + 1) false in
-      let new = a_state (filter (λ (y : ℕ × Pattern). not (y.1.context.number == c)) s.waiting) (filter (λ (y : ℕ × Letter). not (y.1.envelope.context.number == c)) s.kept) s.count (set longer c true) in
-      record { pairing = t.pairing; state = new; tracks = clear_filtered h t.pairing s t.tracks c new (get_or-set_same longer c true false (omega (arith, length-append s.cleared (replicate (c + 1) false), length-replicate (c + 1) false))) (λ d n. get_or-set_other longer c d true false n ∙ blanks (c + 1) s.cleared d) refl refl refl }
+      let new = a_state (filter (λ (y : ℕ × Pattern). not (y.1.context.number == c)) s.waiting) (filter (λ (y : ℕ × Letter). not (y.1.envelope.context.number == c)) s.kept) s.count (put_at c tt s.cleared) in
+      record { pairing = t.pairing; state = new; tracks = clear_filtered h t.pairing s t.tracks c new (marked_here c s.cleared (put_at c tt s.cleared) tt (λ d. value_there c tt d s.cleared)) (marked_there c s.cleared (put_at c tt s.cleared) tt (λ d. value_there c tt d s.cleared)) refl refl refl }
 
 -- one more event of a history that can happen
 paired-next : (h : List MatchEvent) (e : MatchEvent) (rest : List MatchEvent) → IsPaired h → IsWellFormed (h ++ e ∷ rest) → IsPaired (h ++ e ∷ [])

@@ -1,18 +1,19 @@
 -- What a matcher holds, and that it is what a history leaves.
-use Rattle.std.specs.Prelude.{◌≡◌, ◌≢◌, ℕ, Bool, false, ◌<◌, ◌↔◌, List, [], ◌∷◌, ⊤, Contains, length, slice_get, slice_index_or, Some}
-use Rattle.std.specs.List.{AllByRecursion}
+use Rattle.std.specs.Prelude.{◌≡◌, ◌≢◌, ℕ, Bool, false, ◌↔◌, List, Contains, length, slice_get, Some}
+pub use Rattle.ulfm_base.specs.Lists.{IsAscending}
+use Rattle.ulfm_base.specs.Table.{Marks, is_marked}
 use Rattle.ulfm_base.specs.declared.pattern.Pattern.{Pattern}
 use Rattle.ulfm_base.specs.declared.envelope.Letter.{Letter}
 use Rattle.ulfm_match.specs.History.{History, Clear, IsWellFormed, count_before}
 use Rattle.ulfm_match.specs.Pairing.{Pairing, IsWaiting, IsKept, LawfulPairing}
 
--- The waiting receives and the kept letters, each with its number, how many posts and arrivals there were, by the number
--- of a context whether it was cleared, and whether there is room for one more post and one more arrival.
+-- The waiting receives and the kept letters, each with its number, how many posts and arrivals there were, which contexts
+-- were cleared, and whether there is room for one more post, one more arrival and one more clear.
 pub record Matching : Type 0 where
   pub waiting : List (ℕ × Pattern)
   pub kept : List (ℕ × Letter)
   pub count : ℕ
-  pub cleared : List Bool
+  pub cleared : Marks
   pub prepared : Bool
 
 -- a matching with no room made
@@ -21,12 +22,7 @@ unprepared state = record { waiting = state.waiting; kept = state.kept; count = 
 
 -- the context was cleared
 abbrev pub is_cleared : Matching → ℕ → Bool
-is_cleared state context = slice_index_or state.cleared context false
-
--- by rising numbers
-abbrev pub IsAscending : {X : Type 0} → List (ℕ × X) → Type 0
-IsAscending [] = ⊤
-IsAscending (x ∷ xs) = AllByRecursion (λ y. x.0 < y.0) xs × IsAscending xs
+is_cleared state context = is_marked state.cleared context
 
 -- the entries are all those of which P holds, each under the number of its place, in order of places
 pub record Lists {X : Type 0} (history : History) (P : ℕ → X → Type 0) (entries : List (ℕ × X)) : Type 0 where

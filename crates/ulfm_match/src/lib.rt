@@ -8,8 +8,8 @@
 //!
 //! `post` and `probe` answer the earliest kept letter that is admitted, `arrive` the earliest receive that waits for the letter.
 //!
-//! Its promises hold after any calls. `post` and `arrive` ask that room was made (`prepared`), that fewer than 2^64 - 1 came before (`countable`),
-//! and that the context wasn't cleared (`open`).
+//! Its promises hold after any calls. `post`, `arrive` and `clear` ask that room was made (`prepared`). The first two ask that fewer than 2^64 - 1 came
+//! before (`countable`) too, and that the context wasn't cleared (`open`).
 //!
 //! - `post`, `probe`, `arrive`, `withdraw`, `clear`, `end_named` (`tracks`): pairs are made by the rules of MPI 4.0, 3.5. A receive and a message
 //!   are in one pair at most, the receive admits it, both are live, neither receives nor messages overtake, and no receive waits while a message

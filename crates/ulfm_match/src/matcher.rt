@@ -6,7 +6,7 @@
 //! leaves that open. A message that comes looks at one queue, or at four where a receive leaves its source or its tag open. So a search doesn't grow
 //! with what is kept.
 //!
-//! A cleared context is a flag. To post a receive of it, or to hand on a message of it, is the caller's fault, who can ask `is_cleared`: the rank
+//! A cleared context is a mark. To post a receive of it, or to hand on a message of it, is the caller's fault, who can ask `is_cleared`: the rank
 //! clears at the first revocation, and proves that it never does so.
 //!
 //! Its contract is a relation. `post` and `arrive` were tried as functions over two lists, and took as many lines in all.
@@ -26,11 +26,11 @@ use crate::taking::{
 };
 use std::alloc::Global;
 use std::marker::Model;
-use ulfm_base::{CONTEXTS, Context, Letter, OutOfMemory, Pattern, RequestId, WorldRank};
+use ulfm_base::{Context, Letter, OutOfMemory, Pattern, RequestId, Table, WorldRank};
 
 /// The receives of one rank that wait, and the letters that it keeps, each by number: the last few in a list, the others in
 /// buckets by what they are searched for. Contracts see both as lists in order of their numbers, how many posts and arrivals
-/// there were, which contexts were cleared, and whether there is room for one more post and one more arrival.
+/// there were, which contexts were cleared, and whether there is room for one more post, one more arrival and one more clear.
 #[derive(Drop)]
 pub struct Matcher {
     alloc: Global,
@@ -38,10 +38,11 @@ pub struct Matcher {
     kept: Pool<Letter>,
     ready: bool,
     count: u64,
-    cleared: [bool; CONTEXTS],
+    cleared: Table<()>,
 }
 
 impl Model for Matcher {
+    ghost use Rattle.std.specs.Prelude.{◌&&◌};
     ghost use Rattle.ulfm_match.specs.State.{Matching};
     ghost use Rattle.ulfm_match.specs.inside.Pools.{all_of, IsWhole};
 
@@ -51,8 +52,8 @@ impl Model for Matcher {
       waiting = all_of m.waiting;
       kept = all_of m.kept;
       count = m.count;
-      cleared = m.cleared;
-      prepared = m.ready;
+      cleared = m.cleared.entries;
+      prepared = m.ready && m.cleared.room;
     } };
 
     ghost invariant = { λ m. IsWhole m.waiting m.kept m.count m.ready };
@@ -69,7 +70,7 @@ impl Matcher {
             kept: Pool::new(alloc),
             ready: false,
             count: 0,
-            cleared: [false; CONTEXTS],
+            cleared: Table::new(alloc),
         }
     }
 
@@ -87,11 +88,11 @@ impl Matcher {
             kept: copy_pool(&self.kept)?,
             ready: false,
             count: self.count,
-            cleared: self.cleared,
+            cleared: self.cleared.copy()?,
         })
     }
 
-    /// Makes room for one post and one arrival.
+    /// Makes room for one post, one arrival and one clear.
     ///
     /// # Errors
     ///
@@ -106,6 +107,7 @@ impl Matcher {
         ensures cleared { self.new.cleared ≡ self.old.cleared }
         ensures stays_prepared { IsTrue self.old.prepared → IsTrue self.new.prepared }
     {
+        self.cleared.make_place()?;
         if self.ready {
             return Ok(());
         }
@@ -115,11 +117,11 @@ impl Matcher {
         Ok(())
     }
 
-    /// Whether there is room for one post and one arrival.
+    /// Whether there is room for one post, one arrival and one clear.
     pub fn is_prepared(&self) -> bool
         ensures { result ≡ self.now.prepared }
     {
-        self.ready
+        self.ready && self.cleared.has_place()
     }
 
     /// How many posts and arrivals there were.
@@ -133,7 +135,7 @@ impl Matcher {
     pub fn is_cleared(&self, context: Context) -> bool
         ensures { result ≡ is_cleared self.now context.number }
     {
-        self.cleared[context.number as usize]
+        self.cleared.get(context).is_some()
     }
 
     /// Posts a receive (MPI 4.0, 3.7.2). It gets the earliest kept letter that it admits; where there is none it waits.
@@ -230,19 +232,19 @@ impl Matcher {
     }
 
     /// Ends all waiting receives and drops all kept letters of a context, as a revocation does. From now on nothing of
-    /// it may be posted or come.
+    /// it may be posted or come. The room that `prepare` made may be used up.
     pub fn clear(&mut self, context: Context)
+        requires prepared { IsTrue self.old.prepared }
         ensures others_wait { Keeps (λ (y : ℕ × Pattern). y.1.context.number ≢ context.number) self.old.waiting self.new.waiting }
         ensures others_are_kept { Keeps (λ (y : ℕ × Letter). y.1.envelope.context.number ≢ context.number) self.old.kept self.new.kept }
         ensures count { self.new.count ≡ self.old.count }
         ensures cleared { IsTrue (is_cleared self.new context.number) }
         ensures others_stay { (c : ℕ) → c ≢ context.number → is_cleared self.new c ≡ is_cleared self.old c }
-        ensures prepared { IsTrue self.old.prepared → IsTrue self.new.prepared }
         ensures tracks { TracksClear context.number self.old self.new }
     {
         clear_receives(&mut self.waiting, context);
         clear_letters(&mut self.kept, context);
-        self.cleared[context.number as usize] = true;
+        self.cleared.put(context, ());
     }
 
     /// Ends all waiting receives that name a rank as their source, as its failure does. Those that leave the source

@@ -9,7 +9,7 @@
 ghost use Rattle.std.specs.Prelude.{◌<◌, length, IfSome};
 
 use std::alloc::Global;
-use ulfm_base::{CONTEXTS, Context, Letter, OutOfMemory, Pattern, WorldRank};
+use ulfm_base::{Context, Letter, OutOfMemory, Pattern, Table, WorldRank};
 
 /// The receives of one rank that wait, and the letters that it keeps, each in the order in which they came. Both lists are
 /// searched from the front.
@@ -18,7 +18,7 @@ pub struct Plain {
     waiting: Vec<(u64, Pattern)>,
     kept: Vec<Letter>,
     count: u64,
-    cleared: [bool; CONTEXTS],
+    cleared: Table<()>,
 }
 
 impl Plain {
@@ -28,7 +28,7 @@ impl Plain {
             waiting: Vec::new(alloc),
             kept: Vec::new(alloc),
             count: 0,
-            cleared: [false; CONTEXTS],
+            cleared: Table::new(alloc),
         }
     }
 
@@ -39,7 +39,7 @@ impl Plain {
 
     /// Whether `clear` was called with this context.
     pub fn is_cleared(&self, context: Context) -> bool {
-        self.cleared[context.number as usize]
+        self.cleared.get(context).is_some()
     }
 
     /// Posts a receive. Answers its number, and the earliest kept letter that it admits; where there is none it waits.
@@ -92,12 +92,18 @@ impl Plain {
     }
 
     /// Ends all waiting receives and drops all kept letters of a context.
-    pub fn clear(&mut self, context: Context) {
+    ///
+    /// # Errors
+    ///
+    /// `OutOfMemory` where a growth was refused.
+    pub fn clear(&mut self, context: Context) -> Result<(), OutOfMemory> {
+        self.cleared.make_place()?;
         self.waiting
             .retain(|entry| entry.1.context.number != context.number);
         self.kept
             .retain(|letter| letter.envelope.context.number != context.number);
-        self.cleared[context.number as usize] = true;
+        self.cleared.put(context, ());
+        Ok(())
     }
 
     /// Ends all waiting receives that name a rank as their source.

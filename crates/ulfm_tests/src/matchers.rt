@@ -160,22 +160,23 @@ fn arrives(
 }
 
 /// Ends something of both: whether they answer the same.
-fn ends(matcher: &mut Matcher, plain: &mut Plain, draws: &mut Pcg32) -> bool {
+fn ends(matcher: &mut Matcher, plain: &mut Plain, draws: &mut Pcg32) -> Result<bool, OutOfMemory> {
     let number = below(draws, CALLS) as u64;
     match below(draws, 16) {
         0 => {
             let context = context(draws);
+            matcher.prepare()?;
             matcher.clear(context);
-            plain.clear(context);
-            matcher.is_cleared(context)
+            plain.clear(context)?;
+            Ok(matcher.is_cleared(context))
         }
         1..4 => {
             let rank = rank(draws);
             matcher.end_named(rank);
             plain.end_named(rank);
-            matcher.is_waiting(RequestId { number }) == plain.is_waiting(number)
+            Ok(matcher.is_waiting(RequestId { number }) == plain.is_waiting(number))
         }
-        _ => matcher.withdraw(RequestId { number }) == plain.withdraw(number),
+        _ => Ok(matcher.withdraw(RequestId { number }) == plain.withdraw(number)),
     }
 }
 
@@ -190,7 +191,7 @@ fn call(
     match below(draws, 13) {
         0..5 => posts(matcher, plain, pattern(draws)),
         5..10 => arrives(alloc, matcher, plain, letter(alloc, draws, call)),
-        10 => Ok(ends(matcher, plain, draws)),
+        10 => ends(matcher, plain, draws),
         11 => Ok(probes(matcher, plain, &pattern(draws))),
         _ => {
             let pattern = pattern(draws);

@@ -172,11 +172,10 @@ fn clears_one(alloc: Global, matcher: &mut Matcher) -> Result<bool, Fail>
     let before = matcher.is_cleared(DUP);
     matcher.clear(DUP);
     let marked = matcher.is_cleared(DUP) && !matcher.is_cleared(Context::WORLD);
-    let prepared = matcher.is_prepared();
     let waits = matcher.is_waiting(stays) && !matcher.is_waiting(cleared);
     let dropped = !matcher.keeps_match(&receive_in(DUP, Source::One(ONE), None));
     let byte = posted(matcher, receive(ONE, None))?.1;
-    Ok(!before && marked && prepared && waits && dropped && byte == b'b')
+    Ok(!before && marked && waits && dropped && byte == b'b')
 }
 
 /// What is asked of a new matcher.

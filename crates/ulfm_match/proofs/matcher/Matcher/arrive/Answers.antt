@@ -1,5 +1,5 @@
 use Rattle.std.proofs.Common.{ap, subst, refl, sym, ◌∙◌}
-use Rattle.ulfm_match.proofs.Common.{Matching, Tracks, all_of}
+use Rattle.ulfm_match.proofs.Common.{Matching, Tracks, all_of, and_parts}
 use Rattle.ulfm_match.proofs.ArriveKeeps.{arrive_keeps}
 use Rattle.ulfm_match.proofs.ArriveTakes.{arrive_takes}
 use Rattle.ulfm_match.proofs.Pooled.{higher_pool, pushed_pool}
@@ -15,8 +15,8 @@ invariant_of-self c = record {
 pub invariant_of-self-in-None : goal.invariant_of-self-in-None
 invariant_of-self-in-None c = record {
   of_waiting = higher_pool (c.take_receive.ensures.pool _ c.self.invariant.of_waiting);
-  of_kept = pushed_pool c.self.invariant.of_kept _ c.args.letter c.add-ready.ensures.wild c.add-ready.ensures.early c.add-ready.ensures.buckets c.add-ready.ensures.recent (c.self.invariant.room (ap (λ (s : Matching). s.prepared) c.self.view_is ∙ c.requires.prepared)).1.1;
-  room = λ r. let m = c.self.invariant.room (ap (λ (s : Matching). s.prepared) c.self.view_is ∙ c.requires.prepared) in (c.take_receive.ensures.place m.0, c.add-ready.ensures.place r);
+  of_kept = pushed_pool c.self.invariant.of_kept _ c.args.letter c.add-ready.ensures.wild c.add-ready.ensures.early c.add-ready.ensures.buckets c.add-ready.ensures.recent (c.self.invariant.room (and_parts c.self.inside.ready c.self.inside.cleared.room (ap (λ (s : Matching). s.prepared) c.self.view_is ∙ c.requires.prepared)).0).1.1;
+  room = λ r. let m = c.self.invariant.room (and_parts c.self.inside.ready c.self.inside.cleared.room (ap (λ (s : Matching). s.prepared) c.self.view_is ∙ c.requires.prepared)).0 in (c.take_receive.ensures.place m.0, c.add-ready.ensures.place r);
 }
 
 pub returns-in-Some-clause-tracks : goal.returns-in-Some-clause-tracks
