@@ -35,6 +35,10 @@ silent_tells counts _ h = refl
 counted : {log told : List Entry} {rounds : Rounds} → IsTold log told rounds → rounds_on rounds ≡ agreements log
 counted is = λ i. λ c. is.counts c i
 
+-- other room plays no part
+pub told_same : {log told : List Entry} {rounds : Rounds} (rounds' : Rounds) → IsTold log told rounds → ((c : ℕ) → rounds_on rounds' c ≡ rounds_on rounds c) → IsTold log told rounds'
+told_same rounds' is same = record { rows = is.rows; counts = λ c. same c ∙ is.counts c }
+
 -- it counts no more than there are entries
 pub counts_few : {log told : List Entry} {rounds : Rounds} → IsTold log told rounds → (c : ℕ) → rounds_on rounds c ≤ length log
 counts_few {log} is c = omega (arith, is.counts c, length-filter_both (enters_agreement c) (λ e. not (enters_agreement c e)) (λ e. refl) log)

@@ -2,6 +2,7 @@
 use Rattle.std.specs.Prelude.{◌≡◌, ◌<◌, All, ℕ, Bool, List, [], ◌∷◌, ◌==◌, Option, Some, None, is_some, if◌then◌else◌}
 use Rattle.ulfm_base.specs.Context.{dup_of, shrink_of}
 use Rattle.ulfm_base.specs.Group.{numbers_from}
+use Rattle.ulfm_base.specs.Table.{value_of}
 use Rattle.ulfm_base.specs.declared.topic.Purpose.{Purpose}
 use Rattle.ulfm_base.specs.declared.topic.Purpose.TheVariants.{Shrink, Agree}
 use Rattle.ulfm_log.specs.declared.entry.Entry.{Entry}
@@ -10,8 +11,7 @@ use Rattle.ulfm_log.specs.Log.{gathered, by_found}
 
 -- the group that stands under a context
 abbrev pub find_group : ℕ → List (ℕ × List ℕ) → Option (List ℕ)
-find_group c [] = None
-find_group c (comm ∷ comms) = if comm.0 == c then Some comm.1 else find_group c comms
+find_group c comms = value_of c comms
 
 -- the communicator with the group of c, under another context
 abbrev pub copy_of : ℕ → ℕ → List (ℕ × List ℕ) → List (ℕ × List ℕ)

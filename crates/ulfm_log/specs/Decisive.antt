@@ -1,10 +1,11 @@
 -- The entries of a log that tell of shrinks, and of the last agreements.
-use Rattle.std.specs.Prelude.{◌≡◌, ℕ, ◌-◌, ◌==◌, ◌&&◌, Bool, true, false, List, filter, nat_lt, not, slice_index_or}
+use Rattle.std.specs.Prelude.{◌≡◌, ℕ, ◌-◌, ◌==◌, ◌&&◌, Bool, true, false, List, filter, nat_lt, not}
 use Rattle.ulfm_base.specs.declared.item.Item.{Item}
 use Rattle.ulfm_base.specs.declared.item.Item.TheVariants.{Enter}
 use Rattle.ulfm_base.specs.declared.topic.Purpose.{Purpose}
 use Rattle.ulfm_base.specs.declared.topic.Purpose.TheVariants.{Shrink, Agree}
 use Rattle.ulfm_base.specs.declared.topic.Topic.{Topic}
+use Rattle.ulfm_base.specs.Table.{count_at}
 use Rattle.ulfm_base.specs.Topic.{is_agreement}
 use Rattle.ulfm_log.specs.declared.entry.Entry.{Entry}
 use Rattle.ulfm_log.specs.declared.entry.Entry.TheVariants.{Entered, Adopted, Took}
@@ -13,7 +14,7 @@ use Rattle.ulfm_log.specs.Proposal.{agreements}
 
 -- how many agreements were entered on the communicator c
 abbrev pub rounds_on : Rounds → ℕ → ℕ
-rounds_on rounds c = slice_index_or rounds.entered c 0
+rounds_on rounds c = count_at rounds.entered.entries c
 
 -- a topic is an agreement on the communicator c
 abbrev pub enters_on : ℕ → Topic → Bool

@@ -1,5 +1,6 @@
-use Rattle.ulfm_base.proofs.Places.{get_or-blank}
+use Rattle.std.proofs.Common.{ℕ, List, ap}
+use Rattle.ulfm_base.specs.Table.{count_at}
 use Rattle.ulfm_log.proofs.rounds.Rounds.new.Goals as goal
 
 pub returns : goal.returns
-returns c = λ k. get_or-blank 63 k 0
+returns c k = ap (λ (counts : List (ℕ × ℕ)). count_at counts k) c.new.ensures
