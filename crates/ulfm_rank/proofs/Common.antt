@@ -62,7 +62,7 @@ pub use Rattle.std.proofs.Math.ListN.{get_or-map}
 pub use Rattle.ulfm_base.specs.declared.error.CallError.{CallError}
 pub use Rattle.ulfm_base.specs.declared.pattern.Source.{Source}
 pub use Rattle.ulfm_base.specs.declared.pattern.Source.TheVariants.{Any, One}
-pub use Rattle.ulfm_fault.specs.Facts.{FaultState, acknowledged_in, has_unacked, is_revoked_in}
+pub use Rattle.ulfm_fault.specs.Facts.{FaultState, KnowsSame, acknowledged_in, has_unacked, is_revoked_in}
 pub use Rattle.ulfm_match.proofs.Cut.{cut, get_front, get_in_front, inside_back, inside_to}
 pub use Rattle.ulfm_match.specs.Calls.{EndsNamed, TracksEnd}
 pub use Rattle.ulfm_base.specs.declared.request_id.RequestId.{RequestId}

@@ -1,6 +1,7 @@
 -- What is known of failures and revocations stays in step with the log.
-use Rattle.std.proofs.Common.{◌≡◌, ℕ, Bool, true, false, cond, List, [], ◌∷◌, ◌++◌, refl, ap, sym, ◌∙◌, append-nil, ◌||◌, ◌&&◌, ◌==◌, not, nat_lt, length, slice_index_or, eqb-true}
-use Rattle.ulfm_rank.proofs.Common.{Context, Pattern, WorldRank, Item, Entry, Took, members_of, HasFaults, names_known, pends_by, was_revoked_in, is_any, pends, list_any, or-false, names_gone, list_any-append, Source, One, Any, is_member, including, intersection, is_gone, tells_gone, known_of, newly_known, acknowledged_of, acknowledged_from, acknowledged_by, is_revoked, revoked_before, revokes, FaultState, acknowledged_in, is_revoked_in, has_unacked}
+use Rattle.std.proofs.Common.{◌≡◌, ℕ, Bool, true, false, cond, List, [], ◌∷◌, ◌++◌, refl, ap, sym, ◌∙◌, append-nil, ◌||◌, ◌&&◌, ◌==◌, not, nat_lt, length, eqb-true}
+use Rattle.ulfm_rank.proofs.Common.{Context, Pattern, WorldRank, Item, Entry, Took, members_of, HasFaults, names_known, pends_by, was_revoked_in, is_any, pends, list_any, or-false, names_gone, list_any-append, Source, One, Any, is_member, including, intersection, is_gone, tells_gone, known_of, newly_known, acknowledged_of, acknowledged_from, acknowledged_by, is_revoked, revoked_before, revokes, FaultState, KnowsSame, acknowledged_in, is_revoked_in, has_unacked}
+use Rattle.ulfm_base.specs.Table.{count_at, is_marked}
 use Rattle.ulfm_base.specs.declared.item.Item.TheVariants.{Letter as Mail, Gone, Revoke, Enter}
 use Rattle.ulfm_log.proofs.Gather.{gathered-push, gathered_all, any-push}
 use Rattle.ulfm_log.specs.Log.{by_found}
@@ -18,6 +19,17 @@ acknowledged-push c log x = acknowledged_from-push c 0 log x
 pub faults_start : (facts : FaultState) → facts.known ≡ [] → ((c : ℕ) → acknowledged_in facts c ≡ 0) → ((c : ℕ) → is_revoked_in facts c ≡ false) → HasFaults [] facts
 faults_start facts k a m = record { knows = k; acknowledges = a; marks = m }
 
+-- other room plays no part
+pub faults_same : {log : List Entry} {facts : FaultState} (facts' : FaultState) → KnowsSame facts facts' → HasFaults log facts → HasFaults log facts'
+faults_same facts' same held = record {
+  knows = same.known ∙ held.knows;
+  acknowledges = λ c. ap (λ xs. count_at xs c) same.acknowledged ∙ held.acknowledges c;
+  marks = λ c. ap (λ xs. is_marked xs c) same.revoked ∙ held.marks c;
+}
+
+pub knows_itself : {old new : FaultState} → new ≡ old → KnowsSame old new
+knows_itself e = record { known = ap (λ (f : FaultState). f.known) e; acknowledged = ap (λ (f : FaultState). f.acknowledged) e; revoked = ap (λ (f : FaultState). f.revoked) e }
+
 -- an entry that tells nothing of failures, acknowledgements and revocations
 pub faults_quiet : {log : List Entry} {facts : FaultState} (x : Entry) → HasFaults log facts → ((known : List ℕ) → newly_known known x ≡ []) → ((c k : ℕ) → acknowledged_by c k x ≡ k) → ((c : ℕ) → revokes c x ≡ false) → HasFaults (log ++ x ∷ []) facts
 faults_quiet {log} {facts} x held k a m = record {
@@ -30,8 +42,8 @@ faults_quiet {log} {facts} x held k a m = record {
 pub faults_learned : {log : List Entry} {old : FaultState} (new : FaultState) (s : WorldRank) → HasFaults log old → new.known ≡ including old.known s.number → new.acknowledged ≡ old.acknowledged → new.revoked ≡ old.revoked → HasFaults (log ++ Took s Gone ∷ []) new
 faults_learned {log} {old} new s held k a m = record {
   knows = k ∙ (ap (λ known. including known s.number) held.knows ∙ sym (known-push log (Took s Gone)));
-  acknowledges = λ c. ap (λ xs. slice_index_or xs c 0) a ∙ (held.acknowledges c ∙ sym (acknowledged-push c log (Took s Gone)));
-  marks = λ c. ap (λ xs. slice_index_or xs c false) m ∙ (held.marks c ∙ sym (any-push (revokes c) log (Took s Gone) ∙ or-false (is_revoked log c)));
+  acknowledges = λ c. ap (λ xs. count_at xs c) a ∙ (held.acknowledges c ∙ sym (acknowledged-push c log (Took s Gone)));
+  marks = λ c. ap (λ xs. is_marked xs c) m ∙ (held.marks c ∙ sym (any-push (revokes c) log (Took s Gone) ∙ or-false (is_revoked log c)));
 }
 
 -- a revocation, by an entry that gives nothing else
@@ -39,7 +51,7 @@ pub faults_revoked : {log : List Entry} {old : FaultState} (new : FaultState) (x
     → ((c : ℕ) → is_revoked_in new c ≡ cond (d == c) true (is_revoked_in old c)) → new.known ≡ old.known → new.acknowledged ≡ old.acknowledged → HasFaults (log ++ x ∷ []) new
 faults_revoked {log} {old} new x d held none same is m k a = record {
   knows = k ∙ (held.knows ∙ sym (known-push log x ∙ (ap (λ ys. known_of log ++ ys) (none (known_of log)) ∙ append-nil (known_of log))));
-  acknowledges = λ c. ap (λ xs. slice_index_or xs c 0) a ∙ (held.acknowledges c ∙ sym (acknowledged-push c log x ∙ same c (acknowledged_of log c)));
+  acknowledges = λ c. ap (λ xs. count_at xs c) a ∙ (held.acknowledges c ∙ sym (acknowledged-push c log x ∙ same c (acknowledged_of log c)));
   marks = λ c. m c ∙ (pick (d == c) (is_revoked_in old c) ∙ (ap (λ b. b || (d == c)) (held.marks c) ∙ sym (any-push (revokes c) log x ∙ ap (λ b. is_revoked log c || b) (is c))));
 }
   where

@@ -29,3 +29,4 @@ pub mod Quiet
 pub mod Crossing
 pub mod Joining
 pub mod Mapped
+pub mod Rooms

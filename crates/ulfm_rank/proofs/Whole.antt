@@ -1,12 +1,15 @@
 -- All parts of a rank follow the log, call by call.
-use Rattle.std.proofs.Common.{◌≡◌, ℕ, ◌+◌, ◌<◌, ◌≤◌, Bool, true, false, cond, List, [], ◌∷◌, ◌++◌, length, map, replicate, refl, ap, sym, ◌∙◌, Option, Some, None, arith, ◌&&◌, nat_lt, nat_eq, ◌^◌, IsTrue}
-use Rattle.ulfm_rank.proofs.Common.{Item, Pattern, WorldRank, numbers_from, Entry, Posted, Released, Probed, Received, Cancelled, Took, Fate, Request, Follows, IsInStep, IsOfGroup, events_by, history_of, is_stop, newly_known, acknowledged_by, revokes, made_by, owed_by, false≢true, HasFaults, names_known, was_revoked_in, State, no_mark, Matching, Tracks, Adds, Removes, TracksAdmit, TracksItem, nat_tests, owed_by_item, Box, empty_box, mark_of, AllGrow, lookup, get, index_map_len, Holds, FaultState, acknowledged_in, is_revoked_in}
+use Rattle.std.proofs.Common.{◌≡◌, ℕ, ◌+◌, ◌<◌, ◌≤◌, Bool, true, false, cond, List, [], ◌∷◌, ◌++◌, length, map, replicate, refl, ap, sym, ◌∙◌, Option, Some, None, arith, nat_eq, ◌^◌}
+use Rattle.ulfm_rank.proofs.Common.{Item, Pattern, WorldRank, numbers_from, Entry, Posted, Released, Probed, Received, Cancelled, Took, Fate, Request, Follows, IsInStep, IsOfGroup, events_by, history_of, is_stop, newly_known, acknowledged_by, revokes, made_by, owed_by, false≢true, HasFaults, names_known, was_revoked_in, State, no_mark, Matching, Tracks, Adds, Removes, TracksAdmit, TracksItem, owed_by_item, Box, empty_box, mark_of, AllGrow, lookup, get, index_map_len, Holds, FaultState, KnowsSame, acknowledged_in, is_revoked_in}
 use Rattle.ulfm_rank.specs.declared.rank.Rank.TheInside.{Inside}
 use Rattle.ulfm_log.specs.State.{start_state_with}
 use Rattle.ulfm_rank.proofs.Following.{runs_on}
 use Rattle.ulfm_log.proofs.Held.{outboxes-grown, outboxes-quiet, outboxes-start, marks-start}
 use Rattle.ulfm_rank.proofs.InStep.{in_step_start, in_step_same, in_step_posted, in_step_took}
-use Rattle.ulfm_rank.proofs.Known.{faults_start, faults_quiet, known_named, marked_before}
+use Rattle.ulfm_rank.proofs.Known.{faults_start, faults_quiet, faults_same, knows_itself, known_named, marked_before}
+use Rattle.ulfm_log.proofs.Sifted.{told_same}
+use Rattle.ulfm_log.specs.Decisive.{rounds_on}
+use Rattle.ulfm_log.specs.declared.rounds.Rounds.{Rounds}
 use Rattle.ulfm_log.proofs.Made.{communicators-quiet, communicators-start}
 use Rattle.ulfm_rank.proofs.Release.{IsRelease, in_step_released}
 
@@ -88,13 +91,24 @@ module _ {n me : ℕ} {log : List Entry} {stopped : Bool} {matcher : Matching} {
     outboxes = outboxes-grown (Took s item) held.outboxes grows;
   }
 
+-- other room plays no part
+pub follows_facts : {n me : ℕ} {log : List Entry} {stopped : Bool} {matcher : Matching} {find : ℕ → Option Request} {facts : FaultState} {comms : List (ℕ × List ℕ)} {boxes : List Box} (facts' : FaultState) → KnowsSame facts facts' → Follows n me log stopped matcher find facts comms boxes → Follows n me log stopped matcher find facts' comms boxes
+follows_facts facts' same held = record {
+  small = held.small;
+  halted = held.halted;
+  in_step = held.in_step;
+  faults = faults_same facts' same held.faults;
+  communicators = held.communicators;
+  outboxes = held.outboxes;
+}
+
 -- other room that is enough plays no part
-pub holds_copied : (a : Inside) {b : Inside} → Holds a → b.me ≡ a.me → b.ranks ≡ a.ranks → b.stopped ≡ a.stopped → b.faults ≡ a.faults → b.communicators ≡ a.communicators
+pub holds_copied : (a : Inside) {b : Inside} → Holds a → b.me ≡ a.me → b.ranks ≡ a.ranks → b.stopped ≡ a.stopped → KnowsSame a.faults b.faults → b.communicators ≡ a.communicators
     → b.matcher.waiting ≡ a.matcher.waiting → b.matcher.kept ≡ a.matcher.kept → b.matcher.count ≡ a.matcher.count → b.matcher.cleared ≡ a.matcher.cleared → b.requests.entries ≡ a.requests.entries → b.outboxes.boxes ≡ a.outboxes.boxes
-    → b.log.items ≡ a.log.items → b.told.items ≡ a.told.items → b.rounds ≡ a.rounds → length a.log.items + (index_map_len a.requests + cond a.stopped 0 1) ≤ b.log.capacity → b.log.capacity < 2 ^ 63 → Holds b
+    → b.log.items ≡ a.log.items → b.told.items ≡ a.told.items → ((c : ℕ) → rounds_on b.rounds c ≡ rounds_on a.rounds c) → length a.log.items + (index_map_len a.requests + cond a.stopped 0 1) ≤ b.log.capacity → b.log.capacity < 2 ^ 63 → Holds b
 holds_copied a {b} h me ranks stopped faults comms waiting kept count cleared entries boxes items told rounds room countable = record {
-  follows = rw (me, ranks, stopped, faults, comms, items) (follows_same h.follows b.matcher (get nat_eq b.requests) b.outboxes.boxes waiting kept count cleared (λ k. ap (lookup (nat_eq k)) entries) boxes);
-  tells = rw (items, told, rounds) h.tells;
+  follows = rw (me, ranks, stopped, comms, items) (follows_facts b.faults faults (follows_same h.follows b.matcher (get nat_eq b.requests) b.outboxes.boxes waiting kept count cleared (λ k. ap (lookup (nat_eq k)) entries) boxes));
+  tells = rw (items, told) (told_same b.rounds h.tells rounds);
   countable = countable;
   places =
       let same : index_map_len b.requests ≡ index_map_len a.requests = ap length entries in
@@ -102,21 +116,20 @@ holds_copied a {b} h me ranks stopped faults comms waiting kept count cleared en
 }
 
 -- more room plays no part
+pub holds_roomy : (a : Inside) {b : Inside} → Holds a → b.me ≡ a.me → b.ranks ≡ a.ranks → b.stopped ≡ a.stopped → KnowsSame a.faults b.faults → b.communicators ≡ a.communicators
+    → b.matcher.waiting ≡ a.matcher.waiting → b.matcher.kept ≡ a.matcher.kept → b.matcher.count ≡ a.matcher.count → b.matcher.cleared ≡ a.matcher.cleared → b.requests.entries ≡ a.requests.entries → b.outboxes.boxes ≡ a.outboxes.boxes
+    → b.log.items ≡ a.log.items → b.told.items ≡ a.told.items → ((c : ℕ) → rounds_on b.rounds c ≡ rounds_on a.rounds c) → a.log.capacity ≤ b.log.capacity → b.log.capacity < 2 ^ 63 → Holds b
+holds_roomy a h me ranks stopped faults comms waiting kept count cleared entries boxes items told rounds room countable =
+    holds_copied a h me ranks stopped faults comms waiting kept count cleared entries boxes items told rounds (omega (arith, h.places, room)) countable
+
+-- more room elsewhere than for what is known and for rounds
 pub holds_same : (a : Inside) {b : Inside} → Holds a → b.me ≡ a.me → b.ranks ≡ a.ranks → b.stopped ≡ a.stopped → b.faults ≡ a.faults → b.communicators ≡ a.communicators
     → b.matcher.waiting ≡ a.matcher.waiting → b.matcher.kept ≡ a.matcher.kept → b.matcher.count ≡ a.matcher.count → b.matcher.cleared ≡ a.matcher.cleared → b.requests.entries ≡ a.requests.entries → b.outboxes.boxes ≡ a.outboxes.boxes
     → b.log.items ≡ a.log.items → b.told.items ≡ a.told.items → b.rounds ≡ a.rounds → a.log.capacity ≤ b.log.capacity → b.log.capacity < 2 ^ 63 → Holds b
 holds_same a h me ranks stopped faults comms waiting kept count cleared entries boxes items told rounds room countable =
-    holds_copied a h me ranks stopped faults comms waiting kept count cleared entries boxes items told rounds (omega (arith, h.places, room)) countable
+    holds_roomy a h me ranks stopped (knows_itself faults) comms waiting kept count cleared entries boxes items told (λ c. ap (λ (r : Rounds). rounds_on r c) rounds) room countable
 
 -- how many requests are left where one was taken out
 pub one_less : (b : Bool) (new old : ℕ) → new + cond b 1 0 ≡ old → b ≡ true → new + 1 ≡ old
 one_less true new old e t = e
 one_less false new old e t = cc
-
-pub room_of : (a : Bool) (x y : ℕ) (b : Bool) → IsTrue (a && (nat_lt (x + 1) y && b)) → x + 1 < y
-room_of true x y b h = within (nat_lt (x + 1) y) refl h
-  where
-    within : (t : Bool) → nat_lt (x + 1) y ≡ t → IsTrue (t && b) → x + 1 < y
-    within true e h = grind (arith, nat_tests)
-    within false e h = cc
-room_of false x y b h = cc

@@ -1,5 +1,5 @@
 //! What a rank's knowledge of failures and revocations says of sources, receives and items.
-ghost use Rattle.std.specs.Prelude.{◌≡◌, List, [], ◌∷◌, ◌++◌};
+ghost use Rattle.std.specs.Prelude.{◌≡◌, List, [], ◌∷◌, ◌++◌, IsTrue};
 ghost use Rattle.ulfm_log.specs.declared.entry.Entry.{Entry};
 ghost use Rattle.ulfm_rank.specs.inside.Fields.{HasFaults, names_known, pends_by, was_revoked_in};
 
@@ -36,8 +36,9 @@ pub(crate) fn was_revoked(faults: &Faults, item: &Item) -> bool
     }
 }
 
-/// Takes in what an item tells of failures and revocations.
+/// Takes in what an item tells of failures and revocations. The room for one revocation may be used up.
 pub(crate) fn learn(faults: &mut Faults, source: WorldRank, item: &Item)
+    requires { IsTrue faults.old.room }
     ensures { (log : List Entry) → HasFaults log faults.old → HasFaults (log ++ Entry.Took source item.now ∷ []) faults.new }
 {
     match item {

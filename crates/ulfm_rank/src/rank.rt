@@ -107,7 +107,7 @@ impl Rank {
             outboxes,
             log,
             told: Vec::new(alloc),
-            rounds: Rounds::new(),
+            rounds: Rounds::new(alloc),
             block: Block::new(alloc),
         })
     }

@@ -102,9 +102,9 @@ fn fail_context(requests: &mut IndexMap<u64, Request>, context: Context)
 
 /// Ends what waits on a context and drops what is kept of it, at its first revocation.
 pub(crate) fn clear(matcher: &mut Matcher, requests: &mut IndexMap<u64, Request>, context: Context)
+    requires { IsTrue matcher.old.prepared }
     ensures len { index_map_len requests.new ≡ index_map_len requests.old }
     ensures count { matcher.new.count ≡ matcher.old.count }
-    ensures prepared { IsTrue matcher.old.prepared → IsTrue matcher.new.prepared }
     ensures tracks { TracksRevocation context.number matcher.old (get nat_eq requests.old) matcher.new (get nat_eq requests.new) }
 {
     matcher.clear(context);

@@ -39,10 +39,10 @@ pub record Holds (a : Inside) : Type 0 where
 abbrev pub state_of : Inside → State
 state_of a = record { me = a.me.number; ranks = a.ranks; log = a.log.items; marks = map mark_of a.outboxes.boxes; keeps = a.log.keeps }
 
--- there is room for a post or an arrival, for one more entry and the release of one more request, in each outbox, for one
--- more row, and for a decision
+-- there is room for a post, an arrival or a clear, for one more entry and the release of one more request, in each outbox,
+-- for one more row, for a decision, for an acknowledgement or a revocation, and for an entrance
 abbrev pub is_prepared : Inside → Bool
-is_prepared a = a.matcher.prepared && (nat_lt (length a.log.items + (index_map_len a.requests + stop_places a.stopped) + 1) (a.log.capacity) && (a.outboxes.room && (nat_lt (vec_len a.told) (vec_capacity a.told) && a.block)))
+is_prepared a = a.matcher.prepared && (nat_lt (length a.log.items + (index_map_len a.requests + stop_places a.stopped) + 1) (a.log.capacity) && (a.outboxes.room && (nat_lt (vec_len a.told) (vec_capacity a.told) && (a.block && (a.faults.room && a.rounds.entered.room)))))
 
 -- the table of requests has a place for one more
 abbrev pub has_place : Inside → Bool

@@ -1,5 +1,6 @@
 //! A rank once more.
 ghost use Rattle.std.specs.Prelude.{◌≡◌, ◌+◌, ◌≤◌, ◌<◌, ◌^◌, length, IfOk};
+ghost use Rattle.ulfm_fault.specs.Facts.{KnowsSame};
 ghost use Rattle.ulfm_match.specs.State.{unprepared};
 
 use super::{Rank, stop_places};
@@ -27,11 +28,11 @@ fn copy_known(
     communicators: &Communicators,
     outboxes: &Outboxes,
 ) -> Result<(Faults, Communicators, Outboxes), OutOfMemory>
-    ensures faults { IfOk result (λ copy. copy.0 ≡ faults.now) }
+    ensures faults { IfOk result (λ copy. KnowsSame faults.now copy.0) }
     ensures communicators { IfOk result (λ copy. copy.1 ≡ communicators.now) }
     ensures boxes { IfOk result (λ copy. copy.2.boxes ≡ outboxes.now.boxes) }
 {
-    let faults = faults.clone()?;
+    let faults = faults.copy()?;
     let communicators = communicators.clone()?;
     let outboxes = outboxes.copy()?;
     Ok((faults, communicators, outboxes))
@@ -49,13 +50,14 @@ impl Rank {
         // In parts, the heavy ones last: what is let go where a later growth is refused costs the check minutes.
         let places = self.requests.len() + stop_places(self.stopped);
         let told = self.told.clone()?;
+        let rounds = self.rounds.copy()?;
         let requests = self.requests.clone()?;
         let known = copy_known(&self.faults, &self.communicators, &self.outboxes)?;
         let matching = copy_matching(&self.log, places, &self.matcher)?;
         Ok(Rank {
             log: matching.0,
             told,
-            rounds: self.rounds,
+            rounds,
             me: self.me,
             ranks: self.ranks,
             stopped: self.stopped,

@@ -43,13 +43,13 @@ impl Rank {
         self.log.reserve(self.requests.len() + 2)?;
         self.outboxes.reserve()?;
         make_place(&mut self.told)?;
+        self.rounds.enter(topic)?;
         let known = self.faults.known();
         let entrance = Entrance {
             topic,
             contribution: Contribution { known, flag },
         };
         announce(&mut self.outboxes, self.me.number, known, members, entrance);
-        self.rounds.enter(topic);
         forget(&mut self.told, &self.rounds);
         tell(&mut self.told, Row::entered(entrance));
         self.log.push_reserved(Entry::Entered(entrance));

@@ -64,6 +64,7 @@ impl Rank {
             return Ok(before);
         }
         self.log.reserve(self.requests.len() + 2)?;
+        self.faults.make_place()?;
         let total = self.faults.ack(comm.context, &group, n);
         self.log
             .push_reserved(Entry::Acknowledged(comm.context, total));
@@ -108,6 +109,8 @@ impl Rank {
         }
         self.log.reserve(self.requests.len() + 2)?;
         self.outboxes.reserve()?;
+        self.matcher.prepare()?;
+        self.faults.make_place()?;
         let known = self.faults.known();
         forward(&mut self.outboxes, self.me.number, known, comm.context);
         let _ = self.faults.revoke(comm.context);

@@ -34,6 +34,8 @@ impl Rank {
         self.matcher.prepare()?;
         make_place(&mut self.told)?;
         self.block.make()?;
+        self.faults.make_place()?;
+        self.rounds.make_place()?;
         self.outboxes.reserve()
     }
 
@@ -48,6 +50,8 @@ impl Rank {
             && self.outboxes.has_room()
             && self.told.len() < self.told.capacity()
             && self.block.is_there()
+            && self.faults.has_place()
+            && self.rounds.has_place()
     }
 
     /// Takes an item that came from a rank. A letter is handed to the earliest receive that takes it, or kept, or

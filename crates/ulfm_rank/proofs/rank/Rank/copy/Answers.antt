@@ -12,4 +12,4 @@ invariant_of-result c =
     let matcher = matching.matcher in
     let entries = entries_from_clone _ _ (λ x y e. e) (λ x y e. e) _ _ c.in_ok-requests.ensures.cases in
     let told = each_same _ _ c.in_ok-told.ensures.cases.0 in
-    holds_copied c.self.inside c.self.invariant refl refl refl known.faults known.communicators (ap (λ (m : Matching). m.waiting) matcher) (ap (λ (m : Matching). m.kept) matcher) (ap (λ (m : Matching). m.count) matcher) (ap (λ (m : Matching). m.cleared) matcher) entries known.boxes matching.items told refl (omega (arith, matching.capacity, c.stop_places.ensures, c.len.ensures.len)) matching.countable
+    holds_copied c.self.inside c.self.invariant refl refl refl known.faults known.communicators (ap (λ (m : Matching). m.waiting) matcher) (ap (λ (m : Matching). m.kept) matcher) (ap (λ (m : Matching). m.count) matcher) (ap (λ (m : Matching). m.cleared) matcher) entries known.boxes matching.items told c.in_ok-rounds.ensures (omega (arith, matching.capacity, c.stop_places.ensures, c.len.ensures.len)) matching.countable

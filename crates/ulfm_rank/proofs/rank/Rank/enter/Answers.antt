@@ -4,6 +4,7 @@ use Rattle.ulfm_rank.proofs.Common.{agreements, is_member, Entrance, Entered, st
 use Rattle.ulfm_rank.proofs.Following.{follows_entered}
 use Rattle.ulfm_log.proofs.Held.{marks-grown}
 use Rattle.ulfm_rank.proofs.Known.{knows_gone}
+use Rattle.ulfm_rank.proofs.Whole.{holds_same}
 use Rattle.ulfm_log.specs.Decisive.{is_next, rounds_on, tells}
 use Rattle.ulfm_rank.proofs.Seen.{stop_places_few, state_logged}
 use Rattle.ulfm_rank.proofs.rank.Rank.enter.Goals as goal
@@ -36,7 +37,7 @@ invariant_of-self-2 c =
     record {
       follows = rw (longer c) (follows_entered c.self.invariant.follows (entrance c) c.announce.new.outboxes.boxes (grows c));
       places = omega (arith, c.in_ok-reserve.ensures.ok, c.push_reserved.ensures.len, c.push_reserved.ensures.capacity, c.len.ensures.len, stop_places_few a.stopped);
-      tells = told_entered _ _ _ _ (entrance c) (longer c) c.self.invariant.tells (ap (λ (s : State). is_next (agreements s.log) c.args.topic) (seen c) ∙ c.requires.next) c.enter.ensures
+      tells = told_entered _ _ _ _ (entrance c) (longer c) c.self.invariant.tells (ap (λ (s : State). is_next (agreements s.log) c.args.topic) (seen c) ∙ c.requires.next) c.in_ok-enter.ensures.counts
           (c.tell.ensures.items ∙ ap (λ e. c.forget.new.told.items ++ e ∷ []) c.entered.ensures ∙ ap (λ l. l ++ Entered (entrance c) ∷ []) (c.forget.ensures.items ∙ ap (filter (tells (rounds_on c.enter.new.self))) c.make_place.ensures.items));
       countable = omega (arith, c.push_reserved.ensures.capacity, c.reserve.ensures.countable);
     }
@@ -51,3 +52,6 @@ returns-clause-enters c =
       brings = refl;
       only = state_logged a.outboxes.boxes c.announce.new.outboxes.boxes (Entered (entrance c)) (seen c) (longer c) (marks-grown (grows c)) (c.push_reserved.ensures.keeps ∙ c.reserve.ensures.keeps);
     }
+
+pub invariant_of-self-in_err-enter : goal.invariant_of-self-in_err-enter
+invariant_of-self-in_err-enter c = holds_same c.self.inside c.self.invariant refl refl refl refl refl refl refl refl refl refl c.in_ok-reserve-2.ensures.boxes c.reserve.ensures.items c.make_place.ensures.items c.in_err-enter.ensures.unchanged_at_error c.reserve.ensures.capacity c.reserve.ensures.countable

@@ -4,10 +4,17 @@ use Rattle.ulfm_rank.proofs.Common.{Took, AllGrow, RankView, owed_by_item, get, 
 use Rattle.ulfm_log.proofs.Held.{marks-grown}
 use Rattle.ulfm_rank.proofs.InStep.{count_small, in_step_open}
 use Rattle.ulfm_rank.proofs.Known.{marked_before, knows_gone}
-use Rattle.ulfm_rank.proofs.Whole.{follows_took, room_of}
+use Rattle.ulfm_rank.proofs.Whole.{follows_took}
+use Rattle.ulfm_rank.proofs.Rooms.{room_of, facts_room_of}
 use Rattle.ulfm_rank.proofs.Seen.{state_logged}
 use Rattle.ulfm_rank.proofs.rank.Rank.take.Goals as goal
 use Rattle.ulfm_rank.proofs.rank.Rank.take.Goals.{After-push_reserved}
+
+pub learn-requires : goal.learn-requires
+learn-requires c =
+    let a = c.self.inside in
+    facts_room_of a.matcher.prepared (nat_lt (length a.log.items + (index_map_len a.requests + stop_places a.stopped) + 1) a.log.capacity) a.outboxes.room (nat_lt (vec_len a.told) (vec_capacity a.told)) a.block a.faults.room a.rounds.entered.room
+    (subst (λ (v : RankView). IsTrue v.prepared) (sym c.self.view_is) c.requires.prepared)
 
 pub settle-requires-clause-countable : goal.settle-requires-clause-countable
 settle-requires-clause-countable c =
@@ -33,7 +40,7 @@ longer c = c.push_reserved.ensures.items ∙ ap (λ x. c.self.inside.log.items +
 pub invariant_of-self : goal.invariant_of-self
 invariant_of-self c =
     let a = c.self.inside in
-    let room = room_of a.matcher.prepared (length a.log.items + (index_map_len a.requests + stop_places a.stopped)) a.log.capacity (a.outboxes.room && (nat_lt (vec_len a.told) (vec_capacity a.told) && a.block)) (subst (λ (v : RankView). IsTrue v.prepared) (sym c.self.view_is) c.requires.prepared) in
+    let room = room_of a.matcher.prepared (length a.log.items + (index_map_len a.requests + stop_places a.stopped)) a.log.capacity (a.outboxes.room && (nat_lt (vec_len a.told) (vec_capacity a.told) && (a.block && (a.faults.room && a.rounds.entered.room)))) (subst (λ (v : RankView). IsTrue v.prepared) (sym c.self.view_is) c.requires.prepared) in
     let tracks = rw c.was_revoked-revoked.ensures at c.settle.ensures.tracks in
     record {
       follows = rw (longer c)
