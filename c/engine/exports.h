@@ -10,7 +10,7 @@ _Static_assert(sizeof(ulfm_status) == 24, "a status is a CStatus");
 _Static_assert(sizeof(ulfm_group) == 12, "a group is a CGroup");
 _Static_assert(sizeof(ulfm_next_item) == 32, "an item is a CNextItem");
 
-uint32_t ulfm_c_world(ulfm_slot *slots, size_t ranks, uint8_t capacity, uint16_t rounds);
+uint32_t ulfm_c_world(ulfm_slot *slots, size_t ranks, uint8_t capacity);
 uint32_t ulfm_c_end(ulfm_slot *slot);
 uint32_t ulfm_c_stop(ulfm_slot *slot);
 uint32_t ulfm_c_turn(ulfm_slot *slot, uint32_t *moved);

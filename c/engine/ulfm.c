@@ -4,11 +4,11 @@
 /* Where a body of no bytes is read or written. */
 static uint8_t nothing;
 
-uint32_t ulfm_world(ulfm_slot *slots, size_t ranks, uint8_t capacity, uint16_t rounds) {
+uint32_t ulfm_world(ulfm_slot *slots, size_t ranks, uint8_t capacity) {
     if (!slots) return ULFM_ENDED;
     /* No more slots are handed on than a world has: there may be none past them. */
     if (ranks > 8) return ULFM_BAD_SIZE;
-    return ulfm_c_world(slots, ranks, capacity, rounds);
+    return ulfm_c_world(slots, ranks, capacity);
 }
 
 uint32_t ulfm_end(ulfm_slot *slot) {

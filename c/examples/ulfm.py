@@ -10,7 +10,7 @@ import ctypes
 import os
 import pathlib
 import time
-from ctypes import POINTER, byref, c_char_p, c_size_t, c_uint8, c_uint16, c_uint32, c_uint64, c_void_p
+from ctypes import POINTER, byref, c_char_p, c_size_t, c_uint8, c_uint32, c_uint64, c_void_p
 
 ANY = 2 ** 32 - 1
 PROC_FAILED, REVOKED, NOT_YET, PENDING = 5, 6, 17, 18
@@ -42,7 +42,7 @@ _CALLS = {
 
 def _load():
     library = ctypes.CDLL(os.environ.get("ULFM_LIBRARY") or str(pathlib.Path(__file__).resolve().parent.parent / "out/libulfm.so"))
-    library.ulfm_world.argtypes = [POINTER(Slot), c_size_t, c_uint8, c_uint16]
+    library.ulfm_world.argtypes = [POINTER(Slot), c_size_t, c_uint8]
     for name, words in _CALLS.items():
         getattr(library, f"ulfm_{name}").argtypes = [POINTER(Slot), *words]
     return library
@@ -154,10 +154,10 @@ class Rank:
         self.ask("end")
 
 
-def world(ranks, capacity=16, rounds=64, kind=Rank):
+def world(ranks, capacity=16, kind=Rank):
     """The ranks of a new world."""
     slots = (Slot * ranks)()
-    code = _library.ulfm_world(slots, ranks, capacity, rounds)
+    code = _library.ulfm_world(slots, ranks, capacity)
     if code:
         raise Error("world", code)
     return [kind(slots, number) for number in range(ranks)]

@@ -4,7 +4,7 @@
    own. No call blocks: receives, shrinks and agreements are polled, and `ulfm_turn` moves what goes out and comes in.
 
        ulfm_slot slots[4] = {{0}};
-       if (ulfm_world(slots, 4, 16, 64)) ..
+       if (ulfm_world(slots, 4, 16)) ..
        each thread: ulfm_irecv(&slots[me], 0, ULFM_ANY, 7, sizeof buffer, &request);
                     while ((code = ulfm_test(&slots[me], request, &status, buffer, sizeof buffer)) == ULFM_NOT_YET) {
                         ulfm_turn(&slots[me], &moved);
@@ -103,9 +103,8 @@ enum {
 
 /* Makes a world of `ranks` ranks, 1 to 8, in slots[0 .. ranks - 1]: slot k has the rank of world number k. Slots that have a rank are ended
    first, where the call answers 0. `capacity`, 1 to 64, is the number of places of the ring from each rank to each: what finds no place waits
-   at its sender. `rounds` is how many agreements can be made on each communicator, for which it takes 8 KB each, and 272 bytes more once one is
-   decided. 13, 12. */
-uint32_t ulfm_world(ulfm_slot *slots, size_t ranks, uint8_t capacity, uint16_t rounds);
+   at its sender. 13, 12. */
+uint32_t ulfm_world(ulfm_slot *slots, size_t ranks, uint8_t capacity);
 
 /* Ends a rank and frees what it has; the slot is all zeros then. The other ranks aren't told, and what didn't go out is lost. Nothing is if these
    come before, in this order: `ulfm_turn` until `ulfm_flushed` says 1, so that messages go out; `ulfm_stop`; `ulfm_turn` until it says 1 once
@@ -226,7 +225,7 @@ uint32_t ulfm_enter_agree(ulfm_slot *slot, uint32_t comm, uint32_t flag);
 
 /* Asks for the decision of the agreement that was entered last. 0: it is adopted. *value: the AND of the flags of all members but those in
    *missing, which failed. It is the same at all members that are told. 17: not all members that run have entered yet. 16, 1 (comm past 62), 10,
-   1, 14, 8, 11, 12 (also where the world's `rounds` are used up, and then at each later poll). */
+   1, 14, 8, 11, 12. */
 uint32_t ulfm_poll_agree(ulfm_slot *slot, uint32_t comm, uint32_t *value, ulfm_group *missing);
 
 #ifdef __cplusplus

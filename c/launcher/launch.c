@@ -111,7 +111,7 @@ static void keep_memory(void) {
 /* Makes the world, each rank in a slot that stands apart from the others': its calls write to it. The code of a refusal, or ULFM_OK. */
 uint32_t um_make_ranks(void) {
     ulfm_slot made[MAX_RANKS] = {{0}};
-    uint32_t code = ulfm_world(made, (size_t)um_options.ranks, (uint8_t)um_options.capacity, (uint16_t)um_options.rounds);
+    uint32_t code = ulfm_world(made, (size_t)um_options.ranks, (uint8_t)um_options.capacity);
     for (int k = 0; k < um_options.ranks; k++) um_ranks[k].home = made[k];
     return code;
 }

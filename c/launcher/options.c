@@ -5,7 +5,7 @@
 #include <string.h>
 #include <unistd.h>
 
-struct options um_options = {.ranks = 1, .search_stops = true, .branches = -1, .report = -1, .capacity = 64, .rounds = ROUNDS};
+struct options um_options = {.ranks = 1, .search_stops = true, .branches = -1, .report = -1, .capacity = 64};
 
 static const char usage[] =
     "ulfm-mpirun -n N [options] PROGRAM [ARGUMENT..]\n"
@@ -37,7 +37,6 @@ static const char usage[] =
     "  --limit N          with --every-schedule: at most N schedules at each place (10000)\n"
     "  --places           with --every-schedule: lists the places, one a line, and plays nothing there\n"
     "  --json             with --every-schedule: a line of JSON for each place, in place of the table\n"
-    "  --rounds N         agreements that can be made on each communicator (1024)\n"
     "  --version          tells the version\n"
     "\n"
     "Its status is 0 where each rank that wasn't stopped by plan ended with 0, else that of the first rank that did not. MPI_Abort: its code.\n"
@@ -139,7 +138,6 @@ static bool read_value(const char *word, const char *value) {
     if (!strcmp(word, "--branches")) return read_number(value, 0, 65535, &number) && (um_options.branches = (int)number) >= 0;
     if (!strcmp(word, "--draw")) return (um_options.draw = value) != 0;
     if (!strcmp(word, "--jobs")) return read_number(value, 1, 1024, &number) && (um_options.jobs = (int)number);
-    if (!strcmp(word, "--rounds")) return read_number(value, 1, 65535, &number) && (um_options.rounds = (int)number);
     if (!strcmp(word, "--report")) return read_number(value, 0, 65535, &number) && (um_options.report = (int)number) >= 0;
     return false;
 }

@@ -5,7 +5,7 @@
 #include <stdbool.h>
 #include <stdint.h>
 
-enum { MAX_STOPS = 16, ROUNDS = 1024, LIMIT = 10000 };
+enum { MAX_STOPS = 16, LIMIT = 10000 };
 
 /* Statuses of ulfm-mpirun besides those of programs. */
 enum { STATUS_USAGE = 2, STATUS_LIMIT = 3, STATUS_FATAL = 96, STATUS_OTHER = 97, STATUS_STUCK = 98, STATUS_LATE = 99 };
@@ -35,7 +35,7 @@ struct options {
     bool calls;                        /* a run for a table tells its places */
     int branches;                      /* a file with the places from which processes go on, or -1 */
     bool is_alone;                     /* the program was started by itself */
-    int jobs, report, capacity, rounds;
+    int jobs, report, capacity;
     const char *program;
     char **words;
     int count;

@@ -41,7 +41,6 @@ void um_tell_command(FILE *to, const struct place *place, bool sends_wait) {
         fputs(" --schedule", to);
         tell_word(to, um_options.schedule);
     }
-    if (um_options.rounds != ROUNDS) fprintf(to, " --rounds %d", um_options.rounds);
     tell_word(to, um_options.program);
     for (int k = 0; k < um_options.count; k++) tell_word(to, um_options.words[k]);
     fputc('\n', to);

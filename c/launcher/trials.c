@@ -63,12 +63,9 @@ static int words_of(char *words[], const char *launcher, char texts[][64], const
     words[count++] = texts[1];
     words[count++] = "--timeout";
     words[count++] = texts[2];
-    words[count++] = "--rounds";
-    words[count++] = texts[3];
     snprintf(texts[0], 64, "%d", um_options.ranks);
     snprintf(texts[1], 64, "%d", trial->files[2]);
     snprintf(texts[2], 64, "%g", um_options.timeout > 0 ? um_options.timeout : (double)SECONDS);
-    snprintf(texts[3], 64, "%d", um_options.rounds);
     if (is_place(place)) {
         words[count++] = "--stop";
         words[count++] = texts[4];

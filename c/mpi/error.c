@@ -83,7 +83,6 @@ static const struct {
     {MPIX_ERR_REVOKED, "MPIX_ERR_REVOKED: the communicator is revoked"},
     {NO_CONTEXTS, "MPI_ERR_OTHER: no context is left for a new communicator (there are 63)"},
     {NO_COLLECTIVES, "MPI_ERR_OTHER: no context is left for the collectives of this communicator"},
-    {TOO_MANY_ROUNDS, "MPI_ERR_OTHER: no memory, or no more agreements on this communicator: ulfm-mpirun --rounds"},
     {NOT_ON_PARTS, "MPI_ERR_COMM: shrink and agree need a communicator of a whole group: the world, what was shrunk, their duplicates"},
     {ONE_AT_A_TIME, "MPI_ERR_OTHER: a shrink or an agreement of this communicator isn't over yet"},
     {TAKEN_FOR_FAILED, "MPI_ERR_OTHER: the other members took this rank for failed"},

@@ -37,10 +37,7 @@ static bool is_agreed(void *of, bool is_settled) {
     return agreement->code != ULFM_NOT_YET;
 }
 
-static int code_of(uint32_t code) {
-    if (code == ULFM_ALREADY_MADE) return ONE_AT_A_TIME;
-    return code == ULFM_OUT_OF_MEMORY ? TOO_MANY_ROUNDS : um_class_of(code);
-}
+static int code_of(uint32_t code) { return code == ULFM_ALREADY_MADE ? ONE_AT_A_TIME : um_class_of(code); }
 
 /* Enters the next agreement of the engine: the AND of the words of all members but those that are missing. */
 static int enter(struct agreement *agreement, uint32_t word) {

@@ -145,19 +145,19 @@ static void orders(ulfm_slot *slot) {
 }
 
 int main(void) {
-    WANT(ulfm_world(0, 2, 4, 2), ULFM_ENDED);
-    WANT(ulfm_world(slots, 0, 4, 2), ULFM_BAD_SIZE);
-    WANT(ulfm_world(slots, 9, 4, 2), ULFM_BAD_SIZE);
-    WANT(ulfm_world(slots, 2, 0, 2), ULFM_BAD_SIZE);
-    WANT(ulfm_world(slots, 2, 65, 2), ULFM_BAD_SIZE);
+    WANT(ulfm_world(0, 2, 4), ULFM_ENDED);
+    WANT(ulfm_world(slots, 0, 4), ULFM_BAD_SIZE);
+    WANT(ulfm_world(slots, 9, 4), ULFM_BAD_SIZE);
+    WANT(ulfm_world(slots, 2, 0), ULFM_BAD_SIZE);
+    WANT(ulfm_world(slots, 2, 65), ULFM_BAD_SIZE);
     all_calls(0, ULFM_ENDED);
     calls_of_all(0, ULFM_ENDED);
     all_calls(&slots[0], ULFM_ENDED);
     calls_of_all(&slots[0], ULFM_ENDED);
     WANT(ulfm_end(0), ULFM_ENDED);
     WANT(ulfm_end(&slots[0]), ULFM_ENDED);
-    WANT(ulfm_world(slots, 2, 4, 2), 0);
-    WANT(ulfm_world(slots, 2, 4, 2), 0);
+    WANT(ulfm_world(slots, 2, 4), 0);
+    WANT(ulfm_world(slots, 2, 4), 0);
     null_outs(&slots[0]);
     edges(&slots[0]);
     refusals(&slots[0]);

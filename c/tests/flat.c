@@ -4,7 +4,7 @@
 #include <sys/resource.h>
 
 /* By at most so many kilobytes may it grow, but for decisions, each of so many bytes at most. */
-enum { TAG = 3, LONG = 3000, SOME = 1024, DECISION = 288 };
+enum { TAG = 3, LONG = 3000, SOME = 1024, DECISION = 300 };
 
 static char room[LONG];
 

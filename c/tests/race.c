@@ -63,7 +63,7 @@ static void *play(void *of) {
 static void run_once(unsigned seed) {
     pthread_t threads[MOST_ACTORS];
     atomic_store(&through, 0);
-    if (ulfm_world(slots, actor_count, capacity, rounds)) give_up("no world", 0, "");
+    if (ulfm_world(slots, actor_count, capacity)) give_up("no world", 0, "");
     for (uint32_t r = 0; r < actor_count; r++) {
         actors[r].me = r;
         actors[r].chance = seed * MOST_ACTORS + r;

@@ -40,7 +40,6 @@ struct actor {
 extern struct actor actors[MOST_ACTORS];
 extern uint32_t actor_count;
 extern uint8_t capacity;
-extern uint16_t rounds;            /* how many agreements the job has */
 
 /* The slot of a rank: each front has its own. */
 ulfm_slot *slot_of(uint32_t rank);

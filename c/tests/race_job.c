@@ -8,7 +8,6 @@ enum { WORDS = 600 };
 struct actor actors[MOST_ACTORS];
 uint32_t actor_count;
 uint8_t capacity;
-uint16_t rounds;
 
 static size_t bytes_of(const char *digits, uint8_t *bytes) {
     size_t count = 0;
@@ -62,7 +61,6 @@ void read_job(FILE *from) {
         size_t count = 0;
         for (char *word = strtok(line, " \n"); word && count < WORDS; word = strtok(0, " \n")) words[count++] = word;
         struct actor *actor = &actors[strtoul(words[0], 0, 10)];
-        rounds += !strcmp(words[1], "agree");
         read_step(&actor->steps[actor->count++], words + 1, count - 1);
     }
     free(line);

@@ -75,7 +75,7 @@ static void *rank(void *arg) {
 }
 
 int main(void) {
-    if (ulfm_world(slots, RANKS, 8, 0)) return 1;
+    if (ulfm_world(slots, RANKS, 8)) return 1;
     pthread_t t[RANKS];
     for (int i = 0; i < RANKS; i++) if (pthread_create(&t[i], 0, rank, (void *)(intptr_t)i)) return 2;
     for (int i = 0; i < RANKS; i++) pthread_join(t[i], 0);

@@ -159,7 +159,7 @@ static void refusals(void) {
 }
 
 int main(void) {
-    WANT(ulfm_world(slots, RANKS, PLACES, 4), ULFM_OK);
+    WANT(ulfm_world(slots, RANKS, PLACES), ULFM_OK);
     messages();
     turns();
     notices();

@@ -44,7 +44,7 @@ int main(void) {
     long settled = 0;
     for (int k = 0; k < WORLDS; k++) {
         uint32_t ranks = 1 + (uint32_t)k % MOST_RANKS;
-        need(ulfm_world(slots, ranks, 4, 2), "ulfm_world");
+        need(ulfm_world(slots, ranks, 4), "ulfm_world");
         pass_round(ranks);
         for (uint32_t r = 0; r < ranks; r++) need(ulfm_end(&slots[r]), "ulfm_end");
         if (k == SETTLED) settled = peak();

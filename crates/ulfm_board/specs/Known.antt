@@ -1,35 +1,44 @@
--- What a decider knows of the decisions of shrinks and agreements, by the cells of their topics.
-use Rattle.std.specs.Prelude.{◌≡◌, ◌≤◌, ℕ, suc, ◌+◌, ◌*◌, ◌-◌, ◌++◌, List, length, Option, Some, None, IfSome, IsSome, IsTrue, ◌⊎◌, replicate, slice_index_or, slice_set, All}
+-- What a decider knows of the decisions of shrinks and agreements, by the numbers of their topics.
+use Rattle.std.specs.Prelude.{◌≡◌, ℕ, suc, ◌+◌, ◌*◌, ◌/◌, ◌%◌, List, [], Option, None, Some, IfSome, is_some, All, if◌then◌else◌}
+use Rattle.std.specs.FinMap.{find, put}
+use Rattle.std.specs.Ordering.{nat_cmp}
 use Rattle.ulfm_base.specs.declared.decision.Decision.{Decision}
 use Rattle.ulfm_base.specs.declared.topic.Purpose.{Purpose}
 use Rattle.ulfm_base.specs.declared.topic.Purpose.TheVariants.{Shrink, Agree}
 use Rattle.ulfm_base.specs.declared.topic.Topic.{Topic}
-use Rattle.ulfm_base.specs.Topic.{is_agreement}
 
--- which row of cells a purpose has: shrinks have the first, and each round of agreements one of its own
-abbrev pub row_of : Purpose → ℕ
-row_of Shrink = 0
-row_of (Agree round) = suc round
+-- which turn a purpose has on its communicator: the shrink has the first, and each round of agreements one of its own
+abbrev pub turn_of : Purpose → ℕ
+turn_of Shrink = 0
+turn_of (Agree round) = suc round
 
--- the cell of a topic: each row has one for each of the contexts 0 to 62
-abbrev pub cell_of : Topic → ℕ
-cell_of topic = 63 * row_of topic.purpose + topic.context.number
+-- the number of a topic's row: each of the contexts 0 to 62 has one for each 64 turns
+abbrev pub row_of : Topic → ℕ
+row_of topic = 63 * (turn_of topic.purpose / 64) + topic.context.number
 
--- nothing is known, with cells for so many rounds of agreements
-abbrev pub nothing_known : ℕ → List (Option Decision)
-nothing_known rounds = replicate (63 * suc rounds) None
+-- the number of a topic: each row has 64
+abbrev pub number_of : Topic → ℕ
+number_of topic = 64 * row_of topic + turn_of topic.purpose % 64
+
+-- decisions by the numbers of their topics, which rise
+abbrev pub Known : Type 0
+Known = List (ℕ × Decision)
+
+-- nothing is known
+abbrev pub nothing_known : Known
+nothing_known = []
 
 -- the decision that is known on a topic, if one is
-abbrev pub known_at : List (Option Decision) → Topic → Option Decision
-known_at known topic = slice_index_or known (cell_of topic) None
+abbrev pub known_at : Known → Topic → Option Decision
+known_at known topic = find nat_cmp (number_of topic) known
 
--- the cells that are known, and empty ones up to this number of cells
-abbrev pub padded : List (Option Decision) → ℕ → List (Option Decision)
-padded known count = known ++ replicate (count - length known) None
+-- what is known, with this decision on a topic, where none was known on it
+abbrev pub with_known : Known → Topic → Decision → Known
+with_known known topic held = if is_some (known_at known topic) then known else put nat_cmp (number_of topic) held known
 
--- what is known, with this decision on a topic
-abbrev pub with_known : List (Option Decision) → Topic → Decision → List (Option Decision)
-with_known known topic held = slice_set (padded known (suc (cell_of topic))) (cell_of topic) (Some held)
+-- a decision by the number of its topic
+abbrev pub by_number : Decision → ℕ × Decision
+by_number d = (number_of d.topic, d)
 
 -- a decision is the one that was known, if one was
 abbrev pub Agrees : Option Decision → Decision → Type 0
@@ -41,15 +50,14 @@ BothAgree known other = IfSome known (λ d. IfSome other (λ e. e ≡ d))
 
 -- A decision d is handed in, and one is held from now on: the one that was known, if one was; d itself, if none was known
 -- and the cells aren't shared. It is known from now on, and nothing else changes.
-pub record Answers (board : Option (List ℕ)) (old : List (Option Decision)) (d held : Decision) (new : List (Option Decision)) : Type 0 where
+pub record Answers (board : Option (List ℕ)) (old : Known) (d held : Decision) (new : Known) : Type 0 where
   pub as_before : Agrees (known_at old d.topic) held
   pub first_stays : board ≡ None → known_at old d.topic ≡ None → held ≡ d
   pub known_now : known_at new d.topic ≡ Some held
   pub others_stay : new ≡ with_known old d.topic held
 
--- out of memory: where nothing is known on a topic, for a cell that is shared, or for one of an agreement that isn't there yet
-pub record Starves (board : Option (List ℕ)) (known : List (Option Decision)) (topic : Topic) : Type 0 where
-  pub may_grow : IsSome board ⊎ (IsTrue (is_agreement topic.purpose) × (length known ≤ cell_of topic))
+-- out of memory: nothing is known on a topic
+pub record Starves (known : Known) (topic : Topic) : Type 0 where
   pub unknown : known_at known topic ≡ None
 
 -- all are seats of one board

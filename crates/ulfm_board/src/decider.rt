@@ -1,8 +1,7 @@
 //! Who answers for the decisions of shrinks and agreements.
 ghost use Rattle.std.specs.Prelude.{◌≡◌, ℕ, List, Option, IfOk, OnErr, IsSome};
-ghost use Rattle.ulfm_base.specs.declared.decision.Decision.{Decision as Decided};
 ghost use Rattle.ulfm_base.specs.declared.topic.Topic.{Topic};
-ghost use Rattle.ulfm_board.specs.Known.{Answers, Starves, BothAgree, known_at};
+ghost use Rattle.ulfm_board.specs.Known.{Answers, BothAgree, Known, Starves, known_at};
 
 use ulfm_base::{Decision, OutOfMemory};
 
@@ -11,8 +10,8 @@ pub trait Decider: Drop {
     /// The names of the cells that it shares with others. `None`: it shares none.
     ghost board: { Self → Option (List ℕ) };
 
-    /// By the cells of topics, the decision that it knows on each, if it knows one.
-    ghost known: { Self → List (Option Decided) };
+    /// By the numbers of topics, the decisions that it knows.
+    ghost known: { Self → Known };
 
     /// Hands a decision in, and answers the one that it knows on this topic from now on: the one that it knew, else, if it
     /// shares no cell, this one. That a decider which shares its cells answers the first decision that was handed in at them
@@ -20,12 +19,11 @@ pub trait Decider: Drop {
     ///
     /// # Errors
     ///
-    /// `OutOfMemory` where it knew no decision on this topic, its cells are shared or it is an agreement whose cell isn't there
-    /// yet, and a growth was refused or the board has no cell for its round.
+    /// `OutOfMemory` where it knew no decision on this topic, and a growth was refused or the board has as many rows as may be.
     fn decide(&mut self, decision: Decision) -> Result<Decision, OutOfMemory>
         ensures board { board self.new ≡ board self.old }
         ensures answers { IfOk result (λ held. Answers (board self.old) (known self.old) decision held (known self.new)) }
-        ensures starves { OnErr result (Starves (board self.old) (known self.old) decision.topic) }
+        ensures starves { OnErr result (Starves (known self.old) decision.topic) }
         ensures unchanged { OnErr result (known self.new ≡ known self.old) };
 
     /// Two that share their cells know no two decisions on one topic. It changes nothing, and never answers out of memory.

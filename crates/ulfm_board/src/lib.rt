@@ -4,6 +4,11 @@
 //!
 //!     let held = decider.decide(decision)?;
 //!
+//! Nothing is taken from the start. The board that threads share is a register of rows, each of the cells of one communicator for 64 of its
+//! turns: its shrink, and its agreements. The first decision that is handed in on such a turn puts the row into the register's first free slot.
+//! Each slot is set once: of seats that want one at once the first gets it. Another takes that row if it is the one that it wants, and else goes
+//! on to the next slot. If no memory is found for a row, the register is as it was, and nothing is known.
+//!
 //! It promises:
 //!
 //! - [`Decider`], `decide` (`answers`, `unchanged`, `starves`): a decider answers always what it answered first (`Answers`, Known.antt). If it knew
@@ -13,18 +18,24 @@
 //!
 //! Files:
 //!
-//! - `decider.rt`: the contract of both; `seat.rt`: the board that threads share; `memory.rt`: that of one owner; `cells.rt`: which cell a topic has
+//! - `decider.rt`: the contract of both; `seat.rt`: the board that threads share; `memory.rt`: that of one owner; `number.rt`: which row and which
+//!   cell a topic has
+//! - of the board that threads share: `register.rt`: its slots; `row.rt`: a row; `trail.rt`: what a seat knows of them; `comparing.rt`: what two know
 //!
 //! Not here: that a decision was proposed, or is true. It is tested, not proved, that the seats of one board answer the first decision that was
 //! handed in.
 #![tactic(auto)]
 
-mod cells;
+mod comparing;
 mod decider;
 mod memory;
+mod number;
+mod register;
+mod row;
 mod seat;
+mod trail;
 
-pub use cells::place_of;
 pub use decider::Decider;
 pub use memory::MemoryBoard;
+pub use number::number_of;
 pub use seat::{Seat, seats};

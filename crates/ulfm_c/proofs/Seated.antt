@@ -1,11 +1,11 @@
 -- Seats, and the processes that have them.
 use Rattle.std.proofs.Common.{◌≡◌, ℕ, zero, suc, List, [], ◌∷◌, ◌++◌, map, subst, sym, arith, All, Option}
-use Rattle.ulfm_base.specs.declared.decision.Decision.{Decision}
+use Rattle.ulfm_board.specs.Known.{Known}
 use Rattle.ulfm_board.specs.contracts.seat.SeatDecider.TheImpl.{ghosts}
 use Rattle.ulfm_board.specs.declared.seat.Seat.{Seat}
 
 -- what a seat is of, and what it knows
-abbrev pub in_seat : Seat → Option (List ℕ) × List (Option Decision)
+abbrev pub in_seat : Seat → Option (List ℕ) × Known
 in_seat s = (ghosts.board s, ghosts.known s)
 
 -- what holds of each seat holds of each process that has one

@@ -1,10 +1,10 @@
 -- How the decision of a shrink or an agreement is asked for and adopted.
-use Rattle.std.specs.Prelude.{◌≡◌, false, List, Option, ◌⊎◌}
+use Rattle.std.specs.Prelude.{◌≡◌, false, ◌⊎◌}
 use Rattle.ulfm_base.specs.declared.decision.Decision.{Decision}
 use Rattle.ulfm_base.specs.declared.error.CallError.{CallError}
 use Rattle.ulfm_base.specs.declared.error.CallError.TheVariants.{OutOfMemory}
 use Rattle.ulfm_base.specs.declared.topic.Topic.{Topic}
-use Rattle.ulfm_board.specs.Known.{Answers, Starves}
+use Rattle.ulfm_board.specs.Known.{Answers, Known, Starves}
 use Rattle.ulfm_log.specs.declared.entry.Entry.TheVariants.{Adopted}
 use Rattle.ulfm_rank.specs.Checks.{Passes, Fails, FailsOrStarves, group_at, adopt_checks, proposal_checks}
 use Rattle.ulfm_log.specs.Proposal.{IsProposal, has_proposal}
@@ -12,7 +12,7 @@ use Rattle.ulfm_log.specs.State.{logged}
 use Rattle.ulfm_c.specs.View.{ProcessView, with_rank}
 
 -- the process with other decisions that its seat knows
-abbrev pub with_known : ProcessView → List (Option Decision) → ProcessView
+abbrev pub with_known : ProcessView → Known → ProcessView
 with_known p known = record { rank = p.rank; end = p.end; board = p.board; known = known }
 
 -- what the rank proposes on a topic
@@ -26,7 +26,7 @@ pub record Waits (old new : ProcessView) (topic : Topic) : Type 0 where
   pub only : new ≡ old
 
 -- the rank's proposal was handed in, and this is the decision that the board holds
-pub record IsHeld (old : ProcessView) (topic : Topic) (held : Decision) (later : List (Option Decision)) : Type 0 where
+pub record IsHeld (old : ProcessView) (topic : Topic) (held : Decision) (later : Known) : Type 0 where
   pub proposal : Decision
   pub proposed : Proposes old topic proposal
   pub board_answers : Answers old.board old.known proposal held later
@@ -47,7 +47,7 @@ pub record FindsNoMemory (old new : ProcessView) (topic : Topic) (e : CallError)
   pub accepted : Passes (proposal_checks old.rank topic)
   pub proposal : Decision
   pub proposed : Proposes old topic proposal
-  pub starves : Starves old.board old.known proposal.topic
+  pub starves : Starves old.known proposal.topic
   pub starved : e ≡ OutOfMemory
   pub only : new ≡ old
 

@@ -1,6 +1,6 @@
 -- What contracts see of a process.
 use Rattle.std.specs.Prelude.{ℕ, Bool, List, Option, vec_len}
-use Rattle.ulfm_base.specs.declared.decision.Decision.{Decision}
+use Rattle.ulfm_board.specs.Known.{Known}
 use Rattle.ulfm_carrier.specs.declared.lane_ends.LaneEnds.{LaneEnds}
 use Rattle.ulfm_carrier.specs.Lanes.{IsReady, lane_pushed, lane_taken}
 use Rattle.ulfm_rank.specs.Joined.{IsJoined}
@@ -11,7 +11,7 @@ pub record ProcessView : Type 0 where
   pub rank : State
   pub end : LaneEnds
   pub board : Option (List ℕ)
-  pub known : List (Option Decision)
+  pub known : Known
 
 -- A process, and whether its rank has room for one item or one call, of which 'unchanged' doesn't speak.
 pub record ReadyView : Type 0 where

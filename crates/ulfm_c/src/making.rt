@@ -13,19 +13,18 @@ use ulfm_base::CallError;
 use ulfm_board::{Decider, Seat, seats};
 use ulfm_carrier::{LaneEnds, lanes};
 
-/// The processes of a world of `ranks`, by their numbers, with a ring of `capacity` places for each ordered pair, and one board, which has
-/// a cell for the shrink of each communicator and one for each of its first `rounds` agreements.
+/// The processes of a world of `ranks`, by their numbers, with a ring of `capacity` places for each ordered pair, and one board.
 ///
 /// # Errors
 ///
 /// `BadSize` where `ranks` isn't 1 to 8 or `capacity` isn't 1 to 64, else `OutOfMemory` where a growth was refused.
-pub fn world(alloc: Global, ranks: u8, capacity: u8, rounds: u16) -> Result<Vec<Process>, CallError>
+pub fn world(alloc: Global, ranks: u8, capacity: u8) -> Result<Vec<Process>, CallError>
     ensures sizes { OnOk result ((1 ≤ ranks) × (ranks ≤ 8) × (1 ≤ capacity) × (capacity ≤ 64)) }
-    ensures world { IfOk result (λ all. IsWorld ranks capacity rounds all.items) }
+    ensures world { IfOk result (λ all. IsWorld ranks capacity all.items) }
     ensures refused { IfErr result (λ error. (error ≡ CallError.BadSize) × ((ranks ≡ 0) ⊎ (8 < ranks) ⊎ (capacity ≡ 0) ⊎ (64 < capacity)) ⊎ (error ≡ CallError.OutOfMemory) × (1 ≤ ranks) × (ranks ≤ 8) × (1 ≤ capacity) × (capacity ≤ 64)) }
 {
     let ends = lanes(alloc, ranks, capacity)?;
-    let seats = seats(alloc, ranks, rounds)?;
+    let seats = seats(alloc, ranks)?;
     let all = seated(alloc, ends, seats, ranks)?;
     Ok(all)
 }

@@ -43,18 +43,13 @@ fn fill(alloc: Global, handles: &mut [Handle], boxes: Vec<Box<Process>>)
 
 /// Makes a world, with a process for each handle.
 #[unsafe(no_mangle)]
-pub extern "C" fn ulfm_c_world(
-    alloc: Global,
-    handles: &mut [Handle],
-    capacity: u8,
-    rounds: u16,
-) -> u32
-    ensures { WorldCall handles.old handles.new capacity rounds result }
+pub extern "C" fn ulfm_c_world(alloc: Global, handles: &mut [Handle], capacity: u8) -> u32
+    ensures { WorldCall handles.old handles.new capacity result }
 {
     if handles.len() > RANK_PLACES {
         return 13;
     }
-    let processes = match world(alloc, handles.len() as u8, capacity, rounds) {
+    let processes = match world(alloc, handles.len() as u8, capacity) {
         Ok(processes) => processes,
         Err(error) => return number_of(error),
     };

@@ -4,7 +4,7 @@ use Rattle.std.proofs.lemmas.List.{length-map, map-append, get_or_append_left, g
 use Rattle.std.proofs.Math.Seq.{map-set_same}
 use Rattle.ulfm_base.specs.declared.decision.Decision.{Decision}
 use Rattle.ulfm_base.specs.declared.topic.Topic.{Topic}
-use Rattle.ulfm_board.specs.Known.{BothAgree, known_at, OneBoard}
+use Rattle.ulfm_board.specs.Known.{BothAgree, Known, OneBoard, known_at}
 use Rattle.ulfm_run.proofs.Common.{AgreeAt, AllAgree, at, at_view, NameOneBoard, cases_eq, cases_lt, same_Some, slice_get_within, slice_get-get_or, get_or_from_slice_get}
 use Rattle.ulfm_run.proofs.Handed.{from_map}
 
@@ -50,12 +50,12 @@ module _ {D : Type 0} (all front back : List D) (i j : ℕ) (x y : D) (is : all 
       ∙ ap₂ (λ xs ys. xs ++ ys) (map-set_same f front i x' x p) (map-set_same f back 0 y' y q)
       ∙ sym (map-append f front back) ∙ ap (map f) (sym is)
 
-  pub agree_two : (known : D → List (Option Decision)) → ((c : Topic) → BothAgree (known_at (known (get_or front i x)) c) (known_at (known (get_or back 0 y)) c)) → AgreeAt (map known all) i j
+  pub agree_two : (known : D → Known) → ((c : Topic) → BothAgree (known_at (known (get_or front i x)) c) (known_at (known (get_or back 0 y)) c)) → AgreeAt (map known all) i j
   agree_two known agree one other p q c =
       let same = same_Some (known (get_or front i x)) one (sym (at_view known all i (get_or front i x) first_at) ∙ p) in
       let same' = same_Some (known (get_or back 0 y)) other (sym (at_view known all j (get_or back 0 y) second_at) ∙ q) in
-      let A : List (Option Decision) → Type 0 = λ ks. BothAgree (known_at ks c) (known_at (known (get_or back 0 y)) c) in
-      subst (λ (ks : List (Option Decision)). BothAgree (known_at one c) (known_at ks c)) same' (subst A same (agree c))
+      let A : Known → Type 0 = λ ks. BothAgree (known_at ks c) (known_at (known (get_or back 0 y)) c) in
+      subst (λ (ks : Known). BothAgree (known_at one c) (known_at ks c)) same' (subst A same (agree c))
 
 agree_sym : (a b : Option Decision) → BothAgree a b → BothAgree b a
 agree_sym None None h = tt
@@ -68,12 +68,12 @@ agree_same None = tt
 agree_same (Some d) = refl
 
 -- each two agree where each agrees with each before it
-pub all_agree : (known : List (List (Option Decision))) (n : ℕ) → length known ≤ n → ((i j : ℕ) → i < j → j < n → AgreeAt known i j) → AllAgree known
+pub all_agree : (known : List Known) (n : ℕ) → length known ≤ n → ((i j : ℕ) → i < j → j < n → AgreeAt known i j) → AllAgree known
 all_agree known n end agree i j one other p q c =
     let first = slice_get_within known i one p in
     let second = slice_get_within known j other q in
     elim (cases_eq i j) [
-      | inl same ↦ subst (λ (ks : List (Option Decision)). BothAgree (known_at one c) (known_at ks c)) (same_Some one other (sym p ∙ ap (slice_get known) same ∙ q)) (agree_same (known_at one c))
+      | inl same ↦ subst (λ (ks : Known). BothAgree (known_at one c) (known_at ks c)) (same_Some one other (sym p ∙ ap (slice_get known) same ∙ q)) (agree_same (known_at one c))
       | inr apart ↦ elim (cases_lt i j) [
         | inl low ↦ agree i j low (omega (arith, second, end)) one other p q c
         | inr high ↦ agree_sym (known_at other c) (known_at one c) (agree j i (omega (arith, high, apart)) (omega (arith, first, end)) other one q p c)

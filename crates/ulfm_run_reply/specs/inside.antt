@@ -1,4 +1,3 @@
 -- What private functions and proofs cite of what is played.
 pub mod Tallied
-pub mod Cells
 pub mod Shown

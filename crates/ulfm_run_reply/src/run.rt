@@ -7,7 +7,6 @@ ghost use Rattle.ulfm_base.specs.Lists.{InPlace, at};
 ghost use Rattle.ulfm_carrier.specs.Lanes.{known_room, lane_name, lane_pushed, lane_taken, IsReady as IsReadyLane, OneCall as OneLanesCall};
 ghost use Rattle.ulfm_carrier.specs.Shared.{inbox_capacity, shared_name, shared_pushed, shared_taken, IsReady as IsReadyShared, OneCall as OneSharedCall};
 ghost use Rattle.ulfm_board.specs.Known.{OneBoard, nothing_known};
-ghost use Rattle.ulfm_run_reply.specs.inside.Cells.{AreEnough};
 ghost use Rattle.ulfm_run_reply.specs.AnyBody.{text_in};
 ghost use Rattle.ulfm_run_reply.specs.Played.{AreOfRanks, IsRunReply, RanTo};
 ghost use Rattle.ulfm_run_reply.specs.inside.Shown.{IsShown};
@@ -166,11 +165,11 @@ fn fitting<E: Drop, D: Drop>(job: &Job, report: Report<E, D>) -> Result<Ran, Fai
     })
 }
 
-/// The seats of a job's ranks at one board. It has a cell for each agreement that a rank can come to, as for each shrink.
+/// The seats of a job's ranks at one board.
 fn seats_of(alloc: Global, job: &Job) -> Result<Vec<Seat>, CallError>
     ensures each { IfOk result (λ seats. vec_len seats ≡ job.now.ranks) }
     ensures one_board { IfOk result (λ seats. OneBoard ⟦<Seat as Decider>⟧.board seats.items) }
-    ensures cells { IfOk result (λ seats. (rounds : ℕ) × AreEnough job.now rounds × All (λ seat. ⟦<Seat as Decider>⟧.known seat ≡ nothing_known rounds) seats.items) }
+    ensures nothing_known { IfOk result (λ seats. All (λ seat. ⟦<Seat as Decider>⟧.known seat ≡ nothing_known) seats.items) }
 {
-    seats(alloc, job.ranks(), job.rounds())
+    seats(alloc, job.ranks())
 }

@@ -1,8 +1,7 @@
 -- What a decision makes of a player whose answers are right.
 use Rattle.std.proofs.Common.{◌≡◌, ◌≢◌, ℕ, List, length, ap, sym, subst, ◌∙◌, inl, inr, ◌⊎◌, true, false, Option, Some, is_some}
-use Rattle.ulfm_board.specs.Known.{Answers as BoardAnswers, Agrees, cell_of, known_at}
-use Rattle.ulfm_board.proofs.Apart.{cells_apart}
-use Rattle.ulfm_board.proofs.Topics.{known_other}
+use Rattle.ulfm_board.specs.Known.{Answers as BoardAnswers, Agrees, known_at, number_of}
+use Rattle.ulfm_board.proofs.Topics.{known_other, topics_apart}
 use Rattle.ulfm_script.proofs.Common.{AnswersFollowSoFar, Context, Topic, Decision, is_stopped, Learns, Player, same_Some, StandsOpen, Step, State, step_report, StepAnswer, cases_eq}
 use Rattle.ulfm_script.specs.Deciding.{Known, AnswersDecision, IsDecided}
 use Rattle.ulfm_script.specs.Answered.{EntersBetween, AdoptsKnown, LacksMemory, by_decision}
@@ -19,9 +18,9 @@ pub agreed : (o : Option Decision) (held d : Decision) → Agrees o held → o �
 agreed o held d h e = rw e at h
 
 pub keeps-answered : (board : Option (List ℕ)) (old : Known) (d held : Decision) (new : Known) → BoardAnswers board old d held new → (c : Topic) (x : Decision) → known_at old c ≡ Some x → known_at new c ≡ Some x
-keeps-answered board old d held new h c x was = elim (cases_eq (cell_of c) (cell_of d.topic)) [
+keeps-answered board old d held new h c x was = elim (cases_eq (number_of c) (number_of d.topic)) [
   | inl same ↦
-      let topic = cells_apart c d.topic same in
+      let topic = topics_apart c d.topic same in
       let here : known_at old d.topic ≡ Some x = ap (known_at old) (sym topic) ∙ was in
       ap (known_at new) topic ∙ h.known_now ∙ ap (λ (y : Decision). Some y) (sym (agreed (known_at old d.topic) held x h.as_before here))
   | inr other ↦ ap (λ (k : Known). known_at k c) h.others_stay ∙ known_other old c d.topic held other ∙ was
@@ -33,7 +32,7 @@ learns-decided board known later r to end asked answer new h entered = elim h.ou
   | inl a ↦ record {
     keeps = keeps-answered board known h.proposal a.held later a.board_answers;
     same = λ other topic from at e up.
-        let apart : cell_of topic ≢ cell_of h.proposal.topic = λ same. entered-once r other asked topic h.topic from at to end e up entered (cells_apart topic h.proposal.topic same ∙ h.proposed.about) in
+        let apart : number_of topic ≢ number_of h.proposal.topic = λ same. entered-once r other asked topic h.topic from at to end e up entered (topics_apart topic h.proposal.topic same ∙ h.proposed.about) in
         ap (λ (k : Known). known_at k topic) a.board_answers.others_stay ∙ known_other known topic h.proposal.topic a.held apart;
   }
   | inr s ↦ record {

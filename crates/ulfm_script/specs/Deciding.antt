@@ -8,6 +8,7 @@ use Rattle.ulfm_base.specs.declared.topic.Topic.{Topic}
 use Rattle.ulfm_base.specs.Context.{shrink_of}
 use Rattle.ulfm_base.specs.Decision.{left_out}
 use Rattle.ulfm_base.specs.Group.{rank_in}
+pub use Rattle.ulfm_board.specs.Known.{Known}
 use Rattle.ulfm_board.specs.Known.{Answers as BoardAnswers, Starves}
 use Rattle.ulfm_log.specs.declared.entry.Entry.{Entry}
 use Rattle.ulfm_log.specs.declared.entry.Entry.TheVariants.{Adopted}
@@ -23,10 +24,6 @@ use Rattle.ulfm_script.specs.declared.called.Decided.{Decided}
 use Rattle.ulfm_script.specs.declared.called.Decided.TheVariants.{Answered, NotReady}
 use Rattle.ulfm_script.specs.Calls.{Refuses}
 use Rattle.ulfm_script.specs.Player.{Player, with_rank, answered}
-
--- what a decider knows, by the cells of topics
-abbrev pub Known : Type 0
-Known = List (Option Decision)
 
 -- what a step that was entered is decided on: the shrink of its communicator, or the agreement on it that the rank entered last
 abbrev pub topic_of : List Entry → Step → Option Topic
@@ -63,9 +60,9 @@ pub record AdoptsBoardDecision (board : Option (List ℕ)) (known later : Known)
   pub adoption : AnswersAdoption r asked topic held answer new
 
 -- the board found no memory, and nothing changes
-pub record BoardStarves (board : Option (List ℕ)) (known later : Known) (proposal : Decision) (r : State)
+pub record BoardStarves (known later : Known) (proposal : Decision) (r : State)
     (answer : StepAnswer) (new : State) : Type 0 where
-  pub starves : Starves board known proposal.topic
+  pub starves : Starves known proposal.topic
   pub known_stay : later ≡ known
   pub refused : answer ≡ Refused OutOfMemory
   pub rank_stays : new ≡ r
@@ -80,7 +77,7 @@ pub record AnswersDecision (board : Option (List ℕ)) (known later : Known) (r 
   pub proposal : Decision
   pub proposed : IsProposal r.ranks r.me r.log topic proposal
   pub outcome : AdoptsBoardDecision board known later proposal r asked topic answer new
-      ⊎ BoardStarves board known later proposal r answer new
+      ⊎ BoardStarves known later proposal r answer new
 
 -- a rank has a proposal on a topic
 pub record HasProposal (r : State) (topic : Topic) : Type 0 where
@@ -93,11 +90,11 @@ pub record IsReady (r : State) (asked : Step) : Type 0 where
   pub about : topic_of r.log asked ≡ Some topic
   pub proposes : HasProposal r topic
 
--- the board finds no memory for the decision of a step
-pub record LacksCell (board : Option (List ℕ)) (known : Known) (r : State) (asked : Step) : Type 0 where
+-- the board knows no decision of a step
+pub record KnowsNone (known : Known) (r : State) (asked : Step) : Type 0 where
   pub topic : Topic
   pub about : topic_of r.log asked ≡ Some topic
-  pub starves : Starves board known topic
+  pub starves : Starves known topic
 
 -- a shrink of this communicator or an agreement on it stands open, and has a proposal
 pub record IsReadyToDecide (p : Player) (comm : Context) : Type 0 where

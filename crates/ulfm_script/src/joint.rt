@@ -6,7 +6,7 @@ ghost use Rattle.ulfm_base.specs.declared.topic.Topic.{Topic};
 ghost use Rattle.ulfm_job.specs.declared.step.Step.TheVariants.{Shrink, Agree};
 ghost use Rattle.ulfm_log.specs.Proposal.{last_agreement};
 ghost use Rattle.ulfm_script.specs.Calls.{AnswersEntry, EntersSome};
-ghost use Rattle.ulfm_script.specs.Deciding.{AnswersAdoption, AnswersDecision, HasProposal, IsReady, LacksCell, topic_of};
+ghost use Rattle.ulfm_script.specs.Deciding.{AnswersAdoption, AnswersDecision, HasProposal, IsReady, KnowsNone, topic_of};
 ghost use Rattle.ulfm_script.specs.inside.Joint.{Proposed, ProposedOn};
 ghost use Rattle.ulfm_script.specs.inside.Underway.{KeepsRoom};
 
@@ -58,7 +58,7 @@ pub fn decide<D: Decider>(
     ensures rank_stays { IfNone result (rank.new ≡ rank.old) }
     ensures known_stay { IfNone result (D.known board.new ≡ D.known board.old) }
     ensures board { D.board board.new ≡ D.board board.old }
-    ensures room_lacked { IfSome result (λ answer. answer ≡ StepAnswer.Refused CallError.OutOfMemory → IsTrue rank.old.prepared → LacksCell (D.board board.old) (D.known board.old) rank.old.state step.now) }
+    ensures room_lacked { IfSome result (λ answer. answer ≡ StepAnswer.Refused CallError.OutOfMemory → IsTrue rank.old.prepared → KnowsNone (D.known board.old) rank.old.state step.now) }
     ensures keeps_room { KeepsRoom rank.old rank.new }
 {
     let proposal = proposal(rank, step)?;

@@ -53,7 +53,7 @@ fn answers_by_size(
 
 #[test]
 fn seats_of_one_board(rt: HostRuntime) -> Result<(), Fail> {
-    let mut all = seats(rt.alloc(), 2, 0)?;
+    let mut all = seats(rt.alloc(), 2)?;
     for (place, context, handed_in, wanted) in [
         (0, 0, 2, 2),
         (1, 0, 3, 2),
@@ -68,6 +68,63 @@ fn seats_of_one_board(rt: HostRuntime) -> Result<(), Fail> {
             "seat {place}, context {context}, {handed_in} ranks"
         );
     }
+    Ok(())
+}
+
+// The decision of an agreement of the world's communicator: each of n ranks is excluded, and none listed.
+fn none_agreed(alloc: Global, round: u64, n: u8) -> Result<Decision, CallError> {
+    let old = Group::world(alloc, n)?;
+    let excluded = old.members();
+    let fresh = old.excluding(excluded);
+    let decision = Decision {
+        topic: Topic {
+            context: Context::WORLD,
+            purpose: Purpose::Agree { round },
+        },
+        old,
+        entries: [None; 8],
+        excluded,
+        fresh,
+        value: Some(4_294_967_295),
+    };
+    Ok(decision)
+}
+
+// Whether two seats answer what the first of them was handed, in an agreement of this round.
+fn agree_on(one: &mut Seat, other: &mut Seat, round: u64, alloc: Global) -> Result<bool, Fail> {
+    let first = none_agreed(alloc, round, 2)?;
+    let second = none_agreed(alloc, round, 3)?;
+    Ok(answers(one, first.copied(), &first)? && answers(other, second, &first)?)
+}
+
+#[test]
+fn rows_are_made_as_they_are_wanted(rt: HostRuntime) -> Result<(), Fail> {
+    let alloc = rt.alloc();
+    let (mut one, mut two, mut last) = three_seats(alloc)?;
+    for round in [
+        0u64,
+        62,
+        63,
+        64,
+        126,
+        127,
+        128,
+        1_000_000,
+        18_446_744_073_709_551_615,
+    ] {
+        assert!(rt;
+            agree_on(&mut one, &mut two, round, alloc)?,
+            "round {round}"
+        );
+    }
+    for round in 0..200u64 {
+        assert!(rt;
+            agree_on(&mut two, &mut one, round, alloc)?,
+            "round {round}"
+        );
+    }
+    assert!(rt; agree_on(&mut two, &mut last, 500, alloc)?);
+    assert!(rt; answers_by_size(&mut last, 0, 4, 4, alloc)?);
     Ok(())
 }
 
@@ -100,7 +157,7 @@ fn start<R: Threads>(
 
 // Three seats of one board.
 fn three_seats(alloc: Global) -> Result<(Seat, Seat, Seat), Fail> {
-    let mut all = seats(alloc, 3, 0)?;
+    let mut all = seats(alloc, 3)?;
     let one = all.pop().ok_or("no seat")?;
     let two = all.pop().ok_or("no seat")?;
     let three = all.pop().ok_or("no seat")?;

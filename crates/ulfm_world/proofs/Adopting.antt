@@ -1,9 +1,8 @@
 -- How a decision is held and adopted.
 use Rattle.std.proofs.Common.{◌≡◌, ◌≢◌, ℕ, ◌<◌, true, false, List, [], ◌∷◌, ◌++◌, refl, ap, sym, ◌∙◌, arith, inl, inr, ◌⊎◌, Option, Some, None}
 use Rattle.ulfm_world.proofs.Common.{Topic, deciders, Decision, Entry, Adopted, is_stopped, State, Step, Player, World, player_at, rank_at, IsRunning, IsWorld, cases_eq, none-some, same_Some, All-push, CallError, OutOfMemory, is_made, members_of, StepAnswer, AnswersAdoption, Fits, IsOwn, not_foreign, adoption_adds}
-use Rattle.ulfm_board.specs.Known.{cell_of, known_at, Answers as BoardAnswers}
-use Rattle.ulfm_board.proofs.Apart.{cells_apart}
-use Rattle.ulfm_board.proofs.Topics.{known_other}
+use Rattle.ulfm_board.specs.Known.{Answers as BoardAnswers, Known, known_at, number_of}
+use Rattle.ulfm_board.proofs.Topics.{known_other, topics_apart}
 use Rattle.ulfm_rank.specs.Checks.{Passes, FailsOrStarves, group_at, adopt_checks}
 use Rattle.ulfm_log.specs.Proposal.{has_entered, has_adopted, is_foreign, IsProposal}
 use Rattle.ulfm_world.proofs.Agreed.{IsAdopted, IsHeld, Settled}
@@ -12,14 +11,14 @@ use Rattle.ulfm_world.proofs.Grown.{Moved, StillHeld, all_later}
 use Rattle.ulfm_script.proofs.Adopted.{agreed}
 
 -- what the board knew, and knows once a proposal is handed in: the one that is held, or what was known
-module _ (known later : List (Option Decision)) (proposal held : Decision) (b : BoardAnswers None known proposal held later) where
-  pub others_known : (c : Topic) → cell_of c ≢ cell_of proposal.topic → known_at later c ≡ known_at known c
-  others_known c other = ap (λ (ks : List (Option Decision)). known_at ks c) b.others_stay ∙ known_other known c proposal.topic held other
+module _ (known later : Known) (proposal held : Decision) (b : BoardAnswers None known proposal held later) where
+  pub others_known : (c : Topic) → number_of c ≢ number_of proposal.topic → known_at later c ≡ known_at known c
+  others_known c other = ap (λ (ks : Known). known_at ks c) b.others_stay ∙ known_other known c proposal.topic held other
 
   pub still_known : StillHeld known later
-  still_known c d k = elim (cases_eq (cell_of c) (cell_of proposal.topic)) [
+  still_known c d k = elim (cases_eq (number_of c) (number_of proposal.topic)) [
     | inl cell ↦
-        let same = cells_apart c proposal.topic cell in
+        let same = topics_apart c proposal.topic cell in
         ap (known_at later) same ∙ b.known_now ∙ ap Some (sym (agreed (known_at known proposal.topic) held d b.as_before (ap (known_at known) (sym same) ∙ k)))
     | inr other ↦ others_known c other ∙ k
   ]
@@ -33,8 +32,8 @@ module _ (known later : List (Option Decision)) (proposal held : Decision) (b : 
       pick (Some d) e = inl (e ∙ ap Some (agreed (known_at known proposal.topic) held d b.as_before e))
 
   pub later_cases : (c : Topic) (d : Decision) → known_at later c ≡ Some d → (known_at known c ≡ Some d) ⊎ ((d ≡ held) × (c ≡ proposal.topic))
-  later_cases c d k = elim (cases_eq (cell_of c) (cell_of proposal.topic)) [
-    | inl cell ↦ let same = cells_apart c proposal.topic cell in inr (same_Some d held (sym k ∙ ap (known_at later) same ∙ b.known_now), same)
+  later_cases c d k = elim (cases_eq (number_of c) (number_of proposal.topic)) [
+    | inl cell ↦ let same = topics_apart c proposal.topic cell in inr (same_Some d held (sym k ∙ ap (known_at later) same ∙ b.known_now), same)
     | inr other ↦ inl (sym (others_known c other) ∙ k)
   ]
 
@@ -85,7 +84,7 @@ module _ (n : ℕ) (w : World) (r : ℕ) (topic : Topic) (h : IsWorld w) (settle
         )
 
     -- the rank's log once it adopted or was refused
-    pub moved-adopted : (later : List (Option Decision)) (held : Decision) (b : BoardAnswers None w.decided proposal held later) (asked : Step) (answer : StepAnswer) (rank : State) (new : Player) → AnswersAdoption (rank_at w r) asked topic held answer rank → new.rank ≡ rank → new.current ≡ None → Moved n later r (player_at w r) new
+    pub moved-adopted : (later : Known) (held : Decision) (b : BoardAnswers None w.decided proposal held later) (asked : Step) (answer : StepAnswer) (rank : State) (new : Player) → AnswersAdoption (rank_at w r) asked topic held answer rank → new.rank ≡ rank → new.current ≡ None → Moved n later r (player_at w r) new
     moved-adopted later held b asked answer rank new adoption is closed =
         let log : List Entry = (rank_at w r).log in
         let ok = handed_held (held_cases w.decided later proposal held b) in

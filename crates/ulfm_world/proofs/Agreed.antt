@@ -1,6 +1,7 @@
 -- What every world keeps of its topics, and that ranks have one group for each context.
-use Rattle.std.proofs.Common.{◌≡◌, ℕ, ◌<◌, true, false, List, length, ap, sym, subst, ◌∙◌, arith, Option, Some}
+use Rattle.std.proofs.Common.{◌≡◌, ℕ, ◌<◌, true, false, List, length, ap, sym, subst, ◌∙◌, arith, Some}
 use Rattle.std.specs.Prelude.{All, ⊤}
+use Rattle.ulfm_board.specs.Known.{Known}
 use Rattle.ulfm_world.proofs.Common.{Topic, Contribution, Decision, is_member, known_at, Entry, Adopted, Player, Step, topic_of, Report, at, IsWorld, same_Some, get_or_from_slice_get, slice_get_within, group_of, own_set, Keeps, has, is_gone, AdoptOne, EntersEachOnce, World, rank_at, player_at, HasStopped, report_of, reports_in, entry_at, gone_stopped, listed_own}
 use Rattle.ulfm_log.specs.Proposal.{listed_of, has_adopted}
 use Rattle.ulfm_report_laws.proofs.OneGroup.{same_group}
@@ -8,7 +9,7 @@ use Rattle.ulfm_report_laws.proofs.Proposing.{AllKeep}
 use Rattle.ulfm_world.proofs.Read.{many_reports, report_there, report_inside, report_is, each_report, flowing-world}
 
 -- a decision that is adopted is the one that is held, and its new group has the rank
-abbrev pub IsAdopted : List (Option Decision) → ℕ → Entry → Type 0
+abbrev pub IsAdopted : Known → ℕ → Entry → Type 0
 IsAdopted decided me (Adopted d) = (known_at decided d.topic ≡ Some d) × (is_member d.fresh me ≡ true)
 IsAdopted decided me _ = ⊤
 

@@ -1,7 +1,8 @@
 -- The laws of the event that decides a step.
-use Rattle.std.proofs.Common.{◌≡◌, ℕ, ◌<◌, List, [], ◌∷◌, ◌++◌, length, refl, ap, sym, ◌∙◌, arith, inl, inr, Option, Some}
+use Rattle.std.proofs.Common.{◌≡◌, ℕ, ◌<◌, List, [], ◌∷◌, ◌++◌, length, refl, ap, sym, ◌∙◌, arith, inl, inr, Some}
 use Rattle.ulfm_world.proofs.Common.{Context, Topic, Decision, known_at, Step, IsWorld, CallError, OutOfMemory, StepAnswer, AnswersAdoption, World, player_in, player_at, rank_at, DecidesStep, Player, step_report, StepReport, Refused}
 use Rattle.std.proofs.lemmas.List.{same_from_push}
+use Rattle.ulfm_board.specs.Known.{Known}
 use Rattle.ulfm_script.proofs.Polls.{refused_adoption}
 use Rattle.ulfm_world.specs.Safe.{IsSafe, SettlesSafely, StarvesAlone}
 use Rattle.ulfm_world.proofs.Changed.{player-same}
@@ -15,7 +16,7 @@ error_of _ = OutOfMemory
 
 module _ (n : ℕ) (w : World) (r : ℕ) (comm : Context) (h : IsWorld w) (settled : Settled n w) where
   -- a decision that is held after the event was safe before it
-  pub settled_safe : {players : List Player} (later : List (Option Decision)) (topic : Topic) (d : Decision) → DecidesStep w.players w.decided r comm players later → known_at later topic ≡ Some d → IsSafe w d
+  pub settled_safe : {players : List Player} (later : Known) (topic : Topic) (d : Decision) → DecidesStep w.players w.decided r comm players later → known_at later topic ≡ Some d → IsSafe w d
   settled_safe later topic d c known =
       let i : r < n = omega (arith, c.inside, settled.size) in
       let s = c.decided.decision in
@@ -25,10 +26,10 @@ module _ (n : ℕ) (w : World) (r : ℕ) (comm : Context) (h : IsWorld w) (settl
               | inl was ↦ held-safe n w settled (settled.held topic d was)
               | inr now ↦ rw now.0 (held-safe n w settled (handed_held n w r s.topic h settled i c.running s.proposal s.proposed (held_cases w.decided later s.proposal a.held a.board_answers)))
             ]
-        | inr b ↦ held-safe n w settled (settled.held topic d (ap (λ (ks : List (Option Decision)). known_at ks topic) (sym b.known_stay) ∙ known))
+        | inr b ↦ held-safe n w settled (settled.held topic d (ap (λ (ks : Known). known_at ks topic) (sym b.known_stay) ∙ known))
       ]
 
-  pub settled_starves : (players : List Player) (later : List (Option Decision)) (asked : Step) (e : CallError) (at polls : ℕ) → DecidesStep w.players w.decided r comm players later → (player_in players r).done ≡ (player_at w r).done ++ step_report asked (Refused e) at polls ∷ [] → e ≡ OutOfMemory
+  pub settled_starves : (players : List Player) (later : Known) (asked : Step) (e : CallError) (at polls : ℕ) → DecidesStep w.players w.decided r comm players later → (player_in players r).done ≡ (player_at w r).done ++ step_report asked (Refused e) at polls ∷ [] → e ≡ OutOfMemory
   settled_starves players later asked e at polls c refused =
       let i : r < n = omega (arith, c.inside, settled.size) in
       let s = c.decided.decision in
@@ -46,7 +47,7 @@ module _ (n : ℕ) (w : World) (r : ℕ) (comm : Context) (h : IsWorld w) (settl
       ]
 
   -- a decision is refused only for want of memory
-  pub decided_starves : (players : List Player) (later : List (Option Decision)) (c : DecidesStep w.players w.decided r comm players later) (e : CallError) → c.decided.answer ≡ Refused e → e ≡ OutOfMemory
+  pub decided_starves : (players : List Player) (later : Known) (c : DecidesStep w.players w.decided r comm players later) (e : CallError) → c.decided.answer ≡ Refused e → e ≡ OutOfMemory
   decided_starves players later c e is =
       settled_starves players later c.decided.asked e (length (rank_at w r).log) (player_at w r).polls c
       (ap (λ (ps : List Player). (player_in ps r).done) c.only ∙ ap (λ (p : Player). p.done) (player-same w.players r r c.after refl c.inside) ∙ ap (λ (p : Player). p.done) c.decided.only

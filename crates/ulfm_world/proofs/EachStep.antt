@@ -1,9 +1,10 @@
 -- What holds of each answer as it is given holds of all, in every schedule.
-use Rattle.std.proofs.Common.{◌≡◌, ℕ, ◌<◌, ◌≤◌, List, length, set, subst, inl, inr, arith, All, length-set, Option}
+use Rattle.std.proofs.Common.{◌≡◌, ℕ, ◌<◌, ◌≤◌, List, length, set, subst, inl, inr, arith, All, length-set}
 use Rattle.std.proofs.lemmas.List.Elements.{All-get_or}
+use Rattle.ulfm_board.specs.Known.{Known}
 use Rattle.ulfm_script.specs.Calls.{AnswersStep}
 use Rattle.ulfm_answer.specs.declared.answer.StepAnswer.TheVariants.{Unfinished, Skipped}
-use Rattle.ulfm_world.proofs.Common.{All-nil, All-push, Call, CallError, Context, Decide, Decision, DecidesStep, Event, GivesUpStep, Happens, IsCalled, IsWorld, Leave, OutOfMemory, Player, Push, Reaches, Refused, Report, Room, Skip, SkipsStep, State, Step, StepAnswer, StepReport, Take, TakeFrom, Took, World, at, get_or_from_slice_get, logged, player_at, player_in, rank_at, reports_in, slice_get_within, start_world, step_report, with_rank}
+use Rattle.ulfm_world.proofs.Common.{All-nil, All-push, Call, CallError, Context, Decide, DecidesStep, Event, GivesUpStep, Happens, IsCalled, IsWorld, Leave, OutOfMemory, Player, Push, Reaches, Refused, Report, Room, Skip, SkipsStep, State, Step, StepAnswer, StepReport, Take, TakeFrom, Took, World, at, get_or_from_slice_get, logged, player_at, player_in, rank_at, reports_in, slice_get_within, start_world, step_report, with_rank}
 use Rattle.ulfm_world.proofs.Agreed.{Settled}
 use Rattle.ulfm_world.proofs.Changed.{each_player}
 use Rattle.ulfm_world.proofs.Decided.{decided_starves}
@@ -36,7 +37,7 @@ module _ (P : StepReport → Type 0)
   each-skipped {old} asked h skipped = rw skipped.only (All-push P old.done (step_report asked Skipped (length old.rank.log) old.polls) h (passed asked (length old.rank.log) old.polls))
 
   module _ (n : ℕ) (w : World) (h : IsWorld w) (settled : Settled n w) where
-    each-decided : (r : ℕ) (comm : Context) (players : List Player) (later : List (Option Decision)) (c : DecidesStep w.players w.decided r comm players later) → All P (player_at w r).done → All P c.after.done
+    each-decided : (r : ℕ) (comm : Context) (players : List Player) (later : Known) (c : DecidesStep w.players w.decided r comm players later) → All P (player_at w r).done → All P c.after.done
     each-decided r comm players later c all =
         let d = c.decided in
         rw d.only (All-push P (player_at w r).done (step_report d.asked d.answer (length (rank_at w r).log) (player_at w r).polls) all

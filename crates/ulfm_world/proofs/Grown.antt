@@ -1,5 +1,6 @@
 -- What a world keeps of its topics when one rank does something.
-use Rattle.std.proofs.Common.{◌≡◌, ℕ, ◌<◌, true, List, [], ◌∷◌, ◌++◌, length, set, refl, ap, ◌∙◌, arith, inl, inr, ◌⊎◌, Option, Some, length-set, All}
+use Rattle.std.proofs.Common.{◌≡◌, ℕ, ◌<◌, true, List, [], ◌∷◌, ◌++◌, length, set, refl, ap, ◌∙◌, arith, inl, inr, ◌⊎◌, Some, length-set, All}
+use Rattle.ulfm_board.specs.Known.{Known}
 use Rattle.ulfm_world.proofs.Common.{Topic, Contribution, Decision, known_at, Entry, Player, World, player_in, player_at, rank_at, cases_eq, or_left, All-weaker, group_of, Fits, own_set, own_stays, Keeps, keeps-push, is_stop, is_stopped, EntersEachOnce, any-push, Adopted}
 use Rattle.ulfm_world.proofs.Changed.{player-same, player-other}
 use Rattle.ulfm_log.proofs.Grouped.{group_stays}
@@ -53,20 +54,20 @@ held-grown n w w' c d grew h = record {
 }
 
 -- one rank's change: its log grew, what it adopted is held, and it adopted no decision on the topic of its open step
-pub record Moved (n : ℕ) (decided : List (Option Decision)) (r : ℕ) (old new : Player) : Type 0 where
+pub record Moved (n : ℕ) (decided : Known) (r : ℕ) (old new : Player) : Type 0 where
   pub grows : Grows n r old.rank.log new.rank.log
   pub adopted : All (IsAdopted decided r) new.rank.log
   pub unadopted : HasNotAdopted new
 
 -- decisions that were held stay
-abbrev pub StillHeld : List (Option Decision) → List (Option Decision) → Type 0
+abbrev pub StillHeld : Known → Known → Type 0
 StillHeld decided later = (c : Topic) (d : Decision) → known_at decided c ≡ Some d → known_at later c ≡ Some d
 
-later_adopted : (decided later : List (Option Decision)) (me : ℕ) → StillHeld decided later → (e : Entry) → IsAdopted decided me e → IsAdopted later me e
+later_adopted : (decided later : Known) (me : ℕ) → StillHeld decided later → (e : Entry) → IsAdopted decided me e → IsAdopted later me e
 later_adopted decided later me still (Adopted d) h = (still d.topic d h.0, h.1)
 later_adopted decided later me still _ h = tt
 
-pub all_later : (decided later : List (Option Decision)) (me : ℕ) (log : List Entry) → StillHeld decided later → All (IsAdopted decided me) log → All (IsAdopted later me) log
+pub all_later : (decided later : Known) (me : ℕ) (log : List Entry) → StillHeld decided later → All (IsAdopted decided me) log → All (IsAdopted later me) log
 all_later decided later me log still all = All-weaker (IsAdopted decided me) (IsAdopted later me) (later_adopted decided later me still) log all
 
 -- a change of one player, in which each decision that is held then may be held before

@@ -1,5 +1,6 @@
 -- What a player's log and its answered steps become, where each entry is due.
-use Rattle.std.proofs.Common.{◌≡◌, ℕ, ◌<◌, Bool, true, false, cond, List, [], ◌∷◌, ◌++◌, length, set, refl, ap, sym, subst, ◌∙◌, arith, inl, inr, ◌⊎◌, Option, Some, length-set, append-nil, length-append}
+use Rattle.std.proofs.Common.{◌≡◌, ℕ, ◌<◌, Bool, true, false, cond, List, [], ◌∷◌, ◌++◌, length, set, refl, ap, sym, subst, ◌∙◌, arith, inl, inr, ◌⊎◌, Some, length-set, append-nil, length-append}
+use Rattle.ulfm_board.specs.Known.{Known}
 use Rattle.ulfm_log.specs.declared.entry.Entry.TheVariants.{Entered}
 use Rattle.ulfm_script.specs.Calls.{AnswersStep}
 use Rattle.ulfm_script.proofs.Polls.{answers_plain, opens_adds}
@@ -27,7 +28,7 @@ abbrev pub Made : List Player → Decision → Type 0
 Made players d = IsMade (length players) (log_in players) (log_in players) (steps_in players) d
 
 -- the logs of players have one order, and each decision that is held was proposed
-pub record HaveOrder (players : List Player) (decided : List (Option Decision)) : Type 0 where
+pub record HaveOrder (players : List Player) (decided : Known) : Type 0 where
   pub ordered : AreOrdered (length players) (log_in players) (steps_in players)
   pub held : (topic : Topic) (d : Decision) → known_at decided topic ≡ Some d → Made players d
 
@@ -79,7 +80,7 @@ ordered-set players r p g o =
     }))
 
 -- where nothing is decided
-pub order-set : (players : List Player) (decided : List (Option Decision)) (r : ℕ) (p : Player) → IsGrown players r p → HaveOrder players decided → HaveOrder (set players r p) decided
+pub order-set : (players : List Player) (decided : Known) (r : ℕ) (p : Player) → IsGrown players r p → HaveOrder players decided → HaveOrder (set players r p) decided
 order-set players decided r p g h = record { ordered = ordered-set players r p g h.ordered; held = λ topic d known. made-set players r p g (h.held topic d known) }
 
 -- an entry by a call takes and adopts nothing

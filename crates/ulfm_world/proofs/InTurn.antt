@@ -1,7 +1,8 @@
 -- A step that is decided keeps one order: its decision was proposed.
-use Rattle.std.proofs.Common.{◌≡◌, ℕ, ◌++◌, List, [], ◌∷◌, length, set, refl, ap, sym, subst, ◌∙◌, arith, inl, inr, ◌⊎◌, Option, Some, append-nil, length-append, take}
+use Rattle.std.proofs.Common.{◌≡◌, ℕ, ◌++◌, List, [], ◌∷◌, length, set, refl, ap, sym, subst, ◌∙◌, arith, inl, inr, ◌⊎◌, Some, append-nil, length-append, take}
 use Rattle.std.proofs.Math.Seq.{take-length}
 use Rattle.ulfm_base.proofs.Longer.{get_here}
+use Rattle.ulfm_board.specs.Known.{Known}
 use Rattle.ulfm_log.specs.Proposal.{IsProposal}
 use Rattle.ulfm_answer.specs.declared.answer.StepAnswer.TheVariants.{Agreed, Shrunk}
 use Rattle.ulfm_script.specs.Deciding.{topic_of}
@@ -23,7 +24,7 @@ adoption_cases r asked topic held (Refused e) new h = inl (e, refl, h.1)
 adoption_cases r asked topic held _ new h = absurd h
 
 -- the player r decides a step
-module _ (n : ℕ) (w : World) (r : ℕ) (comm : Context) (players : List Player) (later : List (Option Decision)) (h : IsWorld w) (settled : Settled n w) (all : HaveOrder w.players w.decided) (c : DecidesStep w.players w.decided r comm players later) where
+module _ (n : ℕ) (w : World) (r : ℕ) (comm : Context) (players : List Player) (later : Known) (h : IsWorld w) (settled : Settled n w) (all : HaveOrder w.players w.decided) (c : DecidesStep w.players w.decided r comm players later) where
   abbrev new : List Player
   new = set w.players r c.after
 

@@ -1,6 +1,7 @@
 -- Players with their places, and a change of one of them.
-use Rattle.std.proofs.Common.{◌≡◌, ◌≢◌, ℕ, ◌<◌, List, [], ◌∷◌, ◌++◌, length, take, drop, get_or, set, ap, sym, subst, ◌∙◌, arith, take_all, append-nil, Option}
-use Rattle.ulfm_world.proofs.Common.{WorldRank, Decision, Item, Took, logged, GoesOut, IsPosted, items_from, All-head, World, player_in, no_player, with_inbox, with_players, Pushes, Takes, Player, PlayerView, with_rank, map-set, get_or-map, set-get_or, length-map, drop_all, get_or_default, Room, HasRoom}
+use Rattle.std.proofs.Common.{◌≡◌, ◌≢◌, ℕ, ◌<◌, List, [], ◌∷◌, ◌++◌, length, take, drop, get_or, set, ap, sym, subst, ◌∙◌, arith, take_all, append-nil}
+use Rattle.ulfm_board.specs.Known.{Known}
+use Rattle.ulfm_world.proofs.Common.{WorldRank, Item, Took, logged, GoesOut, IsPosted, items_from, All-head, World, player_in, no_player, with_inbox, with_players, Pushes, Takes, Player, PlayerView, with_rank, map-set, get_or-map, set-get_or, length-map, drop_all, get_or_default, Room, HasRoom}
 use Rattle.ulfm_world.specs.Parts.{the_player, players_of, parts}
 use Rattle.ulfm_world.specs.inside.Steps.{AreParts, HandsOver, IsHeldBack, IsLivePlayer}
 use Rattle.ulfm_log.specs.State.{outbox}
@@ -35,14 +36,14 @@ players-same views r v d h same =
 pub lent_whole : {X : Type 0} → (xs ys : List X) (n : ℕ) → length ys ≡ length xs → n ≡ length xs → take n (ys ++ drop (length ys) xs) ≡ ys
 lent_whole xs ys n l m = rw (drop_all (length ys) xs (omega arith)) (ap (take n) (append-nil ys) ∙ take_all n ys (omega arith))
 
-pub same_parts : (views views' : List PlayerView) (inboxes inboxes' : List (List (WorldRank × Item))) (room : Room) (decided decided' : List (Option Decision)) → players_of views' ≡ players_of views → inboxes' ≡ inboxes → decided' ≡ decided → parts views' inboxes' room decided' ≡ parts views inboxes room decided
+pub same_parts : (views views' : List PlayerView) (inboxes inboxes' : List (List (WorldRank × Item))) (room : Room) (decided decided' : Known) → players_of views' ≡ players_of views → inboxes' ≡ inboxes → decided' ≡ decided → parts views' inboxes' room decided' ≡ parts views inboxes room decided
 same_parts views views' inboxes inboxes' room decided decided' p q e =
     ap (λ (ps : List Player). let w : World = record { players = ps; inboxes = inboxes'; room = room; decided = decided' } in w) p
     ∙ ap (λ (is : List (List (WorldRank × Item))). let w : World = record { players = players_of views; inboxes = is; room = room; decided = decided' } in w) q
-    ∙ ap (λ (ds : List (Option Decision)). let w : World = record { players = players_of views; inboxes = inboxes; room = room; decided = ds } in w) e
+    ∙ ap (λ (ds : Known). let w : World = record { players = players_of views; inboxes = inboxes; room = room; decided = ds } in w) e
 
 -- the parts after a change of one player and one inbox
-pub parts-set : (views : List PlayerView) (inboxes : List (List (WorldRank × Item))) (room : Room) (decided : List (Option Decision)) (s d : ℕ) (v : PlayerView) (p : Player) (xs ys : List (WorldRank × Item)) →
+pub parts-set : (views : List PlayerView) (inboxes : List (List (WorldRank × Item))) (room : Room) (decided : Known) (s d : ℕ) (v : PlayerView) (p : Player) (xs ys : List (WorldRank × Item)) →
     v.player ≡ p → xs ≡ ys → parts (set views s v) (set inboxes d xs) room decided ≡ with_inbox (with_players (parts views inboxes room decided) (set (players_of views) s p)) d ys
 parts-set views inboxes room decided s d v p xs ys e f =
     ap (λ (ps : List Player). let w : World = record { players = ps; inboxes = set inboxes d xs; room = room; decided = decided } in w) (players-set views s v ∙ ap (set (players_of views) s) e)
@@ -59,7 +60,7 @@ taken_posted views {inboxes} r d passed x rest h inside found =
     All-head (IsPosted (length (players_of views))) x rest (all-parts (IsPosted (length (players_of views))) passed (x ∷ rest) all).1
 
 -- an item that was taken out of an inbox, past those of others, and that went to the log
-unfoldable pub takes_done : (views : List PlayerView) (inboxes : List (List (WorldRank × Item))) (r : ℕ) (room : Room) (decided : List (Option Decision)) (v d : PlayerView) (e passed rest left : List (WorldRank × Item)) (source : WorldRank) (item : Item) → AreParts (players_of views) inboxes → IsLivePlayer (players_of views) r →
+unfoldable pub takes_done : (views : List PlayerView) (inboxes : List (List (WorldRank × Item))) (r : ℕ) (room : Room) (decided : Known) (v d : PlayerView) (e passed rest left : List (WorldRank × Item)) (source : WorldRank) (item : Item) → AreParts (players_of views) inboxes → IsLivePlayer (players_of views) r →
     get_or inboxes r e ≡ passed ++ (source, item) ∷ rest → items_from source.number passed ≡ [] → v.player ≡ with_rank (get_or views r d).player (logged (get_or views r d).player.rank (Took source item)) → left ≡ passed ++ rest →
     Takes (parts views inboxes room decided) r passed (parts (set views r v) (set inboxes r left) room decided)
 takes_done views inboxes r room decided v d e passed rest left source item h live found others took still =
@@ -77,7 +78,7 @@ takes_done views inboxes r room decided v d e passed rest left source item h liv
     }
 
 -- an item that was handed over is pushed
-pub pushes_done : (views : List PlayerView) (inboxes : List (List (WorldRank × Item))) (s d : ℕ) (room : Room) (decided : List (Option Decision)) (v e : PlayerView) (later f : List (WorldRank × Item)) (sender : WorldRank) → length inboxes ≡ length (players_of views) → s < length views → d < length views → sender.number ≡ s →
+pub pushes_done : (views : List PlayerView) (inboxes : List (List (WorldRank × Item))) (s d : ℕ) (room : Room) (decided : Known) (v e : PlayerView) (later f : List (WorldRank × Item)) (sender : WorldRank) → length inboxes ≡ length (players_of views) → s < length views → d < length views → sender.number ≡ s →
     HandsOver (get_or views s e).player (get_or inboxes d f) room sender d v.player later → Pushes (parts views inboxes room decided) s d (parts (set views s v) (set inboxes d later) room decided)
 pushes_done views inboxes s d room decided v e later f sender many inside_s inside_d named h =
     let l = length-map views the_player in
@@ -96,7 +97,7 @@ pushes_done views inboxes s d room decided v e later f sender many inside_s insi
     }
 
 -- why nothing is pushed
-pub pushes_none : (views : List PlayerView) (inboxes : List (List (WorldRank × Item))) (s d : ℕ) (room : Room) (decided : List (Option Decision)) (e : PlayerView) (f : List (WorldRank × Item)) (why : Refused) → length inboxes ≡ length (players_of views) → s < length views → d < length views →
+pub pushes_none : (views : List PlayerView) (inboxes : List (List (WorldRank × Item))) (s d : ℕ) (room : Room) (decided : Known) (e : PlayerView) (f : List (WorldRank × Item)) (why : Refused) → length inboxes ≡ length (players_of views) → s < length views → d < length views →
     IsHeldBack (outbox (get_or views s e).player.rank d) (get_or inboxes d f) room s why → IsRefused (parts views inboxes room decided) (Push s d) why
 pushes_none views inboxes s d room decided e f why many inside_s inside_d h = cause why h
   where

@@ -1,7 +1,7 @@
 -- In every run each decision is made once, and each rank that it excludes had stopped then.
 use Rattle.std.proofs.Common.{◌≡◌, ℕ, ◌≤◌, List, [], ◌∷◌, refl, ap, sym, ◌∙◌, inl, inr, Option, Some, None}
-use Rattle.ulfm_world.proofs.Common.{Context, Topic, Decision, known_at, Event, Call, Push, Take, Decide, Leave, Skip, World, start_world, Happens, IsWorld, none-some, same_Some, Applied, Run, get_or-blank, Room, TakeFrom}
-use Rattle.ulfm_board.specs.Known.{cell_of}
+use Rattle.ulfm_world.proofs.Common.{Context, Topic, Decision, known_at, Event, Call, Push, Take, Decide, Leave, Skip, World, start_world, Happens, IsWorld, none-some, same_Some, Applied, Run, Room, TakeFrom}
+use Rattle.ulfm_board.specs.Known.{Known}
 use Rattle.ulfm_world.specs.Safe.{decided_at}
 use Rattle.ulfm_world.specs.Made.{WasMadeSafely, MadeSafely}
 use Rattle.ulfm_world.proofs.Adopting.{still_known}
@@ -14,7 +14,7 @@ use Rattle.ulfm_world.proofs.Safe.{settled-start}
 use Rattle.ulfm_world.proofs.Starts.{world-start}
 
 same_held : (w w' : World) → w'.decided ≡ w.decided → StillHeld w.decided w'.decided
-same_held w w' same c d known = ap (λ (ks : List (Option Decision)). known_at ks c) same ∙ known
+same_held w w' same c d known = ap (λ (ks : Known). known_at ks c) same ∙ known
 
 -- what is decided stays decided
 held-happens : (w : World) (event : Event) (w' : World) → Happens w event w' → StillHeld w.decided w'.decided
@@ -24,7 +24,7 @@ held-happens w (Take r) w' k = same_held w w' (ap (λ (x : World). x.decided) k.
 held-happens w (TakeFrom r s) w' k = same_held w w' (ap (λ (x : World). x.decided) k.takes.only)
 held-happens w (Decide r comm) w' k = λ c d known. ap (λ (x : World). known_at x.decided c) k.3 ∙ elim (k.2.decided.decision.outcome) [
   | inl a ↦ still_known w.decided k.1 k.2.decided.decision.proposal a.held a.board_answers c d known
-  | inr b ↦ ap (λ (ks : List (Option Decision)). known_at ks c) b.known_stay ∙ known
+  | inr b ↦ ap (λ (ks : Known). known_at ks c) b.known_stay ∙ known
 ]
 held-happens w (Leave r) w' k = same_held w w' (ap (λ (x : World). x.decided) k.2)
 held-happens w (Skip r asked) w' k = same_held w w' (ap (λ (x : World). x.decided) k.2)
@@ -45,7 +45,7 @@ record DecidedBy (w : World) (event : Event) (w' : World) (c : Topic) : Type 0 w
   pub decides : Happens w (Decide rank comm) w'
 
 undecided_still : (w w' : World) (c : Topic) {d : Decision} → w'.decided ≡ w.decided → decided_at w c ≡ None → decided_at w' c ≡ Some d → ⊥
-undecided_still w w' c {d} same none known = none-some d (sym (ap (λ (ks : List (Option Decision)). known_at ks c) same ∙ none) ∙ known)
+undecided_still w w' c {d} same none known = none-some d (sym (ap (λ (ks : Known). known_at ks c) same ∙ none) ∙ known)
 
 decides-happens : (w : World) (event : Event) (w' : World) (c : Topic) (d : Decision) → Happens w event w' → decided_at w c ≡ None → decided_at w' c ≡ Some d → DecidedBy w event w' c
 decides-happens w (Call r asked) w' c d k none known = absurd (undecided_still w w' c (ap (λ (x : World). x.decided) k.2) none known)
@@ -119,4 +119,4 @@ module _ (n : ℕ) (c : Topic) (d : Decision) where
 
 -- in each run from the start
 pub made-safely : (n : ℕ) (room : Room) (events : List Event) (w : World) → n ≤ 8 → Run (start_world n room) events w → MadeSafely (start_world n room) events w
-made-safely n room events w small k c d held = made-run n c d events w (world-start n room small) (settled-start n room) k (get_or-blank 63 (cell_of c) None) held
+made-safely n room events w small k c d held = made-run n c d events w (world-start n room small) (settled-start n room) k refl held

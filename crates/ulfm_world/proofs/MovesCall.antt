@@ -1,6 +1,7 @@
 -- What a poll moves, and a step that is given up or skipped.
 use Rattle.std.proofs.Common.{◌≡◌, ℕ, ◌<◌, ◌≤◌, true, false, cond, List, [], ◌∷◌, length, set, refl, ap, sym, subst, ◌∙◌, arith, inl, inr, ◌⊎◌, length-set, Option, Some, None, is_none, set-set}
-use Rattle.ulfm_world.proofs.Common.{Context, Decision, Step, Call, Decide, Leave, Skip, IsWorld, is_stopped, false≢true, cases_eq, World, player_in, player_at, with_players, with_player, with_decided, Happens, Reaches, IsRunning, Player, GivesUpStep, JobView, IsJob, script_at, AllAnswersFollowSoFar, Follows, Moves, weight_of, GoesThrough, is_played, ready-decided, advance-decided, IsState, Answered, NotYet, IsUndecided}
+use Rattle.ulfm_board.specs.Known.{Known}
+use Rattle.ulfm_world.proofs.Common.{Context, Step, Call, Decide, Leave, Skip, IsWorld, is_stopped, false≢true, cases_eq, World, player_in, player_at, with_players, with_player, with_decided, Happens, Reaches, IsRunning, Player, GivesUpStep, JobView, IsJob, script_at, AllAnswersFollowSoFar, Follows, Moves, weight_of, GoesThrough, is_played, ready-decided, advance-decided, IsState, Answered, NotYet, IsUndecided}
 use Rattle.ulfm_world.specs.declared.event.Outcome.{Outcome}
 use Rattle.ulfm_world.proofs.Changed.{player-same, player-other}
 use Rattle.ulfm_job.specs.Job.{turns_at}
@@ -17,7 +18,7 @@ pub weight-advances : {script : List Step} {turns n : ℕ} {old : Player} (new :
 weight-advances {n} {old} new sound size running a = omega (arith, a.falls, adds_weight n sound size running a.adds)
 
 -- what a player moves, the world moves, whatever is decided then
-pub moves-player : (j : JobView) (w : World) (r : ℕ) {p : Player} (decided : List (Option Decision)) → r < length w.players → IsWorld w → IsRunning w r → Follows j w → Advances (script_at j r) j.turns (player_at w r) p → GoesThrough j r p → (AllAnswersFollowSoFar w → AllAnswersFollowSoFar (with_decided (with_player w r p) decided)) → Reaches w (with_decided (with_player w r p) decided) → Moves j w (with_decided (with_player w r p) decided) true
+pub moves-player : (j : JobView) (w : World) (r : ℕ) {p : Player} (decided : Known) → r < length w.players → IsWorld w → IsRunning w r → Follows j w → Advances (script_at j r) j.turns (player_at w r) p → GoesThrough j r p → (AllAnswersFollowSoFar w → AllAnswersFollowSoFar (with_decided (with_player w r p) decided)) → Reaches w (with_decided (with_player w r p) decided) → Moves j w (with_decided (with_player w r p) decided) true
 moves-player j w r {p} decided i h running f a goes rightly reaches =
     let l = length-set w.players r p in
     record {

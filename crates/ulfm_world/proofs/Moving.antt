@@ -1,6 +1,7 @@
 -- What each event leaves of a world's topics.
-use Rattle.std.proofs.Common.{◌≡◌, ℕ, ◌<◌, Bool, true, false, List, [], ◌∷◌, ◌++◌, length, set, refl, ap, sym, ◌∙◌, arith, inl, inr, Option, Some, None, All}
-use Rattle.ulfm_world.proofs.Common.{Context, WorldRank, Item, Topic, topic_of, RoundsCounted, Decision, known_at, Entry, Took, has_adopted, State, logged, Step, Event, Call, Push, Take, Decide, Leave, Skip, IsWorld, false≢true, none-some, same_Some, AdoptsEntered, World, player_at, rank_at, inbox_at, with_players, with_player, with_inbox, with_decided, Calls, DecidesStep, GivesUp, Skips, Pushes, Takes, Happens, Run, Player, with_rank, answered, polled, IsFree, StaysOpen, awaits_decision, IsCalled, TakeFrom}
+use Rattle.std.proofs.Common.{◌≡◌, ℕ, ◌<◌, Bool, true, false, List, [], ◌∷◌, ◌++◌, length, set, refl, ap, sym, ◌∙◌, arith, inl, inr, Some, None, All}
+use Rattle.ulfm_board.specs.Known.{Known}
+use Rattle.ulfm_world.proofs.Common.{Context, WorldRank, Item, Topic, topic_of, RoundsCounted, known_at, Entry, Took, has_adopted, State, logged, Step, Event, Call, Push, Take, Decide, Leave, Skip, IsWorld, false≢true, none-some, same_Some, AdoptsEntered, World, player_at, rank_at, inbox_at, with_players, with_player, with_inbox, with_decided, Calls, DecidesStep, GivesUp, Skips, Pushes, Takes, Happens, Run, Player, with_rank, answered, polled, IsFree, StaysOpen, awaits_decision, IsCalled, TakeFrom}
 use Rattle.ulfm_world.proofs.Agreed.{HasNotAdopted, IsAdopted, Settled}
 use Rattle.ulfm_world.proofs.Grown.{Grows, Moved, settled-moved}
 use Rattle.ulfm_script.proofs.Fitting.{AddsPlain, Adds, answers_add, opens_add}
@@ -14,7 +15,7 @@ grows-plain n me (inl same) = inl same
 grows-plain n me (inr more) = inr (more.0, more.1, more.3)
 
 -- a change that adopts nothing
-moved-plain : (n : ℕ) (decided : List (Option Decision)) (r : ℕ) (old new : Player) → AddsPlain n r old.rank.log new.rank.log → All (IsAdopted decided r) old.rank.log → HasNotAdopted new → Moved n decided r old new
+moved-plain : (n : ℕ) (decided : Known) (r : ℕ) (old new : Player) → AddsPlain n r old.rank.log new.rank.log → All (IsAdopted decided r) old.rank.log → HasNotAdopted new → Moved n decided r old new
 moved-plain n decided r old new adds all unadopted = record { grows = grows-plain n r adds; adopted = held-plain decided n r adds all; unadopted = unadopted }
 
 closed_open : (p : Player) → p.current ≡ None → HasNotAdopted p
@@ -30,7 +31,7 @@ opened old asked o true waits (inr this) entered counted unadopted same =
     (inl (ap (λ (s : State). s.log) same), λ topic about. ap (λ (s : State). has_adopted s.log topic) same ∙ unadopted asked topic this (ap (λ (s : State). topic_of s.log asked) (sym same) ∙ about))
 opened old asked o false waits free entered counted unadopted opens = (opens_add old.done old.rank asked o counted opens, λ topic about. opened_unadopted old.done old.rank o asked topic entered counted opens about)
 
-moved-called : (n : ℕ) (decided : List (Option Decision)) (r : ℕ) {old : Player} (asked : Step) {new : Player} → old.rank.ranks ≡ n → old.rank.me ≡ r → IsFree old asked → AdoptsEntered old.rank.log → RoundsCounted old.rank.log → All (IsAdopted decided r) old.rank.log → HasNotAdopted old → IsCalled old asked new → Moved n decided r old new
+moved-called : (n : ℕ) (decided : Known) (r : ℕ) {old : Player} (asked : Step) {new : Player} → old.rank.ranks ≡ n → old.rank.me ≡ r → IsFree old asked → AdoptsEntered old.rank.log → RoundsCounted old.rank.log → All (IsAdopted decided r) old.rank.log → HasNotAdopted old → IsCalled old asked new → Moved n decided r old new
 moved-called n decided r {old} asked counted named free entered rounds all unadopted (inl a) =
     let p = answered (with_rank old a.rank) asked a.answer (length old.rank.log) in
     rw a.only (moved-plain n decided r old p (adds_at old.rank a.rank counted named (answers_add old.done old.rank asked a.answer a.rank a.answers)) all (closed_open p refl))
@@ -74,7 +75,7 @@ module _ (n : ℕ) (w : World) (h : IsWorld w) (settled : Settled n w) where
       let adds = inl same in
       rw t.only (settled-moved w (with_inbox (with_player w s p) d (inbox_at w d ++ (t.sender, t.item) ∷ [])) settled i refl (λ c d k. k) settled.held (moved-plain n w.decided s (player_at w s) p adds (settled.adopted s i) (λ asked topic e about. adopted-plain n s topic adds (settled.unadopted s i asked topic e (ap (λ (l : List Entry). topic_of l asked) (sym same) ∙ about)))))
 
-  settled-settles : (r : ℕ) (comm : Context) (players : List Player) (later : List (Option Decision)) → DecidesStep w.players w.decided r comm players later → Settled n (with_decided (with_players w players) later)
+  settled-settles : (r : ℕ) (comm : Context) (players : List Player) (later : Known) → DecidesStep w.players w.decided r comm players later → Settled n (with_decided (with_players w players) later)
   settled-settles r comm players later c =
       let i = below r c.inside in let d = c.decided in let proposal = d.decision.proposal in
       let is : c.after.rank ≡ d.rank = ap (λ (p : Player). p.rank) d.only in
@@ -92,7 +93,7 @@ module _ (n : ℕ) (w : World) (h : IsWorld w) (settled : Settled n w) where
             (moved-adopted n w r d.decision.topic h settled i c.running proposal d.decision.proposed later a.held a.board_answers d.asked d.answer d.rank c.after a.adoption is closed)
         | inr b ↦
             let log_same : c.after.rank.log ≡ (rank_at w r).log = ap (λ (s : State). s.log) (is ∙ b.rank_stays) in
-            settled-moved w w' settled i refl (λ x e known. ap (λ (ks : List (Option Decision)). known_at ks x) b.known_stay ∙ known) (λ x e known. settled.held x e (ap (λ (ks : List (Option Decision)). known_at ks x) (sym b.known_stay) ∙ known))
+            settled-moved w w' settled i refl (λ x e known. ap (λ (ks : Known). known_at ks x) b.known_stay ∙ known) (λ x e known. settled.held x e (ap (λ (ks : Known). known_at ks x) (sym b.known_stay) ∙ known))
             (moved-plain n later r (player_at w r) c.after (inl log_same) (rw b.known_stay (settled.adopted r i)) (closed_open c.after closed))
       ])
 

@@ -1,5 +1,6 @@
 -- Polls in vain of one step, one after another.
 use Rattle.std.proofs.Common.{◌≡◌, ℕ, zero, suc, ◌+◌, ◌-◌, ◌<◌, true, false, cond, List, [], length, get_or, set, refl, ap, sym, subst, ◌∙◌, arith, inl, inr, length-set, set-set, Option, Some, None, is_none, slice_get, MatchOption}
+use Rattle.ulfm_board.specs.Known.{Known}
 use Rattle.ulfm_script.specs.Player.{IsPolledInVain, polled_on}
 use Rattle.ulfm_script.proofs.Advance.{ready-at}
 use Rattle.ulfm_script.proofs.Reacting.{open_played}
@@ -13,7 +14,7 @@ use Rattle.ulfm_world.proofs.Lists.{players-set, seen_player}
 use Rattle.ulfm_world.proofs.Moves.{moves-on}
 use Rattle.ulfm_world.proofs.MovesCall.{moves-call}
 use Rattle.ulfm_world.proofs.Runs.{keeps-happens, reaches-one, reaches-then}
-use Rattle.ulfm_world.proofs.Common.{Answered, awaits_decision, Call, Decision, Follows, FollowsSoFar, Happens, IsCalled, is_stopped, IsJob, IsRunning, IsUndecided, IsWorld, Item, length-map, Moves, NotYet, opens_add, outcome_of, Player, player_at, player_in, polled, PollOpens, Reaches, script_at, JobView, Step, stopped-adds, PlayerView, with_player, with_players, World, WorldRank, Room}
+use Rattle.ulfm_world.proofs.Common.{Answered, awaits_decision, Call, Follows, FollowsSoFar, Happens, IsCalled, is_stopped, IsJob, IsRunning, IsUndecided, IsWorld, Item, length-map, Moves, NotYet, opens_add, outcome_of, Player, player_at, player_in, polled, PollOpens, Reaches, script_at, JobView, Step, stopped-adds, PlayerView, with_player, with_players, World, WorldRank, Room}
 
 -- the player r after one poll in vain
 abbrev after : World → ℕ → Step → Player
@@ -47,7 +48,7 @@ often (suc n) w r asked inside running h =
     )
 
 -- polls in vain of a player that stands at its place among others
-pub often_parts : (views : List PlayerView) (inboxes : List (List (WorldRank × Item))) (room : Room) (decided : List (Option Decision)) (r n : ℕ) {old : PlayerView} (new : PlayerView) (asked : Step) → r < length views → old ≡ get_or views r old → new.player ≡ polled_on old.player n → 0 < n
+pub often_parts : (views : List PlayerView) (inboxes : List (List (WorldRank × Item))) (room : Room) (decided : Known) (r n : ℕ) {old : PlayerView} (new : PlayerView) (asked : Step) → r < length views → old ≡ get_or views r old → new.player ≡ polled_on old.player n → 0 < n
     → IsRunning (parts views inboxes room decided) r → IsPolledInVain (player_at (parts views inboxes room decided) r) asked → CallsInVain n (parts views inboxes room decided) r asked (parts (set views r new) inboxes room decided)
 often_parts views inboxes room decided r zero new asked inside same is some running h = absurd (omega (arith, some))
 often_parts views inboxes room decided r (suc n) {old} new asked inside same is some running h =

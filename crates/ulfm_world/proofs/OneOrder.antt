@@ -1,7 +1,6 @@
 -- In every schedule all logs have one order, so each revocation was made by some rank's own call, and each decision proposed.
-use Rattle.std.proofs.Common.{◌≡◌, ℕ, ◌≤◌, List, [], ◌∷◌, length, take, ap, sym, subst, ◌∙◌, arith, inl, inr, None, append-nil}
-use Rattle.ulfm_board.specs.Known.{cell_of}
-use Rattle.ulfm_world.proofs.Common.{Adopted, Call, Decide, Entry, Event, Happens, IsWorld, Leave, Player, Push, Reaches, Report, RevokedByARank, Room, Skip, Skipped, State, Take, TakeFrom, Took, Unfinished, World, at, cases_lt, get_or-blank, get_or_past, no_player, none-some, player_at, rank_at, report_of, reports_in, start_world, step_report, with_rank}
+use Rattle.std.proofs.Common.{◌≡◌, ℕ, ◌≤◌, List, [], ◌∷◌, length, take, ap, sym, subst, arith, inl, inr, append-nil}
+use Rattle.ulfm_world.proofs.Common.{Adopted, Call, Decide, Entry, Event, Happens, IsWorld, Leave, Player, Push, Reaches, Report, RevokedByARank, Room, Skip, Skipped, State, Take, TakeFrom, Took, Unfinished, World, at, cases_lt, get_or_past, no_player, none-some, player_at, rank_at, report_of, reports_in, start_world, step_report, with_rank}
 use Rattle.ulfm_report_laws.specs.Order.{HaveOneOrder, Owe}
 use Rattle.ulfm_report_laws.proofs.Ordered.{revoked_by_order}
 use Rattle.ulfm_world.specs.Each.{InEachWorld}
@@ -55,7 +54,7 @@ order_start : (n : ℕ) (room : Room) → HaveOrder (start_world n room).players
 order_start n room =
     let players = (start_world n room).players in record {
       ordered = ordered_none (length players) (log_in players) (steps_in players) (start_logs n room);
-      held = λ topic d known. absurd (none-some d (sym (get_or-blank 63 (cell_of topic) None) ∙ known));
+      held = λ topic d known. absurd (none-some d (known));
     }
 
 order_reached : (n : ℕ) (room : Room) (w : World) → n ≤ 8 → Reaches (start_world n room) w → HaveOrder w.players w.decided

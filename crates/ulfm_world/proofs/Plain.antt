@@ -1,6 +1,7 @@
 -- An entry that adopts nothing leaves what was adopted.
-use Rattle.std.proofs.Common.{◌≡◌, ℕ, false, List, refl, ap, sym, subst, ◌∙◌, inl, inr, Option, Some, All}
-use Rattle.ulfm_world.proofs.Common.{Topic, topic_of, Decision, Entry, Adopted, State, Step, Shrink, Agree, EntersBy, RoundsCounted, none-some, same_Some, false≢true, or_from, false_from_ne_true, All-push, AdoptsEntered, any-push, LeavesOpen, StepReport}
+use Rattle.std.proofs.Common.{◌≡◌, ℕ, false, List, refl, ap, sym, subst, ◌∙◌, inl, inr, Some, All}
+use Rattle.ulfm_board.specs.Known.{Known}
+use Rattle.ulfm_world.proofs.Common.{Topic, topic_of, Entry, Adopted, State, Step, Shrink, Agree, EntersBy, RoundsCounted, none-some, same_Some, false≢true, or_from, false_from_ne_true, All-push, AdoptsEntered, any-push, LeavesOpen, StepReport}
 use Rattle.ulfm_log.specs.Proposal.{adopts, has_adopted}
 use Rattle.ulfm_world.proofs.Agreed.{IsAdopted}
 use Rattle.ulfm_script.proofs.Fitting.{IsPlain, AddsPlain, entered_new, opens_add}
@@ -10,7 +11,7 @@ plain_adopts : (c : Topic) (e : Entry) → IsPlain e → adopts c e ≡ false
 plain_adopts c (Adopted d) h = absurd h
 plain_adopts c _ h = refl
 
-plain_adopted : (decided : List (Option Decision)) (me : ℕ) (e : Entry) → IsPlain e → IsAdopted decided me e
+plain_adopted : (decided : Known) (me : ℕ) (e : Entry) → IsPlain e → IsAdopted decided me e
 plain_adopted decided me (Adopted d) h = absurd h
 plain_adopted decided me _ h = tt
 
@@ -21,7 +22,7 @@ adopted-plain n me c {old} (inr more) h =
     ap (λ (x : List Entry). has_adopted x c) more.3 ∙ any-push (adopts c) old more.0 ∙ or_from (has_adopted old c) (adopts c more.0) h (plain_adopts c more.0 more.2)
 
 -- and what was adopted is held
-pub held-plain : (decided : List (Option Decision)) (n me : ℕ) {old new : List Entry} → AddsPlain n me old new → All (IsAdopted decided me) old → All (IsAdopted decided me) new
+pub held-plain : (decided : Known) (n me : ℕ) {old new : List Entry} → AddsPlain n me old new → All (IsAdopted decided me) old → All (IsAdopted decided me) new
 held-plain decided n me (inl same) h = rw same h
 held-plain decided n me {old} (inr more) h = rw more.3 (All-push (IsAdopted decided me) old more.0 h (plain_adopted decided me more.0 more.2))
 

@@ -1,9 +1,8 @@
 -- Each player's answers stay right, whatever a replay does next.
 use Rattle.std.proofs.Common.{◌≡◌, ◌≢◌, ℕ, ◌<◌, List, [], length, set, refl, ap, sym, ◌∙◌, arith, inl, inr, length-set, get_or-set_same, get_or-set_other, Option, Some, None, slice_get, replicate}
 use Rattle.ulfm_world.proofs.Common.{Context, WorldRank, Item, Topic, Decision, none-some, Took, is_stopped, State, logged, Step, JobView, script_at, Player, with_rank, Call, Decide, Leave, Skip, World, player_in, player_at, rank_at, start_world, Happens, Pushes, Takes, cases_eq, Known, IsDecided, get_or-replicate, length-replicate, known_for, AllAnswersFollowSoFar, Follows, stopped-push, AnswersFollowSoFar, IsUndecided, or-false, Room}
-use Rattle.ulfm_board.specs.Known.{Answers as BoardAnswers, Agrees, cell_of, known_at, with_known, nothing_known}
-use Rattle.ulfm_board.proofs.Apart.{cells_apart}
-use Rattle.ulfm_board.proofs.Topics.{known_other, known_with}
+use Rattle.ulfm_board.specs.Known.{Agrees, Answers as BoardAnswers, known_at, nothing_known, number_of, with_known}
+use Rattle.ulfm_board.proofs.Topics.{known_other, known_with, topics_apart}
 use Rattle.ulfm_script.proofs.Adopted.{agreed, keeps-answered, honest-decided}
 use Rattle.ulfm_script.proofs.Calling.{honest-called}
 use Rattle.ulfm_script.proofs.Honestly.{honest-moved, honest-left, honest-skipped, honest-start}
@@ -18,7 +17,7 @@ rightly-kept w w' r p inside players decided h honest =
     record {
       knows = h.knows;
       many = h.many ∙ sym size;
-      held = λ x c d i knows. ap (λ (ds : List (Option Decision)). known_at ds c) decided ∙ h.held x c d (omega (arith, i, size)) knows;
+      held = λ x c d i knows. ap (λ (ds : Known). known_at ds c) decided ∙ h.held x c d (omega (arith, i, size)) knows;
       honest = λ x i.
           rw (ap (λ (ps : List Player). player_in ps x) players) (elim (cases_eq x r) [
             | inl same ↦ rw (player-same w.players r x p same inside) (rw same honest)
@@ -71,12 +70,15 @@ module _ (w : World) (h : AllAnswersFollowSoFar w) (r : ℕ) (inside : r < lengt
   abbrev now : Known
   now = with_known (known_for h.knows r) topic held
 
+  before : Agrees (known_at (known_for h.knows r) topic) held
+  before = agrees_with (known_at (known_for h.knows r) topic) held (λ d e. agreed (known_at w.decided topic) held d a.as_before (h.held r topic d inside e))
+
   now_here : known_at now topic ≡ Some held
-  now_here = known_with (known_for h.knows r) topic held
+  now_here = known_with (known_for h.knows r) topic held before
 
   board_answers : BoardAnswers (Some []) (known_for h.knows r) proposal held now
   board_answers = record {
-    as_before = agrees_with (known_at (known_for h.knows r) topic) held (λ d e. agreed (known_at w.decided topic) held d a.as_before (h.held r topic d inside e));
+    as_before = before;
     first_stays = λ e none. absurd (cc);
     known_now = now_here;
     others_stay = refl;
@@ -88,8 +90,8 @@ module _ (w : World) (h : AllAnswersFollowSoFar w) (r : ℕ) (inside : r < lengt
 
   -- and what is known for the rank is held
   now_held : (c : Topic) (d : Decision) → known_at now c ≡ Some d → known_at later c ≡ Some d
-  now_held c d e = elim (cases_eq (cell_of c) (cell_of topic)) [
-    | inl cell ↦ let same = cells_apart c topic cell in ap (known_at later) same ∙ a.known_now ∙ sym now_here ∙ ap (known_at now) (sym same) ∙ e
+  now_held c d e = elim (cases_eq (number_of c) (number_of topic)) [
+    | inl cell ↦ let same = topics_apart c topic cell in ap (known_at later) same ∙ a.known_now ∙ sym now_here ∙ ap (known_at now) (sym same) ∙ e
     | inr other ↦ stays c d (h.held r c d inside (sym (known_other (known_for h.knows r) c topic held other) ∙ e))
   ]
 
@@ -160,7 +162,7 @@ rightly-decides w r comm w' t h =
               accepted = d.decision.accepted;
               proposal = d.decision.proposal;
               proposed = d.decision.proposed;
-              outcome = inr (record { starves = record { may_grow = inl refl; unknown = unknown }; known_stay = refl; refused = starves.refused; rank_stays = starves.rank_stays });
+              outcome = inr (record { starves = record { unknown = unknown }; known_stay = refl; refused = starves.refused; rank_stays = starves.rank_stays });
             };
             only = d.only;
           } in
@@ -170,12 +172,12 @@ rightly-decides w r comm w' t h =
 -- ranks that start
 pub rightly-start : (n : ℕ) (room : Room) → AllAnswersFollowSoFar (start_world n room)
 rightly-start n room = record {
-  knows = replicate n (nothing_known 0);
-  many = length-replicate n (nothing_known 0) ∙ sym (length-start n n);
+  knows = replicate n nothing_known;
+  many = length-replicate n nothing_known ∙ sym (length-start n n);
   held = λ r c d i e. ap (λ (k : Known). known_at k c) (sym (none_known r (omega (arith, i, length-start n n)))) ∙ e;
   honest = λ r i.
-      rw (player-start n n r (omega (arith, i, length-start n n))) (honest-start (known_for (replicate n (nothing_known 0)) r) r n);
+      rw (player-start n n r (omega (arith, i, length-start n n))) (honest-start (known_for (replicate n nothing_known) r) r n);
 }
   where
-    none_known : (r : ℕ) → r < n → known_for (replicate n (nothing_known 0)) r ≡ (nothing_known 0)
-    none_known r inside = get_or-replicate n r (nothing_known 0) [] inside
+    none_known : (r : ℕ) → r < n → known_for (replicate n nothing_known) r ≡ nothing_known
+    none_known r inside = get_or-replicate n r nothing_known [] inside

@@ -1,6 +1,7 @@
 -- Every schedule keeps what every world keeps.
-use Rattle.std.proofs.Common.{◌≡◌, ℕ, ◌+◌, ◌<◌, List, [], ◌∷◌, ◌++◌, length, take, get_or, refl, ap, inl, inr, Result, Ok, Err, OnOk, OnErr, IfErr, Option, None}
-use Rattle.ulfm_world.proofs.Common.{Context, Decision, Event, Call, Push, Take, Decide, Leave, Skip, IsWorld, Player, Step, quiet-called, quiet-left, quiet-same, World, rank_at, with_players, with_decided, Calls, DecidesStep, GivesUp, Skips, Happens, IsRefused, Applied, Run, Reaches, IsReached, take_more, quiet-decided, TakeFrom}
+use Rattle.std.proofs.Common.{◌≡◌, ℕ, ◌+◌, ◌<◌, List, [], ◌∷◌, ◌++◌, length, take, get_or, refl, ap, inl, inr, Result, Ok, Err, OnOk, OnErr, IfErr, None}
+use Rattle.ulfm_board.specs.Known.{Known}
+use Rattle.ulfm_world.proofs.Common.{Context, Event, Call, Push, Take, Decide, Leave, Skip, IsWorld, Player, Step, quiet-called, quiet-left, quiet-same, World, rank_at, with_players, with_decided, Calls, DecidesStep, GivesUp, Skips, Happens, IsRefused, Applied, Run, Reaches, IsReached, take_more, quiet-decided, TakeFrom}
 use Rattle.ulfm_world.specs.declared.event.Refused.{Refused}
 use Rattle.ulfm_world.proofs.KeepsCalls.{keeps-quiet, keeps-takes}
 use Rattle.ulfm_world.proofs.KeepsPush.{keeps-pushes}
@@ -16,12 +17,12 @@ keeps-skips w r asked h c =
     let same : c.after.rank ≡ (rank_at w r) = ap (λ (p : Player). p.rank) c.skipped.only in
     rw c.only (keeps-quiet w r c.after h c.inside (rw same (quiet-same (rank_at w r) (h.sound r c.inside))))
 
-keeps-settles : (w : World) (r : ℕ) (comm : Context) {players : List Player} (later : List (Option Decision)) → IsWorld w → DecidesStep w.players w.decided r comm players later → IsWorld (with_decided (with_players w players) later)
+keeps-settles : (w : World) (r : ℕ) (comm : Context) {players : List Player} (later : Known) → IsWorld w → DecidesStep w.players w.decided r comm players later → IsWorld (with_decided (with_players w players) later)
 keeps-settles w r comm later h c =
     rw c.only (decided_else _ later (keeps-quiet w r c.after h c.inside (quiet-decided _ comm None w.decided later c.after (h.sound r c.inside) c.decided)))
   where
     -- what every world keeps says nothing of the decisions
-    decided_else : (w : World) (later : List (Option Decision)) → IsWorld w → IsWorld (with_decided w later)
+    decided_else : (w : World) (later : Known) → IsWorld w → IsWorld (with_decided w later)
     decided_else w later h = record {
       small = h.small;
       as_many = h.as_many;

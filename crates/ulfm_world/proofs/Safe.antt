@@ -1,7 +1,7 @@
 -- The laws of decisions, from what every world keeps.
-use Rattle.std.proofs.Common.{◌≡◌, ℕ, ◌<◌, ◌≤◌, List, length, ap, sym, subst, ◌∙◌, arith, inl, inr, Option, Some, None, All}
-use Rattle.ulfm_world.proofs.Common.{Decision, Contribution, Topic, is_member, Entry, Adopted, Player, World, rank_at, start_world, Reaches, false≢true, or_cases, none-some, same_Some, slice_get_within, get_or_from_slice_get, All-nil, Keeps, keeps-start, has, EntersEachOnce, entry_at, is_listed, in_entry, some_from, get_or-blank, Room}
-use Rattle.ulfm_board.specs.Known.{cell_of, nothing_known}
+use Rattle.std.proofs.Common.{◌≡◌, ℕ, ◌<◌, ◌≤◌, List, length, ap, sym, subst, ◌∙◌, arith, inl, inr, Option, Some, All}
+use Rattle.ulfm_world.proofs.Common.{Decision, Contribution, Topic, is_member, Entry, Adopted, Player, World, rank_at, start_world, Reaches, false≢true, or_cases, none-some, same_Some, slice_get_within, get_or_from_slice_get, All-nil, Keeps, keeps-start, has, EntersEachOnce, entry_at, is_listed, in_entry, some_from, Room}
+use Rattle.ulfm_board.specs.Known.{nothing_known}
 use Rattle.ulfm_world.specs.Safe.{entry_at_rank, EntersOnce, IsSafe, DecidesSafely, AdoptsHeld}
 use Rattle.ulfm_report_laws.proofs.Once.{once-start}
 use Rattle.ulfm_base.proofs.Among.{excluding_from}
@@ -15,8 +15,8 @@ settled-start n room = record {
   size = length-start n n;
   keeps = λ r i. subst (λ (p : Player). Keeps n r p.rank.log) (sym (player-start n n r i)) (keeps-start n r i);
   once = λ r i. subst (λ (p : Player). EntersEachOnce p.rank.log) (sym (player-start n n r i)) once-start;
-  held = λ c d known. absurd (none-some d (sym (get_or-blank 63 (cell_of c) None) ∙ known));
-  adopted = λ r i. subst (λ (p : Player). All (IsAdopted (nothing_known 0) r) p.rank.log) (sym (player-start n n r i)) (All-nil (IsAdopted (nothing_known 0) r));
+  held = λ c d known. absurd (none-some d (known));
+  adopted = λ r i. subst (λ (p : Player). All (IsAdopted nothing_known r) p.rank.log) (sym (player-start n n r i)) (All-nil (IsAdopted nothing_known r));
   unadopted = λ r i asked topic e about. absurd (none-some asked (sym (ap (λ (p : Player). p.current) (player-start n n r i)) ∙ e));
 }
 

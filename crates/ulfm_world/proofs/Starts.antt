@@ -1,7 +1,7 @@
 -- The world that starts.
-use Rattle.std.proofs.Common.{◌≡◌, ℕ, zero, suc, ◌+◌, ◌<◌, ◌≤◌, List, [], ◌∷◌, ◌++◌, length, get_or, replicate, refl, ap, sym, subst, ◌∙◌, arith, inl, inr, length-append, Option, Some, None, All}
-use Rattle.ulfm_world.proofs.Common.{WorldRank, Decision, Item, the_player, players_of, parts, IsPosted, IsWorld, items_from, cases_lt, le-ltb, lt-leb, All-nil, CallError, OutOfMemory, took, IsSigned, World, player_in, no_player, inbox_at, start_players, start_world, Player, PlayerView, start_player, length-replicate, get_or_append_left, get_or_at, map_push, IsState, went_out, no_mark, start_state, get_or-blank, Room}
-use Rattle.ulfm_board.specs.Known.{nothing_known}
+use Rattle.std.proofs.Common.{◌≡◌, ℕ, zero, suc, ◌+◌, ◌<◌, ◌≤◌, List, [], ◌∷◌, ◌++◌, length, get_or, replicate, refl, ap, sym, subst, ◌∙◌, arith, inl, inr, length-append, Some, None, All}
+use Rattle.ulfm_world.proofs.Common.{WorldRank, Item, the_player, players_of, parts, IsPosted, IsWorld, items_from, cases_lt, le-ltb, lt-leb, All-nil, CallError, OutOfMemory, took, IsSigned, World, player_in, no_player, inbox_at, start_players, start_world, Player, PlayerView, start_player, length-replicate, get_or_append_left, get_or_at, map_push, IsState, went_out, no_mark, start_state, get_or-blank, Room}
+use Rattle.ulfm_board.specs.Known.{Known, nothing_known}
 use Rattle.ulfm_rank.specs.Checks.{Passes, FailsOrStarves, start_checks}
 
 pub length-start : (n k : ℕ) → length (start_players n k) ≡ k
@@ -51,11 +51,11 @@ world-start n room small = record {
 }
 
 -- what a loop over the ranks made
-pub new_world : (views : List PlayerView) {inboxes : List (List (WorldRank × Item))} {r : ℕ} (n : ℕ) (room : Room) (decided : List (Option Decision)) → players_of views ≡ start_players n r → inboxes ≡ replicate r [] → r ≡ n → decided ≡ nothing_known 0 → parts views inboxes room decided ≡ start_world n room
+pub new_world : (views : List PlayerView) {inboxes : List (List (WorldRank × Item))} {r : ℕ} (n : ℕ) (room : Room) (decided : Known) → players_of views ≡ start_players n r → inboxes ≡ replicate r [] → r ≡ n → decided ≡ nothing_known → parts views inboxes room decided ≡ start_world n room
 new_world views {inboxes} n room decided p q e none =
     ap (λ (ps : List Player). let w : World = record { players = ps; inboxes = inboxes; room = room; decided = decided } in w) (p ∙ ap (start_players n) e)
     ∙ ap (λ (is : List (List (WorldRank × Item))). let w : World = record { players = start_players n n; inboxes = is; room = room; decided = decided } in w) (q ∙ ap (λ k. replicate k ([])) e)
-    ∙ ap (λ (ds : List (Option Decision)). let w : World = record { players = start_players n n; inboxes = replicate n []; room = room; decided = ds } in w) none
+    ∙ ap (λ (ds : Known). let w : World = record { players = start_players n n; inboxes = replicate n []; room = room; decided = ds } in w) none
 
 -- a player of one of 1 to 8 ranks is refused by out of memory alone
 pub starts_or_starves : (me n : ℕ) (e : CallError) → me < n → n ≤ 8 → FailsOrStarves (start_checks me n) e → e ≡ OutOfMemory

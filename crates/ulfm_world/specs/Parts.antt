@@ -1,9 +1,9 @@
 -- The world that players with their places, inboxes and decisions make.
-use Rattle.std.specs.Prelude.{◌≡◌, ◌<◌, ℕ, List, [], ◌∷◌, ◌++◌, length, map, take, slice_index_or, Option}
+use Rattle.std.specs.Prelude.{◌≡◌, ◌<◌, ℕ, List, [], ◌∷◌, ◌++◌, length, map, take, slice_index_or}
 use Rattle.ulfm_base.specs.declared.rank.WorldRank.{WorldRank}
-use Rattle.ulfm_base.specs.declared.decision.Decision.{Decision}
 use Rattle.ulfm_base.specs.declared.item.Item.{Item}
 use Rattle.ulfm_base.specs.Items.{items_from}
+use Rattle.ulfm_board.specs.Known.{Known}
 use Rattle.ulfm_script.specs.Player.{Player, PlayerView}
 use Rattle.ulfm_world.specs.declared.event.Refused.{Refused}
 use Rattle.ulfm_world.specs.declared.event.Refused.TheVariants.{InboxFull, OutOfMemory}
@@ -20,7 +20,7 @@ abbrev pub players_of : List PlayerView → List Player
 players_of views = map the_player views
 
 -- the world of these parts
-abbrev pub parts : List PlayerView → List (List (WorldRank × Item)) → Room → List (Option Decision) → World
+abbrev pub parts : List PlayerView → List (List (WorldRank × Item)) → Room → Known → World
 parts views inboxes room decided = record { players = players_of views; inboxes = inboxes; room = room; decided = decided }
 
 -- why an inbox takes no further item of s

@@ -1,11 +1,10 @@
 -- Ranks with their inboxes, and what may happen to them next.
-use Rattle.std.specs.Prelude.{◌≡◌, ◌≢◌, ℕ, zero, suc, true, false, List, [], ◌∷◌, ◌++◌, ◌<◌, ◌≤◌, ◌⊎◌, length, map, if◌then◌else◌, Option, None, is_none, slice_index_or, slice_set, replicate}
+use Rattle.std.specs.Prelude.{◌≡◌, ◌≢◌, ℕ, zero, suc, true, false, List, [], ◌∷◌, ◌++◌, ◌<◌, ◌≤◌, ◌⊎◌, length, map, if◌then◌else◌, None, is_none, slice_index_or, slice_set, replicate}
 use Rattle.ulfm_base.specs.declared.rank.WorldRank.{WorldRank}
 use Rattle.ulfm_base.specs.declared.context.Context.{Context}
-use Rattle.ulfm_base.specs.declared.decision.Decision.{Decision}
 use Rattle.ulfm_base.specs.declared.item.Item.{Item}
 use Rattle.ulfm_base.specs.Items.{items_from}
-use Rattle.ulfm_board.specs.Known.{nothing_known}
+use Rattle.ulfm_board.specs.Known.{Known, nothing_known}
 use Rattle.ulfm_log.specs.declared.entry.Entry.TheVariants.{Took}
 use Rattle.ulfm_log.specs.Facts.{is_stopped}
 use Rattle.ulfm_log.specs.State.{State, logged, outbox, GoesOut}
@@ -22,12 +21,12 @@ use Rattle.ulfm_world.specs.declared.event.Refused.TheVariants.{NothingToPush, I
 use Rattle.ulfm_world.specs.declared.room.Room.{Room}
 use Rattle.ulfm_world.specs.Room.{HasRoom, IsFull}
 
--- The players, an inbox for each with the senders of its items, the room for them, and by the cells of topics what is decided.
+-- The players, an inbox for each with the senders of its items, the room for them, and by the numbers of topics what is decided.
 pub record World : Type 0 where
   pub players : List Player
   pub inboxes : List (List (WorldRank × Item))
   pub room : Room
-  pub decided : List (Option Decision)
+  pub decided : Known
 
 -- a player where there is none
 abbrev pub no_player : Player
@@ -70,7 +69,7 @@ abbrev pub with_inbox : World → ℕ → List (WorldRank × Item) → World
 with_inbox w d items = record { players = w.players; inboxes = slice_set w.inboxes d items; room = w.room; decided = w.decided }
 
 -- the world with other decisions
-abbrev pub with_decided : World → List (Option Decision) → World
+abbrev pub with_decided : World → Known → World
 with_decided w decided = record { players = w.players; inboxes = w.inboxes; room = w.room; decided = decided }
 
 -- the first k of n players that start
@@ -80,7 +79,7 @@ start_players n (suc k) = start_players n k ++ start_player k n ∷ []
 
 -- n ranks that start, with empty inboxes of this room, and nothing decided
 abbrev pub start_world : ℕ → Room → World
-start_world n room = record { players = start_players n n; inboxes = replicate n []; room = room; decided = nothing_known 0 }
+start_world n room = record { players = start_players n n; inboxes = replicate n []; room = room; decided = nothing_known }
 
 -- one poll of a step by the player r, where no other step stands open
 pub record Calls (old : List Player) (r : ℕ) (step : Step) (new : List Player) : Type 0 where
@@ -93,8 +92,8 @@ pub record Calls (old : List Player) (r : ℕ) (step : Step) (new : List Player)
 
 -- The open shrink of a communicator by the player r, or its open agreement on it, has a proposal, is decided, and answered: the
 -- proposal is the decision where there was none.
-pub record DecidesStep (old : List Player) (known : List (Option Decision)) (r : ℕ) (comm : Context)
-    (new : List Player) (later : List (Option Decision)) : Type 0 where
+pub record DecidesStep (old : List Player) (known : Known) (r : ℕ) (comm : Context)
+    (new : List Player) (later : Known) : Type 0 where
   pub inside : r < length old
   pub running : is_stopped (player_in old r).rank.log ≡ false
   pub after : Player
@@ -154,7 +153,7 @@ Happens old (Push s d) new = Pushes old s d new
 Happens old (Take r) new = Takes old r [] new
 Happens old (TakeFrom r s) new = TakesFrom old r s new
 Happens old (Decide r comm) new =
-    (players : List Player) × (later : List (Option Decision)) × DecidesStep old.players old.decided r comm players later
+    (players : List Player) × (later : Known) × DecidesStep old.players old.decided r comm players later
     × (new ≡ with_decided (with_players old players) later)
 Happens old (Leave r) new = (players : List Player) × GivesUp old.players r players × (new ≡ with_players old players)
 Happens old (Skip r step) new = (players : List Player) × Skips old.players r step players × (new ≡ with_players old players)

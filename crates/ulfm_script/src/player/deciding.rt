@@ -2,7 +2,7 @@
 ghost use Rattle.std.specs.Prelude.{◌≡◌, ◌+◌, length, IfSome, IfNone, IsTrue, Some};
 ghost use Rattle.ulfm_job.specs.declared.step.Step.{Step as Asked};
 ghost use Rattle.ulfm_job.specs.Job.{decides_on};
-ghost use Rattle.ulfm_script.specs.Deciding.{Decides, LacksCell};
+ghost use Rattle.ulfm_script.specs.Deciding.{Decides, KnowsNone};
 ghost use Rattle.ulfm_script.specs.Player.{IfAnswered};
 
 use super::Player;
@@ -16,12 +16,12 @@ use ulfm_job::Step;
 impl Player {
     /// Asks for the decision of the open shrink of a communicator, or of the open agreement on it: hands the rank's proposal in
     /// at the board, and adopts what the board holds. A player that was prepared is answered out of memory only where the
-    /// board finds no memory for its decision.
+    /// board knows no decision yet.
     pub fn decide<D: Decider>(&mut self, context: Context, board: &mut D) -> Decided
         ensures decides { Decides result self.old.player context (D.board board.old) (D.known board.old) self.new.player (D.known board.new) }
         ensures board { D.board board.new ≡ D.board board.old }
         ensures room { self.new.room + length self.new.player.done ≡ self.old.room + length self.old.player.done }
-        ensures room_lacked { IfAnswered self.old.player self.new.player (λ answer. answer ≡ StepAnswer.Refused CallError.OutOfMemory → IsTrue self.old.prepared → ((asked : Asked) × (self.old.player.current ≡ Some asked) × LacksCell (D.board board.old) (D.known board.old) self.old.player.rank asked)) }
+        ensures room_lacked { IfAnswered self.old.player self.new.player (λ answer. answer ≡ StepAnswer.Refused CallError.OutOfMemory → IsTrue self.old.prepared → ((asked : Asked) × (self.old.player.current ≡ Some asked) × KnowsNone (D.known board.old) self.old.player.rank asked)) }
         ensures prepared { result ≡ Decided.NotReady → self.new.prepared ≡ self.old.prepared }
         ensures stays_prepared { self.new.player.rank ≡ self.old.player.rank → IsTrue self.old.prepared → IsTrue self.new.prepared }
     {

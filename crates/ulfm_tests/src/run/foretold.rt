@@ -189,7 +189,7 @@ where
     requires few { ranks ≤ 8 }
 {
     let ends = ends_of(alloc, kind, ranks)?;
-    let deciders = seats(alloc, ranks, 0)?;
+    let deciders = seats(alloc, ranks)?;
     let run = run_job(rt, alloc, job, ends, deciders);
     Ok(untrue_reports(&run))
 }

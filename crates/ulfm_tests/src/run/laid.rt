@@ -161,6 +161,6 @@ where
     let Some(ends) = laid_over(inners, habits, room) else {
         return Err(Fail::new("too few habits"));
     };
-    let deciders = seats(alloc, job.ranks(), 0)?;
+    let deciders = seats(alloc, job.ranks())?;
     Ok(run_job(rt, alloc, job, ends, deciders)?)
 }

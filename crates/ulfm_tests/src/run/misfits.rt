@@ -37,7 +37,7 @@ where
 {
     let job = Job::read(alloc, THREE_RANKS.as_bytes())?;
     let ends = lanes(alloc, ends, job.capacity())?;
-    let deciders = seats(alloc, deciders, 0)?;
+    let deciders = seats(alloc, deciders)?;
     Ok(is_bad(run_job(rt, alloc, &job, ends, deciders)))
 }
 
@@ -69,7 +69,7 @@ fn ends_backwards(rt: HostRuntime) -> Result<(), Fail> {
     let alloc = rt.alloc();
     let job = Job::read(alloc, TWO_RANKS.as_bytes())?;
     let ends = backwards(alloc)?;
-    let deciders = seats(alloc, 2, 0)?;
+    let deciders = seats(alloc, 2)?;
     assert!(rt; is_bad(run_job(&rt, alloc, &job, ends, deciders)));
     Ok(())
 }

@@ -46,7 +46,7 @@ where
     R: Threads + Wait + Sync,
 {
     let ends = lanes(alloc, 2, job.capacity())?;
-    let report = run_job(rt, alloc, job, ends, seats(alloc, 2, 0)?)?;
+    let report = run_job(rt, alloc, job, ends, seats(alloc, 2)?)?;
     Ok(at_rest(&report))
 }
 

@@ -40,7 +40,7 @@ where
     requires one_call { E.one_call (map E.name ends.items) }
     requires fresh { AllFresh E.count E.pushed E.taken E.ready ends.items }
 {
-    let deciders = seats(alloc, job.ranks(), 0)?;
+    let deciders = seats(alloc, job.ranks())?;
     let report = run_job(rt, alloc, job, ends, deciders)?;
     Ok(at_rest(&report) as u32)
 }

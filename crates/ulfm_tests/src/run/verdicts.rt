@@ -188,13 +188,13 @@ impl Decider for Inventor {
     }
 }
 
-/// Four inventors on one board, with cells for one round of agreements.
+/// Four inventors on one board.
 fn inventors(alloc: Global, invention: Invention) -> Result<Vec<Inventor>, CallError>
     ensures one_board { IfOk result (λ all. OneBoard ⟦<Inventor as Decider>⟧.board all.items) }
-    ensures nothing_known { IfOk result (λ all. All (λ i. ⟦<Inventor as Decider>⟧.known i ≡ nothing_known 1) all.items) }
+    ensures nothing_known { IfOk result (λ all. All (λ i. ⟦<Inventor as Decider>⟧.known i ≡ nothing_known) all.items) }
 {
     let mut all = Vec::new(alloc);
-    for seat in seats(alloc, 4, 1)? {
+    for seat in seats(alloc, 4)? {
         all.push(Inventor { seat, invention })?;
     }
     Ok(all)

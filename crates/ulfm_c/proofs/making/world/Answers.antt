@@ -27,5 +27,5 @@ returns-clause-world c =
       room = λ k d p here few. ends.room k d p.view.end (its_end k p here) few;
       first = λ k p here. ends.first k p.view.end (its_end k p here);
       one_board = (seats.one_board.0, each_of_front seat_of in_seat (λ x. x.0 ≡ Some seats.one_board.0) all c.in_ok-seats.seats.items made.seats.0 made.seats.1 seats.one_board.1);
-      none_known = each_of_front seat_of in_seat (λ x. x.1 ≡ nothing_known c.args.rounds) all c.in_ok-seats.seats.items made.seats.0 made.seats.1 seats.nothing_known;
+      none_known = each_of_front seat_of in_seat (λ x. x.1 ≡ nothing_known) all c.in_ok-seats.seats.items made.seats.0 made.seats.1 seats.nothing_known;
     }

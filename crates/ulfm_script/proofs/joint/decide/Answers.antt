@@ -29,5 +29,5 @@ returns-in-Err-clause-room_lacked g c lacks prepared =
     let p = c.in_ok-proposal.ensures.proposed in record {
       topic = p.topic;
       about = p.about;
-      starves = subst (λ topic. Starves (g.D.Decider.board c.args.board.now) (g.D.Decider.known c.args.board.now) topic) p.on.proposed.about c.in-Err.ensures.starves;
+      starves = subst (λ topic. Starves (g.D.Decider.known c.args.board.now) topic) p.on.proposed.about c.in-Err.ensures.starves;
     }

@@ -1,31 +1,35 @@
-use Rattle.std.proofs.Common.{get_or, ◌<◌, ap, ◌∙◌, sym, arith, length}
-use Rattle.once_cell.specs.Once.{cell_name}
-use Rattle.ulfm_board.proofs.Notes.{cell_at, tied_after}
-use Rattle.ulfm_board.proofs.Handed.{answers_of, unchanged_of, starves_of}
+use Rattle.std.proofs.Common.{◌≡◌, ◌∙◌, [], Some, ap, sym}
+use Rattle.ulfm_board.specs.Known.{row_of}
+use Rattle.ulfm_board.specs.inside.Trail.{names_of, slot_of}
+use Rattle.ulfm_board.proofs.Handed.{answers_of, known_on, no_row, on_error, starves_of, unchanged_of}
+use Rattle.ulfm_board.proofs.Slots.{slot_inside}
 use Rattle.ulfm_board.proofs.seat.SeatDecider.decide.Goals as goal
 
-pub decided-requires : goal.decided-requires
-decided-requires c =
-    let low : c.in-Some.place < length c.args.self.now.notes.items = omega (arith, c.args.self.now.notes.ok) in
-    cell_at c.args.self.now.notes.items _ c.in-Some.place _ c.index.result.now c.args.self.now.tied low c.index_mut.ensures.value
-    (c.index.ensures ∙ ap (λ v. get_or v.items c.in-Some.place c.index.result.now) c.deref.ensures)
-    ∙ ap (λ x. cell_name x) (sym c.deref-cell.ensures)
+pub reach-requires : goal.reach-requires
+reach-requires c = record { one_register = c.args.self.now.tied ∙ sym (ap names_of (c.as_slice-register.ensures.value ∙ ap (λ v. v.items) c.deref.ensures)) }
 
-pub invariant_of-self-2 : goal.invariant_of-self-2
-invariant_of-self-2 c = record {
-  whole = c.args.self.now.whole;
-  tied = tied_after c.args.self.now.notes.items _ c.in-Some.place _ _ c.args.self.now.tied c.index_mut.ensures.value c.decided.ensures.cell;
-}
+pub returns-in_err-slot-clause-starves : goal.returns-in_err-slot-clause-starves
+returns-in_err-slot-clause-starves c =
+    on_error c.from_residual.result (no_row c.args.self.now.trail c.args.decision.topic (ap (slot_of c.args.self.now.trail.numbers) (sym c.row_of-row.ensures) ∙ c.in_err-slot.ensures.unknown))
+
+pub returns-in_err-slot-clause-unchanged : goal.returns-in_err-slot-clause-unchanged
+returns-in_err-slot-clause-unchanged c =
+    on_error c.from_residual.result (known_on c.args.self.now.trail c.reach.new.self c.reach.ensures.goes_on.0 c.reach.ensures.whole c.reach.ensures.goes_on.1)
+
+pub decide-requires-clause-walked : goal.decide-requires-clause-walked
+decide-requires-clause-walked c = slot_inside c.reach.new.self.numbers c.row_of-row.result c.in_ok-slot.slot c.in_ok-slot.ensures.slot
 
 pub returns-clause-answers : goal.returns-clause-answers
 returns-clause-answers c =
-    let low : c.in-Some.place < length c.args.self.now.notes.items = omega (arith, c.args.self.now.notes.ok) in
-    answers_of c.args.self.now.notes.items _ c.args.decision c.in-Some.place _ c.decided.new.note _ c.in-Some.ensures.place low c.index_mut.ensures.value c.decided.ensures.held
+    let found : slot_of c.reach.new.self.numbers (row_of c.args.decision.topic) ≡ Some c.in_ok-slot.slot = ap (slot_of c.reach.new.self.numbers) (sym c.row_of-row.ensures) ∙ c.in_ok-slot.ensures.slot in
+    answers_of c.args.self.now.trail c.reach.new.self c.reach.ensures.goes_on.0 c.in_ok-slot.slot c.cell_of-cell.result c.reach.ensures.whole c.reach.ensures.goes_on.1 c.decide.new.self _ c.args.decision found c.cell_of-cell.ensures.place c.decide.result c.decide.ensures.held
 
 pub returns-clause-starves : goal.returns-clause-starves
 returns-clause-starves c =
-    let low : c.in-Some.place < length c.args.self.now.notes.items = omega (arith, c.args.self.now.notes.ok) in
-    starves_of c.args.self.now.notes.items _ c.args.decision.topic c.in-Some.place _ c.decided.new.note _ c.in-Some.ensures.place low c.index_mut.ensures.value c.decided.ensures.starves
+    let found : slot_of c.reach.new.self.numbers (row_of c.args.decision.topic) ≡ Some c.in_ok-slot.slot = ap (slot_of c.reach.new.self.numbers) (sym c.row_of-row.ensures) ∙ c.in_ok-slot.ensures.slot in
+    starves_of c.args.self.now.trail c.reach.new.self c.reach.ensures.goes_on.0 c.in_ok-slot.slot c.cell_of-cell.result c.reach.ensures.whole c.reach.ensures.goes_on.1 c.decide.new.self [] c.args.decision found c.cell_of-cell.ensures.place c.decide.result c.decide.ensures.starves
 
 pub returns-clause-unchanged : goal.returns-clause-unchanged
-returns-clause-unchanged c = unchanged_of c.args.self.now.notes.items c.in-Some.place _ c.decided.new.note _ c.index_mut.ensures.value c.decided.ensures.starves
+returns-clause-unchanged c =
+    let found : slot_of c.reach.new.self.numbers (row_of c.args.decision.topic) ≡ Some c.in_ok-slot.slot = ap (slot_of c.reach.new.self.numbers) (sym c.row_of-row.ensures) ∙ c.in_ok-slot.ensures.slot in
+    unchanged_of c.args.self.now.trail c.reach.new.self c.reach.ensures.goes_on.0 c.in_ok-slot.slot c.cell_of-cell.result c.reach.ensures.whole c.reach.ensures.goes_on.1 c.decide.new.self [] c.args.decision found c.cell_of-cell.ensures.place c.decide.result c.decide.ensures.starves

@@ -1,0 +1,14 @@
+use Rattle.std.proofs.Common.{◌∷◌, ◌++◌, ◌∙◌, [], Some, ap, length, map, sym}
+use Rattle.once_cell.specs.declared.race.note.Note.{Note}
+use Rattle.ulfm_base.specs.declared.decision.Decision.{Decision}
+use Rattle.ulfm_board.specs.inside.Trail.{TrailView, names_of, slot_name}
+use Rattle.ulfm_board.proofs.Walked.{one_row_more}
+use Rattle.ulfm_board.proofs.trail.Trail.enter.Goals as goal
+
+pub invariant_of-self-2 : goal.invariant_of-self-2
+invariant_of-self-2 c =
+    let next = ap (λ (t : TrailView). slot_name t.chunks (length t.numbers)) c.self.view_is ∙ c.requires.next ∙ ap Some (sym (c.get_or_try_init_as.ensures.cell ∙ c.note-note.ensures.0)) in
+    let names = c.note_cells.ensures.names ∙ ap (λ l. map (λ (n : Note Decision). n.cell) l ++ names_of c.in_ok-row.row.now.cells.items) c.reserve-3.ensures.items in
+    one_row_more c.push_reserved-2.new.self.items c.push_reserved.new.self.items c.note_cells.new.cells.items c.in_ok-row.row.now c.get_or_try_init_as.new.note c.self.invariant next c.in_ok-row.ensures.value.0 names
+    (c.push_reserved-2.ensures.items ∙ ap (λ l. l ++ c.get_or_try_init_as.new.note ∷ []) c.reserve.ensures.items)
+    (c.push_reserved.ensures.items ∙ ap (λ l. l ++ c.in_ok-row.row.now.number ∷ []) c.reserve-2.ensures.items)
