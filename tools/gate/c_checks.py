@@ -48,7 +48,7 @@ RUNS = [
     ("loops", 4, "--every-schedule --stops 0 --limit 1", "untimed", 3, r"not played to its end: .*\n.*\n1 of 1 places right .*; all schedules at 0 of them", r"\A\Z"),
     ("idle", 4, "", "", 0, r"\Athree waited for a second and burnt less than a tenth of it\n\Z", ""),
     ("flat", 1, "", "200000 2000 0", 0, r"\A200000 messages: .*\n2000 cancelled receives: .*\nfaults: 0\n\Z", ""),
-    ("flat", 1, "", "0 0 1310", 0, r"\A1310 agreements: .*\nfaults: 0\n\Z", ""),
+    ("flat", 1, "", "0 0 2000", 0, r"\A2000 agreements: .*\nfaults: 0\n\Z", ""),
     ("limits", 2, "", "", 0, r"\A4 duplicates, then 1: .*no context.*\nshrink 5: class 15\n5 shrinks, then 1\nfaults: 0\n\Z", ""),
     ("duplicates", 6, "", "", 137, r"\Afaults: 0\n\Z", ""),
     ("window", 4, "", "", 137, r"\Afaults: 0\n\Z", ""),

@@ -50,10 +50,9 @@ impl Process {
     /// # Errors
     ///
     /// `Stopped` where the rank has stopped, else `NoComm` where the communicator wasn't made, else `NotEntered` where
-    /// no agreement on it was entered, else `OutOfMemory` where the board found no memory or has no cell for this
-    /// agreement: then nothing changed. Else, once there is a decision, `AlreadyMade` where that of this agreement was
-    /// adopted before, else `NotMember` where it isn't this rank's to adopt, else `OutOfMemory` where a growth was refused:
-    /// then the rank is as it was.
+    /// no agreement on it was entered, else `OutOfMemory` where the board found no memory: then nothing changed. Else, once
+    /// there is a decision, `AlreadyMade` where that of this agreement was adopted before, else `NotMember` where it isn't
+    /// this rank's to adopt, else `OutOfMemory` where a growth was refused: then the rank is as it was.
     pub fn poll_agree(&mut self, comm: Comm) -> Result<Option<(u32, Group)>, CallError>
         ensures waits { IfOk result (λ found. found ≡ None → Waits self.old.view self.new.view (last_agreement self.old.view.rank.log comm.context)) }
         ensures adopts { IfOk result (λ found. IfSome found (λ told. (held : Decided) × Adopts self.old.view self.new.view (last_agreement self.old.view.rank.log comm.context) held × (held.value ≡ Some told.0) × (told.1 ≡ left_out held.old held.entries))) }
