@@ -3,7 +3,8 @@
 #include "search/search.h"
 #include <stdlib.h>
 
-enum { MOST_ROUNDS = 4096 };
+/* So many agreements on a communicator have topics of their own: more than a schedule has events. */
+enum { MOST_ROUNDS = 1 << 24 };
 
 struct footprint *um_footprints;
 int um_step;
