@@ -15,10 +15,10 @@
 //! - `possible`, `coded`: nothing is invented: each row is an answer that some schedule over rings gives, or a step that one leaves open for ever. A
 //!   row without the code of an answer is that of an open step alone (`IsOfAnswer`, `IsOfOpen`, Outcomes.antt).
 //! - `not_reached`: a step without a row is answered by no schedule, and none leaves it open for ever (`IsNotReached`, Outcomes.antt).
-//! - `reached`, `covered`, `few`: the keys that are counted are different, and each is that of a world to which a late schedule leads. In a job in
-//!   which no event goes first each such world has one of them, or goes on as one that has. Otherwise events of seven kinds go first (`first_event.rt`
-//!   of `ulfm_outcomes` has them): worlds at which one does aren't counted, and those in which others went on meanwhile aren't looked at. The keys
-//!   are no more than the limit (`AreKeysOfJob`, `HasKeyIn`, Outcomes.antt; `NoneGoesFirst`, First.antt of `ulfm_reduction_laws`).
+//! - `reached`, `covered`, `few`: the keys that are counted are different, and each is that of a world to which a late schedule leads. From each such
+//!   world events that may go first, of the seven kinds that `first_event.rt` of `ulfm_outcomes` has, lead to one that goes on as a world with one of
+//!   these keys: worlds at which one does aren't counted, and those in which others went on meanwhile aren't looked at. The keys are no more than the
+//!   limit (`AreKeysOfJob`, `HasKeyAhead`, Outcomes.antt; `GoingFirst`, Graph.antt of `ulfm_reduction_laws`).
 //!
 //! If there are more different keys than the limit, `IsTooMany` (Outcomes.antt) says so (`many`), and nothing is said of answers.
 //!
