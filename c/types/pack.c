@@ -38,6 +38,11 @@ static void move_type(struct motion *motion, char *place, const struct type *typ
 /* Copies the data of so many elements from memory to `packed`, or back: at most `bytes` of them. */
 void um_move_data(const struct type *type, int count, void *memory, void *packed, size_t bytes, bool is_out) {
     struct motion motion = {packed, bytes, is_out};
+    size_t whole = (size_t)count * type->size;
+    if (type->is_plain) {
+        if (whole && bytes) memcpy(is_out ? packed : memory, is_out ? memory : packed, whole < bytes ? whole : bytes);
+        return;
+    }
     for (int k = 0; k < count && motion.left > 0; k++) move_type(&motion, (char *)memory + k * extent_of(type), type);
 }
 
@@ -56,6 +61,10 @@ static bool copy_run(void *of, ptrdiff_t at, const struct block *block) {
 void um_copy_data(const void *from, void *to, int count, MPI_Datatype handle) {
     const struct type *type = um_type_at(handle);
     struct copying copying = {to, from};
+    if (type->is_plain) {
+        if (count) memcpy(to, from, (size_t)count * type->size);
+        return;
+    }
     for (int k = 0; k < count; k++) um_each_run(type, k * extent_of(type), copy_run, &copying);
 }
 

@@ -52,7 +52,9 @@ static int write_runs(const struct window *window, const struct target *target, 
     bool is_dynamic = window->flavor == MPI_WIN_FLAVOR_DYNAMIC;
     writing->limit = is_dynamic ? PTRDIFF_MAX : (size_t)window->sizes[target->rank];
     writing->attached = is_dynamic ? window->exposures[target->rank] : 0;
-    for (int k = 0; k < target->data.count && writing->code == MPI_SUCCESS; k++) um_each_run(type, at + k * extent, write_run, writing);
+    int pieces = type->is_plain && !writing->element ? 0 : target->data.count;
+    if (!pieces) write_run(writing, at, &(struct block){.length = (size_t)target->data.count * type->size});
+    for (int k = 0; k < pieces && writing->code == MPI_SUCCESS; k++) um_each_run(type, at + k * extent, write_run, writing);
     return writing->code;
 }
 
