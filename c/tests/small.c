@@ -81,8 +81,11 @@ static void names(void) {
     MPI_Datatype type, again;
     MPI_Type_contiguous(2, MPI_INT, &type);
     CHECK(is_called(MPI_DOUBLE, "MPI_DOUBLE") && is_called(MPI_2INT, "MPI_2INT") && is_called(MPI_C_DOUBLE_COMPLEX, "MPI_C_DOUBLE_COMPLEX"));
-    CHECK(is_called(MPI_2REAL, "MPI_2REAL") && is_called(MPI_UB, "MPI_UB") && MPI_Type_match_size(MPI_TYPECLASS_INTEGER, 2, &again) == MPI_SUCCESS && again == MPI_INT16_T);
-    CHECK(MPI_Type_match_size(MPI_TYPECLASS_COMPLEX, 16, &again) == MPI_SUCCESS && again == MPI_C_DOUBLE_COMPLEX && class_of(MPI_Type_match_size(MPI_TYPECLASS_REAL, 3, &again)) == MPI_ERR_ARG);
+    CHECK(is_called(MPI_2REAL, "MPI_2REAL") && is_called(MPI_UB, "MPI_UB") && class_of(MPI_Type_match_size(MPI_TYPECLASS_REAL, 3, &again)) == MPI_ERR_ARG);
+#ifdef ULFM_MPI   /* MPICH 4.0.2 has types of their own for these: MPI_INTEGER2 and MPI_COMPLEX16 */
+    CHECK(MPI_Type_match_size(MPI_TYPECLASS_INTEGER, 2, &again) == MPI_SUCCESS && again == MPI_INT16_T);
+    CHECK(MPI_Type_match_size(MPI_TYPECLASS_COMPLEX, 16, &again) == MPI_SUCCESS && again == MPI_C_DOUBLE_COMPLEX);
+#endif
     CHECK(is_called(MPI_COUNT, "MPI_COUNT") && is_called(MPI_UINT64_T, "MPI_UINT64_T") && is_called(type, ""));
     MPI_Type_set_name(type, "two");
     MPI_Type_set_name(MPI_SHORT, "less");
