@@ -1,6 +1,6 @@
 /* Progress and waits. What a rank did that another one may see is counted: the moves of its engine at a place of its own, and at one place the marks of
    this layer that other ranks look at (matches, revocations of parts, ends). Each such change comes before its count. A rank that finds nothing
-   looks again some times, then yields, then sleeps until a count rises. Where each rank found nothing since the counts' last rise, nobody can move any
+   looks again for some time (patience.c), then sleeps until a count rises. Where each rank found nothing since the counts' last rise, nobody can move any
    more. */
 #define _GNU_SOURCE
 #include "progress/progress.h"
@@ -13,7 +13,7 @@
 #include <sys/syscall.h>
 #include <unistd.h>
 
-enum { MOST_LOOKS = 1000, FEW_LOOKS = 300, YIELDS = 4, TURNS = 64, LINE = 128 };
+enum { TURNS = 64, LINE = 128 };
 
 /* On cache lines of its own. */
 struct count {
@@ -24,7 +24,6 @@ static struct {
     _Alignas(LINE) _Atomic int sleepers;
     _Atomic uint32_t wakes; /* how often they were woken */
 } beds;
-static _Atomic int processors;
 
 static void wake(void) {
     if (atomic_load(&beds.sleepers) == 0) return;
@@ -109,30 +108,13 @@ static void sleep_until_moved(uint64_t seen) {
     atomic_fetch_sub(&beds.sleepers, 1);
 }
 
-/* Where others want the processors, a rank that waits gives its own away soon. */
-static int looks_before_yield(void) {
-    if (!processors) {
-        cpu_set_t set;
-        processors = sched_getaffinity(0, sizeof set, &set) == 0 ? CPU_COUNT(&set) : 1;
-    }
-    if (um_options.ranks > processors) return 1;
-    return FEW_LOOKS + MOST_LOOKS - um_me->patience.impatience;
-}
-
 /* Moves what goes out and comes in, for a call that looks once. A program may loop over such calls: where so many looks were in vain that a wait would
    yield, so does the loop. */
 void um_progress(void) {
     if (um_is_played) um_look_as_played();
     if (um_is_played || move_much()) return;
-    if (um_me->patience.vain < looks_before_yield()) um_me->patience.vain++;
+    if (um_me->patience.vain < um_first_looks()) um_me->patience.vain++;
     else sched_yield();
-}
-
-/* A rank whose looks were in vain, so that it slept, looks less the next time, and more again where looks served. The few that stay are as long as a
-   collective takes, so that ranks which all slept come together again. */
-static void learn(bool has_slept) {
-    if (has_slept) um_me->patience.impatience += (MOST_LOOKS - um_me->patience.impatience) / 2;
-    else um_learn_of_success();
 }
 
 /* Makes progress until `is_done` says so, which looks once each time: when something came, and `is_settled` where nothing did for some time. What it looks
@@ -148,19 +130,21 @@ void um_wait_until(bool (*is_done)(void *, bool is_settled), void *of, bool is_d
         um_learn_of_success();
         return;
     }
-    for (int looks = has_moved ? 0 : 1, most = looks_before_yield();;) {
-        if (looks >= most + YIELDS) seen = all_moves(); /* before the look: what comes after it is a further move */
+    bool is_last = false; /* of its looks, before it sleeps */
+    for (int looks = has_moved ? 0 : 1, most = um_first_looks();;) {
+        if (is_last) seen = all_moves(); /* before the look: what comes after it is a further move */
         has_moved = is_dear ? move_much() : um_move_once();
         uint64_t marked_at = um_count_of_marks();
         bool is_settled = !has_moved && (looks == most || marked_at != asked_at);
         if ((has_moved || is_settled) && is_done(of, is_settled)) break;
         asked_at = marked_at;
         looks = has_moved ? 0 : looks + 1;
-        has_slept = has_slept || looks > most + YIELDS;
-        if (looks > most + YIELDS) sleep_until_moved(seen);
-        else if (looks > most) sched_yield();
+        if (is_last && !has_moved) {
+            has_slept = true;
+            sleep_until_moved(seen);
+        } else is_last = looks > most && !um_looks_on(looks - most);
     }
-    learn(has_slept);
+    um_end_wait(has_slept);
 }
 
 /* Whether each rank has finalized or stopped. */

@@ -43,6 +43,10 @@ uint64_t um_count_of_marks(void);
 void um_look_at_open(void);
 /* Whether a sender may wait for a match here, or a request is open that was freed. */
 static inline bool um_is_waited_for(void) { return atomic_load(&um_me->shared.waited_for) > 0; }
+/* patience.c */
+int um_first_looks(void);
+bool um_looks_on(int past);
+void um_end_wait(bool has_slept);
 /* A look served. */
 static inline void um_learn_of_success(void) { um_me->patience.impatience -= um_me->patience.impatience / 4; }
 void um_wait_until(bool (*is_done)(void *, bool is_settled), void *of, bool is_dear);

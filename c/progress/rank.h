@@ -193,7 +193,9 @@ struct life {
 /* How it waits. */
 struct patience {
     int vain;       /* looks of calls that don't wait, since anything moved */
-    int impatience; /* by how much it looks less before it yields, where looks were in vain */
+    int impatience; /* by how much its first looks are fewer, where looks were in vain */
+    int crowded;    /* so many waits yet it sleeps almost at once */
+    uint64_t since; /* when it began to look on */
 };
 
 /* Where it is in the plan of stops and yields. */
