@@ -23,12 +23,13 @@ static inline void copy_few(void *to, const void *from, size_t length) {
 
 static bool is_reference(const struct received *received) { return received->body.content == REFERENCE; }
 
-int um_send_short(uint32_t context, int dest, int tag, struct bytes message) {
+int um_send_short(uint32_t context, int dest, int world, int tag, struct bytes message) {
     union body body;
     body.whole.content = MESSAGE;
     copy_few(body.whole.message, message.at, message.length);
     uint32_t code = ulfm_isend(um_me->slot, context, (uint32_t)dest, (uint32_t)tag, &body.content, 1 + message.length);
     if (code != ULFM_OK) return um_class_of(code);
+    um_me->bed.sent_to |= 1u << world;
     um_move_once();
     return MPI_SUCCESS;
 }
@@ -52,6 +53,7 @@ static __attribute__((noinline)) int send_parcel(const struct parcel *like, int 
     }
     if (waits && um_footprints) um_footprints[um_step].flags |= WAITED_FOR;
     if (waits) *waits = parcel;
+    um_me->bed.sent_to |= 1u << parcel->to;
     um_move_once();
     um_fill_parcel(parcel);
     return MPI_SUCCESS;
@@ -68,7 +70,7 @@ int um_send_body(uint32_t context, int dest, int world, int tag, struct bytes me
                                             .length = message.length,
                                             .source = message.at},
                            dest, waits);
-    return um_send_short(context, dest, tag, message);
+    return um_send_short(context, dest, world, tag, message);
 }
 
 bool um_is_long(size_t length) { return length == REFERRING; }

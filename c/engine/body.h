@@ -33,7 +33,7 @@ struct bytes {
 };
 
 /* Sends a message that stands in its body to the position `dest`, where nobody waits for its match. */
-int um_send_short(uint32_t context, int dest, int tag, struct bytes message);
+int um_send_short(uint32_t context, int dest, int world, int tag, struct bytes message);
 
 /* Whether a message of this length can stand in its body. No such body is as long as one that refers to a parcel. */
 static inline bool um_is_short(size_t length) { return length <= AT_ONCE && length != sizeof(struct reference) - 1; }

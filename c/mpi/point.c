@@ -31,7 +31,8 @@ static inline bool is_short(const struct transfer *send, size_t bytes) {
 
 static inline int send_short(const struct transfer *send, size_t bytes) {
     const struct comm *comm = send->comm;
-    return um_send_short(comm->context, comm->engine_position[send->peer], send->tag, (struct bytes){send->data.at, bytes});
+    return um_send_short(comm->context, comm->engine_position[send->peer], comm->members[send->peer], send->tag,
+                         (struct bytes){send->data.at, bytes});
 }
 
 /* A request of a message that went. A refusal is told where it ends. */

@@ -194,6 +194,7 @@ uint32_t __wrap_ulfm_improbe(ulfm_slot *slot, uint32_t comm, uint32_t source, ui
 
 REAL(revoke);
 uint32_t __wrap_ulfm_revoke(ulfm_slot *slot, uint32_t comm) {
+    um_go_beyond_messages();
     if (!um_is_played) return __real_ulfm_revoke(slot, comm);
     before(event_of(REVOKES, comm, NOBODY, ULFM_ANY));
     uint32_t code = __real_ulfm_revoke(slot, comm);
@@ -240,6 +241,7 @@ uint32_t __wrap_ulfm_dup(ulfm_slot *slot, uint32_t comm, uint32_t *made) {
 
 REAL(enter_shrink);
 uint32_t __wrap_ulfm_enter_shrink(ulfm_slot *slot, uint32_t comm) {
+    um_go_beyond_messages();
     if (!um_is_played) return __real_ulfm_enter_shrink(slot, comm);
     before(event_of(ENTERS_SHRINK, comm, NOBODY, ULFM_ANY));
     uint32_t code = __real_ulfm_enter_shrink(slot, comm);
@@ -251,6 +253,7 @@ uint32_t __wrap_ulfm_enter_shrink(ulfm_slot *slot, uint32_t comm) {
 
 REAL(enter_agree);
 uint32_t __wrap_ulfm_enter_agree(ulfm_slot *slot, uint32_t comm, uint32_t flag) {
+    um_go_beyond_messages();
     if (!um_is_played) return __real_ulfm_enter_agree(slot, comm, flag);
     before(event_of(ENTERS_AGREE, comm, NOBODY, ULFM_ANY));
     uint32_t code = __real_ulfm_enter_agree(slot, comm, flag);
@@ -284,6 +287,7 @@ uint32_t __wrap_ulfm_poll_agree(ulfm_slot *slot, uint32_t comm, uint32_t *value,
 
 REAL(stop);
 uint32_t __wrap_ulfm_stop(ulfm_slot *slot) {
+    um_go_beyond_messages();
     if (!um_is_played) return __real_ulfm_stop(slot);
     before(event_of(STOPS, 0, NOBODY, ULFM_ANY));
     uint32_t code = __real_ulfm_stop(slot);

@@ -1,17 +1,14 @@
 /* Progress and waits. What a rank did that another one may see is counted: the moves of its engine at a place of its own, and at one place the marks of
    this layer that other ranks look at (matches, revocations of parts, ends). Each such change comes before its count. A rank that finds nothing
-   looks again for some time (patience.c), then sleeps until a count rises. Where each rank found nothing since the counts' last rise, nobody can move any
-   more. */
+   looks again for some time (patience.c), then sleeps until something concerns it (sleep.c). Where each rank found nothing since the counts' last rise, nobody
+   can move any more. */
 #define _GNU_SOURCE
 #include "progress/progress.h"
 #include "mpi/calls.h"
 #include "play/play.h"
 #include "recovery/recovery.h"
 #include "search/search.h"
-#include <linux/futex.h>
 #include <sched.h>
-#include <sys/syscall.h>
-#include <unistd.h>
 
 enum { TURNS = 64, LINE = 128 };
 
@@ -20,28 +17,21 @@ struct count {
     _Alignas(LINE) _Atomic uint64_t count;
 };
 static struct count moves[MAX_RANKS], marks;
-static struct {
-    _Alignas(LINE) _Atomic int sleepers;
-    _Atomic uint32_t wakes; /* how often they were woken */
-} beds;
 
-static void wake(void) {
-    if (atomic_load(&beds.sleepers) == 0) return;
-    atomic_fetch_add(&beds.wakes, 1);
-    syscall(SYS_futex, &beds.wakes, FUTEX_WAKE_PRIVATE, MAX_RANKS, 0, 0, 0);
-}
+static uint64_t own_moves(void) { return atomic_load_explicit(&moves[um_me->number].count, memory_order_relaxed); }
+
+static void count_move(void) { atomic_store(&moves[um_me->number].count, own_moves() + 1); /* before the look at who sleeps */ }
 
 /* The rank's engine changed what other ranks may see. */
 void um_moved(void) {
-    _Atomic uint64_t *own = &moves[um_me->number].count;
-    atomic_store(own, atomic_load_explicit(own, memory_order_relaxed) + 1); /* before the look at who sleeps */
-    wake();
+    count_move();
+    if (um_somebody_sleeps()) um_wake(EVERYBODY);
 }
 
 /* A mark of this layer changed that other ranks look at. */
 void um_marked(void) {
     atomic_fetch_add(&marks.count, 1);
-    wake();
+    if (um_somebody_sleeps()) um_wake(EVERYBODY);
 }
 
 /* How often marks changed. */
@@ -58,7 +48,8 @@ static bool turn(void) {
     uint32_t did = 0;
     if (ulfm_turn(um_me->slot, &did) != ULFM_OK || !did) return false;
     um_me->patience.vain = 0;
-    um_moved();
+    count_move();
+    if (um_somebody_sleeps()) um_wake_concerned();
     return true;
 }
 
@@ -98,14 +89,27 @@ static bool can_nobody_move(uint64_t seen) {
     return !all_gone && all_moves() == seen;
 }
 
+/* The ranks whose last look was before all moves were `seen`, where each other rank sleeps too; else none. */
+static uint32_t those_behind(uint64_t seen) {
+    uint32_t behind = 0;
+    for (int k = 0; k < um_options.ranks; k++) {
+        uint64_t idle = atomic_load(&um_ranks[k].shared.idle);
+        if (atomic_load(&um_ranks[k].shared.is_ended)) continue;
+        if (idle == 0) return 0;
+        if (idle != seen + 1) behind |= 1u << k;
+    }
+    return behind;
+}
+
+/* The look before found nothing. Who sleeps isn't woken by each move, so the last one that lies down wakes those who looked before moves that are
+   counted: each looks once more, before nobody can move. */
 static void sleep_until_moved(uint64_t seen) {
-    atomic_fetch_add(&beds.sleepers, 1);
-    uint32_t wakes = atomic_load(&beds.wakes); /* who moves from now on wakes this rank */
     atomic_store(&um_me->shared.idle, seen + 1);
     if (can_nobody_move(seen)) um_tell_stuck();
-    if (all_moves() == seen) syscall(SYS_futex, &beds.wakes, FUTEX_WAIT_PRIVATE, wakes, 0, 0, 0);
+    uint32_t behind = those_behind(seen);
+    um_wake(behind);
+    if (!behind || all_moves() == seen) um_sleep();
     atomic_store(&um_me->shared.idle, 0);
-    atomic_fetch_sub(&beds.sleepers, 1);
 }
 
 /* Moves what goes out and comes in, for a call that looks once. A program may loop over such calls: where so many looks were in vain that a wait would
@@ -124,25 +128,30 @@ void um_wait_until(bool (*is_done)(void *, bool is_settled), void *of, bool is_d
         um_wait_as_played(is_done, of);
         return;
     }
-    uint64_t seen = 0, asked_at = um_count_of_marks();
+    uint64_t seen = 0, own = 0, asked_at = um_count_of_marks();
     bool has_moved = is_dear ? move_much() : um_move_once(), has_slept = false;
     if (is_done(of, !has_moved)) {
         um_learn_of_success();
         return;
     }
-    bool is_last = false; /* of its looks, before it sleeps */
-    for (int looks = has_moved ? 0 : 1, most = um_first_looks();;) {
-        if (is_last) seen = all_moves(); /* before the look: what comes after it is a further move */
+    bool is_last = false, is_over = false; /* is_last: of its looks, before it sleeps */
+    for (int looks = has_moved ? 0 : 1, most = um_first_looks(); !is_over;) {
+        if (is_last) {
+            um_lie_down();
+            seen = all_moves(); /* before the look: what comes after it is a further move */
+            own = own_moves();
+        }
         has_moved = is_dear ? move_much() : um_move_once();
         uint64_t marked_at = um_count_of_marks();
         bool is_settled = !has_moved && (looks == most || marked_at != asked_at);
-        if ((has_moved || is_settled) && is_done(of, is_settled)) break;
+        is_over = (has_moved || is_settled) && is_done(of, is_settled);
         asked_at = marked_at;
         looks = has_moved ? 0 : looks + 1;
-        if (is_last && !has_moved) {
+        if (is_last && !is_over && !has_moved && own_moves() == own) {
             has_slept = true;
             sleep_until_moved(seen);
-        } else is_last = looks > most && !um_looks_on(looks - most);
+        } else is_last = !is_over && looks > most && !um_looks_on(looks - most);
+        um_get_up();
     }
     um_end_wait(has_slept);
 }

@@ -43,6 +43,17 @@ uint64_t um_count_of_marks(void);
 void um_look_at_open(void);
 /* Whether a sender may wait for a match here, or a request is open that was freed. */
 static inline bool um_is_waited_for(void) { return atomic_load(&um_me->shared.waited_for) > 0; }
+/* sleep.c */
+enum { EVERYBODY = (1 << MAX_RANKS) - 1 };
+extern _Atomic int um_sleepers;
+static inline bool um_somebody_sleeps(void) { return atomic_load(&um_sleepers) > 0; }
+void um_go_beyond_messages(void);
+void um_wake(uint32_t ranks);
+void um_wake_concerned(void);
+void um_lie_down(void);
+void um_sleep(void);
+void um_get_up(void);
+
 /* patience.c */
 int um_first_looks(void);
 bool um_looks_on(int past);

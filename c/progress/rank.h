@@ -198,6 +198,13 @@ struct patience {
     uint64_t since; /* when it began to look on */
 };
 
+/* Where it sleeps, or is about to. */
+struct in_bed {
+    bool lies, has_rest; /* has_rest: it was counted as one who may wait for places */
+    uint32_t wakes;      /* how often it was woken before it lay down */
+    uint32_t sent_to;    /* bits of the world ranks to whom it sent something that others may not have been woken for */
+};
+
 /* Where it is in the plan of stops and yields. */
 struct plan {
     _Atomic int calls; /* that count */
@@ -249,6 +256,7 @@ struct rank {
     struct call call;          /* by progress/call.c alone */
     _Atomic bool call_is_held; /* by who writes it or looks at it, for a moment */
     struct patience patience;
+    struct in_bed bed;
     struct plan plan;
     struct played played;
     struct output out;
