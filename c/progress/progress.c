@@ -44,7 +44,7 @@ static uint64_t all_moves(void) {
     return sum;
 }
 
-static bool turn(void) {
+static inline __attribute__((always_inline)) bool turn(void) {
     uint32_t did = 0;
     if (ulfm_turn(um_me->slot, &did) != ULFM_OK || !did) return false;
     um_me->patience.vain = 0;
