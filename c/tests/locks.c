@@ -136,25 +136,27 @@ static void shared(void) {
 
 /* Memory that is attached later, by its address. */
 static void attached(void) {
-    long *own = malloc(4 * sizeof *own), put = 100 + rank, got = 0;
+    long *own = malloc(6 * sizeof *own), put = 100 + rank, pair[] = {100 + rank, 300 + rank}, got = 0;
     MPI_Aint at, there;
     MPI_Win win;
     CHECK(MPI_Win_create_dynamic(MPI_INFO_NULL, world, &win) == MPI_SUCCESS);
     MPI_Win_set_errhandler(win, MPI_ERRORS_RETURN);
     CHECK(MPI_Win_attach(win, own, 4 * sizeof *own) == MPI_SUCCESS && class_of(MPI_Win_attach(win, own + 1, sizeof *own)) == MPI_ERR_RMA_ATTACH);
+    CHECK(MPI_Win_attach(win, own + 4, 2 * sizeof *own) == MPI_SUCCESS); /* right behind */
     MPI_Get_address(own, &at);
     MPI_Sendrecv(&at, 1, MPI_AINT, before, 1, &there, 1, MPI_AINT, next, 1, world, MPI_STATUS_IGNORE);
     MPI_Win_fence(0, win);
     MPI_Put(&put, 1, MPI_LONG, next, there, 1, MPI_LONG, win);
-    CHECK(class_of(MPI_Put(&put, 1, MPI_LONG, next, there + 4 * sizeof *own, 1, MPI_LONG, win)) == MPI_ERR_RMA_RANGE);
+    CHECK(class_of(MPI_Put(pair, 2, MPI_LONG, next, there + 5 * sizeof *own, 2, MPI_LONG, win)) == MPI_ERR_RMA_RANGE);
     MPI_Win_fence(MPI_MODE_NOSUCCEED, win);
     CHECK(own[0] == 100 + before);
     MPI_Win_lock(MPI_LOCK_EXCLUSIVE, next, 0, win);
-    MPI_Put(&put, 1, MPI_LONG, next, MPI_Aint_add(there, 3 * sizeof *own), 1, MPI_LONG, win);
+    MPI_Put(pair, 2, MPI_LONG, next, MPI_Aint_add(there, 3 * sizeof *own), 2, MPI_LONG, win);
     MPI_Get(&got, 1, MPI_LONG, next, there, 1, MPI_LONG, win);
     MPI_Win_unlock(next, win);
     MPI_Barrier(world);
-    CHECK(own[3] == 100 + before && got == 100 + rank && MPI_Win_detach(win, own) == MPI_SUCCESS && class_of(MPI_Win_detach(win, own)) == MPI_ERR_ARG);
+    CHECK(own[3] == 100 + before && own[4] == 300 + before && got == 100 + rank);
+    CHECK(MPI_Win_detach(win, own) == MPI_SUCCESS && class_of(MPI_Win_detach(win, own)) == MPI_ERR_ARG && MPI_Win_detach(win, own + 4) == MPI_SUCCESS);
     MPI_Win_free(&win);
     free(own);
 }

@@ -5,14 +5,21 @@
 #include "windows/windows.h"
 #include <stdlib.h>
 
-/* Whether memory is part of one region. */
-bool um_is_attached(struct exposure *exposure, uintptr_t at, size_t length) {
-    bool is = false;
-    pthread_mutex_lock(&exposure->guard);
-    for (int k = 0; k < exposure->region_count && !is; k++) {
+/* Whether memory is part of a region, or goes on from one into others that stand right behind. */
+static bool is_covered(const struct exposure *exposure, uintptr_t at, size_t length) {
+    for (int k = 0; k < exposure->region_count; k++) {
         const struct region *region = &exposure->regions[k];
-        is = at >= (uintptr_t)region->at && length <= region->length && at - (uintptr_t)region->at <= region->length - length;
+        size_t into = at - (uintptr_t)region->at, rest = region->length - into;
+        if (at < (uintptr_t)region->at || into > region->length) continue;
+        if (length <= rest) return true;
+        if (rest > 0) return is_covered(exposure, at + rest, length - rest);
     }
+    return false;
+}
+
+bool um_is_attached(struct exposure *exposure, uintptr_t at, size_t length) {
+    pthread_mutex_lock(&exposure->guard);
+    bool is = is_covered(exposure, at, length);
     pthread_mutex_unlock(&exposure->guard);
     return is;
 }
