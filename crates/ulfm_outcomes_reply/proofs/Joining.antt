@@ -45,13 +45,13 @@ module _ (asked : Asked) (limit : ℕ) where
 pub joined-end : (parts left : List (Result Lists AllocError)) (listed : List Listed) (past : List Place) → AreJoinedSoFar parts listed past left → left ≡ [] → AreJoined parts listed past
 joined-end parts left listed past so_far none = λ asked limit places are.
     let was = so_far asked limit places are in
-    goes_on-end asked limit places listed past was.0 was.1 (subst (λ (ps : List (Result Lists AllocError)). AreParts asked limit was.0 ps) none was.2)
+    goes_on-end asked limit places listed past was.0 was.1 (subst (λ (ps : List (Result Lists AllocError)). AreParts (IsPart asked limit) was.0 ps) none was.2)
 
 -- one more part
 pub joined-on : (parts left more : List (Result Lists AllocError)) (part : Result Lists AllocError) (lists : Lists) (listed new : List Listed) (past out : List Place) → AreJoinedSoFar parts listed past left
     → left ≡ part ∷ more → part ≡ Ok lists → new ≡ listed ++ lists.listed.items → out ≡ past ++ lists.past_limit.items → AreJoinedSoFar parts new out more
 joined-on parts left more part lists listed new past out so_far next is pushed put = λ asked limit places are.
     let was = so_far asked limit places are in
-    let step = subst (λ (ps : List (Result Lists AllocError)). AreParts asked limit was.0 ps) next was.2 in
+    let step = subst (λ (ps : List (Result Lists AllocError)). AreParts (IsPart asked limit) was.0 ps) next was.2 in
     let all = subst (IsPart asked limit step.0) is step.3 in
     (step.1, goes_on-part asked limit places listed past was.0 was.1 step.0 step.1 lists.listed.items new lists.past_limit.items out step.2 pushed put all, step.4)

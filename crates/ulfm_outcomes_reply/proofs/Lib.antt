@@ -6,4 +6,5 @@ pub mod Unfound
 pub mod Statuses
 pub mod Joining
 pub mod Parting
+pub mod Combining
 pub mod RowsFound

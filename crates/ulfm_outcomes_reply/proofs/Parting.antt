@@ -1,37 +1,33 @@
--- Places in parts of one size.
-use Rattle.std.proofs.Common.{◌≡◌, ℕ, zero, suc, ◌+◌, ◌*◌, ◌/◌, ◌%◌, ◌<◌, ◌≤◌, min, List, [], ◌∷◌, ◌++◌, Result, length, take, drop, refl, ap, sym, subst, ◌∙◌, arith, length-drop, slice_index_or}
+-- Lists in parts of one size.
+use Rattle.std.proofs.Common.{◌≡◌, ℕ, zero, suc, ◌+◌, ◌*◌, ◌/◌, ◌%◌, ◌<◌, ◌≤◌, min, List, [], ◌∷◌, ◌++◌, length, take, drop, refl, ap, sym, subst, ◌∙◌, arith, length-drop, slice_index_or}
 use Rattle.std.proofs.Math.Nat.{mod-lt}
 use Rattle.std.proofs.lemmas.List.{drop-drop, drop_all, take-append-drop}
 use Rattle.std.proofs.lemmas.Nat.{div-add-mod'}
 use Rattle.std.specs.Fork.{slice_chunk}
-use Rattle.std.specs.declared.alloc.AllocError.{AllocError}
-use Rattle.ulfm_command_line.specs.Stopped.{Asked}
-use Rattle.ulfm_job.specs.declared.place.Place.{Place}
-use Rattle.ulfm_outcomes_reply.specs.inside.Parts.{AreParts, IsPart}
-use Rattle.ulfm_outcomes_reply.specs.declared.lists.Lists.{Lists}
+use Rattle.ulfm_outcomes_reply.specs.inside.Parts.{AreParts}
 
-module _ (asked : Asked) (limit : ℕ) (xs : List Place) (size : ℕ) where
-  -- the places from a part on, by what each part came to
-  pub parted-from : (n : ℕ) (rs : List (Result Lists AllocError)) → ((k : ℕ) (d : Result Lists AllocError) → k < length rs → IsPart asked limit (slice_chunk xs size (n + k)) (slice_index_or rs k d))
-      → length (drop (n * size) xs) ≤ length rs * size → AreParts asked limit (drop (n * size) xs) rs
+module _ {X R : Type 0} (Came : List X → R → Type 0) (xs : List X) (size : ℕ) where
+  -- the elements from a part on, by what each part came to
+  pub parted-from : (n : ℕ) (rs : List R) → ((k : ℕ) (d : R) → k < length rs → Came (slice_chunk xs size (n + k)) (slice_index_or rs k d))
+      → length (drop (n * size) xs) ≤ length rs * size → AreParts Came (drop (n * size) xs) rs
   parted-from n [] each short = drop_all 0 (drop (n * size) xs) (omega (arith, short))
   parted-from n (r ∷ rs) each short =
       let next : n * size + size ≡ suc n * size = omega arith in
       let here : n + 0 ≡ n = omega arith in (
         take size (drop (n * size) xs),
         drop (suc n * size) xs,
-        sym (take-append-drop size (drop (n * size) xs)) ∙ ap (λ (ps : List Place). take size (drop (n * size) xs) ++ ps) (drop-drop size (n * size) xs ∙ ap (λ (m : ℕ). drop m xs) next),
-        subst (λ (m : ℕ). IsPart asked limit (slice_chunk xs size m) r) here (each 0 r (omega arith)),
-        parted-from (suc n) rs (λ k d low. let same : n + suc k ≡ suc n + k = omega arith in subst (λ (m : ℕ). IsPart asked limit (slice_chunk xs size m) (slice_index_or rs k d)) same (each (suc k) d (omega (arith, low)))) (omega (arith, short, length-drop (n * size) xs, length-drop (suc n * size) xs)),
+        sym (take-append-drop size (drop (n * size) xs)) ∙ ap (λ (ys : List X). take size (drop (n * size) xs) ++ ys) (drop-drop size (n * size) xs ∙ ap (λ (m : ℕ). drop m xs) next),
+        subst (λ (m : ℕ). Came (slice_chunk xs size m) r) here (each 0 r (omega arith)),
+        parted-from (suc n) rs (λ k d low. let same : n + suc k ≡ suc n + k = omega arith in subst (λ (m : ℕ). Came (slice_chunk xs size m) (slice_index_or rs k d)) same (each (suc k) d (omega (arith, low)))) (omega (arith, short, length-drop (n * size) xs, length-drop (suc n * size) xs)),
       )
 
--- all places, by what each part came to
-pub parted : (asked : Asked) (limit : ℕ) (xs : List Place) (size : ℕ) (rs : List (Result Lists AllocError)) → ((k : ℕ) (d : Result Lists AllocError) → k < length rs → IsPart asked limit (slice_chunk xs size k) (slice_index_or rs k d))
-    → length xs ≤ length rs * size → AreParts asked limit xs rs
-parted asked limit xs size rs each short =
+-- all of them, by what each part came to
+pub parted : {X R : Type 0} (Came : List X → R → Type 0) (xs : List X) (size : ℕ) (rs : List R) → ((k : ℕ) (d : R) → k < length rs → Came (slice_chunk xs size k) (slice_index_or rs k d))
+    → length xs ≤ length rs * size → AreParts Came xs rs
+parted {X} Came xs size rs each short =
     let none : 0 * size ≡ 0 = omega arith in
-    subst (λ (n : ℕ). AreParts asked limit (drop n xs) rs) none
-    (parted-from asked limit xs size 0 rs (λ k d low. let same : k ≡ 0 + k = omega arith in subst (λ (m : ℕ). IsPart asked limit (slice_chunk xs size m) (slice_index_or rs k d)) same (each k d low))
+    subst (λ (n : ℕ). AreParts Came (drop n xs) rs) none
+    (parted-from Came xs size 0 rs (λ k d low. let same : k ≡ 0 + k = omega arith in subst (λ (m : ℕ). Came (slice_chunk xs size m) (slice_index_or rs k d)) same (each k d low))
     (subst (λ (n : ℕ). length (drop n xs) ≤ length rs * size) (sym none) short))
 
 -- as many parts as there are have room for all places

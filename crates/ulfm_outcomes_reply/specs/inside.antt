@@ -2,3 +2,4 @@
 pub mod Looking
 pub mod Judging
 pub mod Parts
+pub mod Findings

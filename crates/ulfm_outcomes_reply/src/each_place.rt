@@ -10,6 +10,7 @@ ghost use Rattle.ulfm_outcomes_reply.specs.EachPlace.{IsEachPlaceReply, places_p
 ghost use Rattle.ulfm_outcomes_reply.specs.inside.Judging.{AreListedOf, AreSharing, IsEachText, lists_judgement, lists_status, lists_text};
 
 use crate::drawing::first_drawn;
+use crate::finding_threads::first_by_threads;
 use crate::hang::judgement_of_all;
 use crate::lists::Lists;
 use crate::onlooker::Onlooker;
@@ -18,7 +19,6 @@ use crate::picked_steps::{chosen, no_name, printed, unknown_part};
 use crate::search::Search;
 use crate::threads::list_places;
 use crate::unheld::with_unheld;
-use crate::unwanted::first_unwanted;
 use crate::verdict_lines::lists_remarks;
 use std::alloc::AllocError;
 use std::thread;
@@ -95,7 +95,7 @@ where
     onlooker.see_listed(lists.listed.len(), places.len());
     match first_drawn(search, asked, lists.listed.as_slice(), onlooker)? {
         Some(reply) => Ok(reply),
-        None => judged(search, asked, &lists, onlooker),
+        None => judged(rt, search, asked, &lists, threads, onlooker),
     }
 }
 
@@ -123,17 +123,24 @@ fn processors<R: Threads>(rt: &R) -> u8
 }
 
 /// The lists, and below them what isn't wanted.
-fn judged<F: Finder, L: Onlooker>(
+fn judged<R, F, L>(
+    rt: &R,
     search: &Search<'_, F>,
     asked: &Reading,
     lists: &Lists,
+    threads: u8,
     onlooker: &L,
 ) -> Result<Reply, AllocError>
+where
+    R: Threads + Sync,
+    F: Finder + Sync,
+    L: Onlooker + Sync,
     requires listed { AreListedOf (asked_view asked.now) search.now.options.limit lists.now.listed.items }
+    requires threads { 0 < threads }
     ensures { IfOk result (λ r. IsEachText search.now.form (choice_view search.now.choice) search.now.options (asked_view asked.now) lists.now r.status (body_in search.now.form r.body)) }
 {
     let listed = lists.listed.as_slice();
-    match first_unwanted(search, asked, listed, onlooker)? {
+    match first_by_threads(rt, search, asked, listed, threads, onlooker)? {
         Some(told) => {
             let text = text_of(search, asked, lists, told.judgement)?;
             below(text, with_unheld(told, asked, listed))

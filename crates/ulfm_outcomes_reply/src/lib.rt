@@ -31,7 +31,8 @@
 //! - `search.rt`: a search, with its limit and its form: what most functions here take
 //! - `outcomes_reply.rt`: [`list_reply`], and the reply to one job; `place_lists.rt`, `lists.rt`: the lists of places; `threads.rt`: these by threads
 //! - `picked_steps.rt`: the steps whose lines a list has (`--only`, `--notes`)
-//! - `unwanted.rt`: whatever a job doesn't want, and where it comes first; `never_rows.rt`: rows of `never`; `finding.rt`: what was found
+//! - `unwanted.rt`: whatever a job doesn't want, and where it comes first; `never_rows.rt`: rows of `never`; `finding.rt`: what was found;
+//!   `finding_threads.rt`: where it comes first, by threads
 //! - `each_place.rt`: the reply with `--stops`; `show_reply.rt`, `show_each_place.rt`: with `--show`, and with both
 //! - `drawing.rt`: the step that `--draw` draws; `hanging.rt`, `hang.rt`: the first step that never ends
 //! - `onlooker.rt`: who is told how far the lists are
@@ -44,6 +45,7 @@
 mod drawing;
 mod each_place;
 mod finding;
+mod finding_threads;
 mod hang;
 mod hanging;
 mod lists;

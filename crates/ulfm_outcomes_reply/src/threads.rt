@@ -45,8 +45,8 @@ where
     joined(search.alloc, parts)
 }
 
-/// How many places a part has, of so many parts at most.
-fn part_size(places: usize, threads: u8) -> usize
+/// How many of so many places a part has, of so many parts at most.
+pub(crate) fn part_size(places: usize, threads: u8) -> usize
     requires { 0 < threads }
     ensures exact { result ≡ max 1 (div_ceil places threads) }
     ensures some { 0 < result }
@@ -69,7 +69,7 @@ where
     L: Onlooker + Sync,
     requires inside { All (IsPlaceOf asked.now.job) places.now }
     requires some { 0 < size }
-    ensures { IfOk result (λ parts. AreParts (asked_view asked.now) search.now.options.limit places.now parts.items) }
+    ensures { IfOk result (λ parts. AreParts (IsPart (asked_view asked.now) search.now.options.limit) places.now parts.items) }
 {
     let list = |_start: usize, part: &[Place]| -> Result<Lists, OutOfMemory>
         requires { All (IsPlaceOf asked.now.job) part.now }

@@ -29,7 +29,7 @@ use ulfm_reader::Reading;
 
 /// What is told of the first of these places where a schedule is found that isn't wanted. Where none is found, of the first with a row of
 /// `never` that can't be looked for within the limit, if there is one.
-pub fn first_unwanted<F: Finder, L: Onlooker>(
+pub(crate) fn first_unwanted<F: Finder, L: Onlooker>(
     search: &Search<'_, F>,
     asked: &Reading,
     listed: &[Listed],
@@ -50,7 +50,7 @@ pub fn first_unwanted<F: Finder, L: Onlooker>(
 }
 
 /// Whether a schedule was found that isn't wanted, by what is told.
-fn is_found(told: &Option<Finding>) -> bool
+pub(crate) fn is_found(told: &Option<Finding>) -> bool
     ensures { result ≡ is_found told.now }
 {
     match told {
@@ -60,7 +60,7 @@ fn is_found(told: &Option<Finding>) -> bool
 }
 
 /// What is told first of a place and of a later one.
-fn earlier(first: Option<Finding>, then: Option<Finding>) -> Option<Finding>
+pub(crate) fn earlier(first: Option<Finding>, then: Option<Finding>) -> Option<Finding>
     ensures { result ≡ option_or first then }
 {
     first.or(then)

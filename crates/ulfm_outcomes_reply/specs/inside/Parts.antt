@@ -29,10 +29,10 @@ abbrev pub IsPart : Asked → ℕ → List Place → Result Lists AllocError →
 IsPart asked limit places (Ok lists) = AreLists asked limit places lists.listed.items lists.past_limit.items
 IsPart asked limit places (Err fault) = ⊤
 
--- the places are parted into as many parts, of which each came to this
-abbrev pub AreParts : Asked → ℕ → List Place → List (Result Lists AllocError) → Type 0
-AreParts asked limit places [] = places ≡ []
-AreParts asked limit places (part ∷ parts) = (front rest : List Place) × (places ≡ front ++ rest) × IsPart asked limit front part × AreParts asked limit rest parts
+-- a list is parted into as many parts, of which each came to this
+abbrev pub AreParts : {X R : Type 0} → (List X → R → Type 0) → List X → List R → Type 0
+AreParts Came xs [] = xs ≡ []
+AreParts {X} Came xs (r ∷ rs) = (front rest : List X) × (xs ≡ front ++ rest) × Came front r × AreParts Came rest rs
 
 -- whatever the lists of the rest of the places are, behind these they are those of all
 abbrev pub GoesOn : Asked → ℕ → List Place → List Listed → List Place → List Place → Type 0
@@ -40,9 +40,9 @@ GoesOn asked limit places listed past rest = (more : List Listed) (others : List
 
 -- the lists of the places that are parted so
 abbrev pub AreJoined : List (Result Lists AllocError) → List Listed → List Place → Type 0
-AreJoined parts listed past = (asked : Asked) (limit : ℕ) (places : List Place) → AreParts asked limit places parts → AreLists asked limit places listed past
+AreJoined parts listed past = (asked : Asked) (limit : ℕ) (places : List Place) → AreParts (IsPart asked limit) places parts → AreLists asked limit places listed past
 
 -- the lists of the first of them, and what is left of the parts and of the places
 abbrev pub AreJoinedSoFar : List (Result Lists AllocError) → List Listed → List Place → List (Result Lists AllocError) → Type 0
 AreJoinedSoFar parts listed past left =
-    (asked : Asked) (limit : ℕ) (places : List Place) → AreParts asked limit places parts → (rest : List Place) × GoesOn asked limit places listed past rest × AreParts asked limit rest left
+    (asked : Asked) (limit : ℕ) (places : List Place) → AreParts (IsPart asked limit) places parts → (rest : List Place) × GoesOn asked limit places listed past rest × AreParts (IsPart asked limit) rest left

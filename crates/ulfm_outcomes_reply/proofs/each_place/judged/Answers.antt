@@ -7,8 +7,8 @@ use Rattle.ulfm_outcomes_reply.specs.EachPlace.{IsJudgedEach, places_in, wanted}
 use Rattle.ulfm_outcomes_reply.specs.inside.Judging.{AreListedOf, IsFirstUnwanted, lists_judgement, lists_status}
 use Rattle.ulfm_outcomes_reply.proofs.each_place.judged.Goals as goal
 
-pub first_unwanted-requires : goal.first_unwanted-requires
-first_unwanted-requires g c = subst (AreListedOf (asked_view c.args.asked.now) c.args.search.now.options.limit) (sym c.as_slice-listed.ensures.value) c.requires.listed
+pub first_by_threads-requires-clause-listed : goal.first_by_threads-requires-clause-listed
+first_by_threads-requires-clause-listed g c κs within = subst (AreListedOf (asked_view c.args.asked.now) c.args.search.now.options.limit) (sym c.as_slice-listed.ensures.value) c.requires.listed
 
 pub returns-in_ok-text-in-Some : goal.returns-in_ok-text-in-Some
 returns-in_ok-text-in-Some g c =

@@ -16,13 +16,11 @@ pub returns-then-len-stops-gt-MOST_STEPS : goal.returns-then-len-stops-gt-MOST_S
 returns-then-len-stops-gt-MOST_STEPS g c = λ bytes read named.
     rw (c.refusal.ensures.status, c.refusal.ensures.body) (no_room_for_stops (asked_view c.args.asked.now) read named (omega (arith, c.len.ensures.exact, c.if-len-stops-gt-MOST_STEPS.true)))
 
-pub judged-requires : goal.judged-requires
-judged-requires g c =
+pub judged-requires-clause-listed : goal.judged-requires-clause-listed
+judged-requires-clause-listed g c κs within =
     let asked = asked_view c.args.asked.now in
-    record {
-      listed = lists_of asked c.args.search.now.options.limit c.as_slice.result.now c.in_ok-lists.lists.listed.items c.in_ok-lists.lists.past_limit.items c.in_ok-lists.ensures
-          (subst (All (IsPlaceOf asked.job)) (sym c.as_slice.ensures.value) c.in_ok-places.ensures.inside);
-    }
+    lists_of asked c.args.search.now.options.limit c.as_slice.result.now c.in_ok-lists.lists.listed.items c.in_ok-lists.lists.past_limit.items c.in_ok-lists.ensures
+    (subst (All (IsPlaceOf asked.job)) (sym c.as_slice.ensures.value) c.in_ok-places.ensures.inside)
 
 pub first_drawn-requires : goal.first_drawn-requires
 first_drawn-requires g c =
