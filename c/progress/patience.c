@@ -53,6 +53,7 @@ bool um_looks_on(int past) {
 void um_end_wait(bool has_slept) {
     struct patience *of = &um_me->patience;
     if (!has_slept) um_learn_of_success();
-    else if (of->crowded > 0) of->crowded--;
-    else of->impatience += (MOST_LOOKS - of->impatience) / 2;
+    else if (of->crowded > 0) {
+        if (--of->crowded == 0) of->impatience = 0; /* it tries again: those that it wakes take some time to come */
+    } else of->impatience += (MOST_LOOKS - of->impatience) / 2;
 }
