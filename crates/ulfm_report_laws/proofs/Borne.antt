@@ -1,18 +1,15 @@
 -- Reports whose answers are right are true of their logs.
 use Rattle.std.proofs.Common.{◌≡◌, ℕ, List, [], ◌∷◌, ◌++◌, refl, ap, subst, ◌∙◌, inl, inr, ◌⊎◌, All}
-use Rattle.ulfm_report_laws.proofs.Common.{Topic, Decision, Entry, State, logged, StepReport, Step, Report, Unfinished, Skipped, Refused, AnswersStep, LeavesOpen, OutOfMemory, all_front, all_last, Known, AnswersAdoption, StoodAt, IsTook, AnswersFollow}
+use Rattle.ulfm_report_laws.proofs.Common.{Topic, Decision, Entry, State, StepReport, Step, Report, Unfinished, Skipped, Refused, AnswersStep, LeavesOpen, OutOfMemory, all_front, all_last, Known, AnswersAdoption, StoodAt, IsTook, AnswersFollow}
 use Rattle.ulfm_log.specs.declared.entry.Entry.TheVariants.{Took, Entered, Adopted}
 use Rattle.ulfm_script.proofs.Polls.{answers_plain, opens_adds, adoption_adds}
+use Rattle.ulfm_script.proofs.Alike.{AddsFew}
 use Rattle.ulfm_script.proofs.Walked.{KeepsAll, reported}
 use Rattle.ulfm_report_laws.proofs.Answering.{true-answers, honest-plain}
 use Rattle.ulfm_report_laws.proofs.Closing.{IsTrueOf}
 use Rattle.ulfm_report_laws.proofs.Honest.{IsHonest, honest-logged, honest-start}
 use Rattle.ulfm_report_laws.proofs.Mail.{IsTakenFrom}
 use Rattle.ulfm_report_laws.proofs.Joint.{true-open, true-adoption}
-
--- nothing is added, or one entry
-abbrev AddsFew : State → State → Type 0
-AddsFew old new = (new ≡ old) ⊎ ((e : Entry) × (new ≡ logged old e))
 
 same_ranks : {old new : State} → AddsFew old new → new.ranks ≡ old.ranks
 same_ranks (inl same) = ap (λ s. s.ranks) same

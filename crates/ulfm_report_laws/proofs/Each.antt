@@ -11,8 +11,7 @@ use Rattle.ulfm_script.specs.Deciding.{AnswersAdoption}
 use Rattle.ulfm_script.specs.Player.{is_joint}
 use Rattle.ulfm_log.specs.declared.entry.TestAnswer.TheVariants.{NotYet, Pending as TestPending}
 use Rattle.ulfm_rank.specs.Answer.{IsLeftWaiting}
-use Rattle.ulfm_job.specs.Job.{JobView}
-use Rattle.ulfm_report_laws.specs.Lawful.{LawfulReport}
+use Rattle.ulfm_report_laws.specs.Lawful.{LawfulSoFar}
 use Rattle.ulfm_report_laws.specs.Pending.{PendsExactly, RevokedPairsNone, RevokedRefusesNone, WaitsAt}
 use Rattle.std.proofs.Math.Seq.{take-append_seam}
 use Rattle.ulfm_script.proofs.Entrances.{nth_answered}
@@ -102,8 +101,8 @@ module _ (known : Known) (told : Report) (k req place polls : ℕ) where
     | by_skip s ↦ let is : Unfinished ≡ Skipped = s.skipped in let bad : ⊥ = cc in absurd bad
   ]
 
--- these laws, of lawful reports
-module _ {job : JobView} {inboxes : Inboxes} {knows : List Known} {reports : List Report} (h : LawfulReport job inboxes knows reports) where
+-- these laws, of reports that are lawful so far
+module _ {inboxes : Inboxes} {knows : List Known} {reports : List Report} (h : LawfulSoFar inboxes knows reports) where
   follows_at : (r k : ℕ) (told : Report) (step : StepReport) (here : at reports r told) → at told.steps k step → FollowsAt (known_of h r told here).0 told.rank (take k told.steps) step
   follows_at r k told step here stands =
       let known = known_of h r told here in

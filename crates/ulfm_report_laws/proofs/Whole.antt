@@ -4,12 +4,11 @@ use Rattle.std.proofs.lemmas.Bool.{cases_lt}
 use Rattle.std.proofs.lemmas.List.{take-append-drop, take-append-le, take_all}
 use Rattle.ulfm_base.specs.Group.{excluding}
 use Rattle.ulfm_base.specs.RankSet.{has}
-use Rattle.ulfm_job.specs.Job.{JobView}
 use Rattle.ulfm_log.specs.Communicators.{or_empty}
 use Rattle.ulfm_log.specs.declared.entry.Entry.TheVariants.{Adopted}
 use Rattle.ulfm_log.proofs.Entering.{EntersMade, enters_made}
 use Rattle.ulfm_report_laws.proofs.Common.{AnswersFollow, at, Decision, each_logged, Entry, false≢true, Fits, group_of, Inboxes, is_member, IsOwn, Known, members_found, Report, slice_get_within, some_from, State, there}
-use Rattle.ulfm_report_laws.specs.Lawful.{LawfulReport}
+use Rattle.ulfm_report_laws.specs.Lawful.{LawfulSoFar}
 use Rattle.ulfm_report_laws.specs.Order.{DecisionsAreProposals}
 use Rattle.ulfm_report_laws.proofs.Agreeing.{group_on}
 use Rattle.ulfm_report_laws.proofs.OneGroup.{same_group}
@@ -44,24 +43,21 @@ own_found known rank d h = pick (group_of h.then.ranks h.then.log d.topic.contex
         let later : group_of rank.ranks rank.log c ≡ Some g = rw (← h.stood.ranks, ← h.stood.beginning) (group_on h.then.ranks h.then.log h.stood.rest c g found) in
         later ∙ ap Some (sym (h.group ∙ members_found h.then.ranks h.then.log c g found))
 
-module _ {job : JobView} {inboxes : Inboxes} {knows : List Known} {reports : List Report} (h : LawfulReport job inboxes knows reports) where
+module _ {inboxes : Inboxes} {knows : List Known} {reports : List Report} (h : LawfulSoFar inboxes knows reports) where
   pub known_of : (r : ℕ) (told : Report) → at reports r told → (known : Known) × at knows r known
-  known_of r told here = there knows r (omega (arith, slice_get_within reports r told here, h.each, h.known_each))
-
-  counted : (r : ℕ) (told : Report) → at reports r told → told.rank.ranks ≡ length reports
-  counted r told here = (h.scripts r told here).counted ∙ sym h.each
+  known_of r told here = there knows r (omega (arith, slice_get_within reports r told here, h.known_each))
 
   group_adopted : (r k : ℕ) (told : Report) (d : Decision) → at reports r told → at told.rank.log k (Adopted d) → group_of (length reports) told.rank.log d.topic.context.number ≡ Some d.old
   group_adopted r k told d here stands =
       let known = known_of r told here in
-      subst (λ n. group_of n told.rank.log d.topic.context.number ≡ Some d.old) (counted r told here) (own_found known.0 told.rank d (h.own r told known.0 d here known.1 (k, stands)))
+      subst (λ n. group_of n told.rank.log d.topic.context.number ≡ Some d.old) (h.counted r told here) (own_found known.0 told.rank d (h.own r told known.0 d here known.1 (k, stands)))
 
   pub decisions_are_proposals : DecisionsAreProposals reports h.one_order.time
   decisions_are_proposals r k told d here stands =
       let e = h.one_order.proposed_earlier r k told d here stands in
       let n = length reports in let c = d.topic.context.number in let log = e.told.rank.log in let front = take e.place log in
       let known = known_of e.rank e.told e.reported in
-      let fronts : EntersMade n front = subst (λ m. EntersMade m front) (counted e.rank e.told e.reported) (fronts_made known.0 e.told (h.answers e.rank e.told known.0 e.reported known.1) e.place) in
+      let fronts : EntersMade n front = subst (λ m. EntersMade m front) (h.counted e.rank e.told e.reported) (fronts_made known.0 e.told (h.answers e.rank e.told known.0 e.reported known.1) e.place) in
       let made = some_from (group_of n front c) (fronts d.topic e.made.proposes.entered) in
       let whole : group_of n log c ≡ Some made.0 =
       subst (λ (xs : List Entry). group_of n xs c ≡ Some made.0) (take-append-drop e.place log) (group_on n front (drop e.place log) c made.0 made.1) in

@@ -1,6 +1,6 @@
 -- The headline: what the reports of a job's ranks tell, in every schedule.
-use Rattle.std.specs.Prelude.{List}
-use Rattle.ulfm_base.specs.Lists.{InPlace}
+use Rattle.std.specs.Prelude.{◌≡◌, ℕ, List, length}
+use Rattle.ulfm_base.specs.Lists.{InPlace, at}
 use Rattle.ulfm_script.specs.Deciding.{Known}
 use Rattle.ulfm_job.specs.Job.{JobView}
 use Rattle.ulfm_answer.specs.Report.{Report}
@@ -8,7 +8,7 @@ use Rattle.ulfm_report_laws.specs.Agreement.{AgreementsAreTrue}
 use Rattle.ulfm_report_laws.specs.Answers.{AllFollowScripts, AllAnswersFollow, AllAgree}
 use Rattle.ulfm_report_laws.specs.Causes.{GoneHaveStopped, RevokedByARank}
 use Rattle.ulfm_report_laws.specs.Flow.{Inboxes, Flows}
-use Rattle.ulfm_report_laws.specs.Order.{HaveOneOrder}
+use Rattle.ulfm_report_laws.specs.Order.{DecisionsAreProposals, ExclusionsComeLater, FailuresComeLater, HaveOneOrder, LettersComeLater, RevocationsComeLater}
 use Rattle.ulfm_report_laws.specs.Reader.{IsFaithful, AllHasCome}
 use Rattle.ulfm_report_laws.specs.Reports.{IsEach}
 use Rattle.ulfm_report_laws.specs.Rest.{IsAtRest, KnowsStopped, AgreesOnRevoked}
@@ -66,6 +66,36 @@ pub record LawfulReport (job : JobView) (inboxes : Inboxes) (knows : List Known)
   pub order : InPlace (λ (report : Report). report.rank.me) reports
   pub reader : IsFaithful reports
   pub rest : IsAtRest inboxes reports → KnowAtRest reports
+
+-- What the reports of ranks tell together so far, whatever the schedule and whether or not scripts ended: all that lawful reports tell, but how
+-- ranks go through the scripts of a job. Each rank counts as many ranks as there are reports.
+pub record LawfulSoFar (inboxes : Inboxes) (knows : List Known) (reports : List Report) : Type 0 where
+  pub known_each : length knows ≡ length reports
+  pub counted : (k : ℕ) (told : Report) → at reports k told → told.rank.ranks ≡ length reports
+  pub order : InPlace (λ (report : Report). report.rank.me) reports
+  pub flow : Flows inboxes reports
+  pub one_order : HaveOneOrder reports
+  pub answers : AllAnswersFollow knows reports
+  pub agreed : AllAgree knows
+  pub gone : GoneHaveStopped reports
+  pub revoked : RevokedByARank reports
+  pub entered : EnterOnce reports
+  pub own : AdoptOwn knows reports
+  pub decisions : AreTrue reports
+  pub none_foreign : NoneIsForeign reports
+  pub one_decision : AdoptOne reports
+  pub one_group : HasOneGroup reports
+  pub agreements : AgreementsAreTrue reports
+  pub reader : IsFaithful reports
+  pub rest : IsAtRest inboxes reports → KnowAtRest reports
+
+-- By these times of all entries what is taken was sent before, and so were revoked, stopped and proposed what is.
+pub record CausesComeFirst (reports : List Report) (time : ℕ → ℕ → ℕ) : Type 0 where
+  pub letters : LettersComeLater reports time
+  pub revocations : RevocationsComeLater reports time
+  pub failures : FailuresComeLater reports time
+  pub exclusions : ExclusionsComeLater reports time
+  pub proposals : DecisionsAreProposals reports time
 
 -- The reports are lawful, with something left in inboxes and some decisions known for each rank.
 pub record IsLawful (job : JobView) (reports : List Report) : Type 0 where

@@ -4,7 +4,7 @@ ghost use Rattle.ulfm_script.specs.Deciding.{Known};
 ghost use Rattle.ulfm_job.specs.Job.{JobView};
 ghost use Rattle.ulfm_answer.specs.Report.{Report};
 ghost use Rattle.ulfm_report_laws.specs.Flow.{Inboxes};
-ghost use Rattle.ulfm_report_laws.specs.Lawful.{AreProduced, LawfulReport};
+ghost use Rattle.ulfm_report_laws.specs.Lawful.{AreProduced, CausesComeFirst, LawfulReport, LawfulSoFar};
 ghost use Rattle.ulfm_report_laws.specs.Pending.{PendsExactly, RevokedPairsNone, RevokedRefusesNone};
 ghost use Rattle.ulfm_report_laws.specs.Order.{DecisionsAreProposals, ExclusionsComeLater, FailuresComeLater, LettersComeLater, RevocationsComeLater};
 
@@ -12,6 +12,14 @@ ghost use Rattle.ulfm_report_laws.specs.Order.{DecisionsAreProposals, Exclusions
 /// headline (MPI 4.0, 3.5; ULFM).
 pub fn produced_is_lawful()
     ensures { (job : JobView) (inboxes : Inboxes) (knows : List Known) (reports : List Report) → AreProduced job inboxes knows reports → LawfulReport job inboxes knows reports }
+{}
+
+/// Lawful reports are lawful so far, as those of each world on the way are: in their one order causes come first, and waits pend exactly where a
+/// member that is known to have failed isn't acknowledged.
+pub fn lawful_so_far()
+    ensures at_the_end { (job : JobView) (inboxes : Inboxes) (knows : List Known) (reports : List Report) → LawfulReport job inboxes knows reports → LawfulSoFar inboxes knows reports }
+    ensures causes { (inboxes : Inboxes) (knows : List Known) (reports : List Report) (h : LawfulSoFar inboxes knows reports) → CausesComeFirst reports h.one_order.time }
+    ensures pends { (inboxes : Inboxes) (knows : List Known) (reports : List Report) → LawfulSoFar inboxes knows reports → PendsExactly reports }
 {}
 
 /// In the one order of lawful reports each letter is taken after the entry that sent it (MPI 4.0, 3.5), each revocation comes after

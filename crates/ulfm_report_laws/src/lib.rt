@@ -44,6 +44,8 @@
 //!
 //! - [`produced_is_lawful`]: an engine, `replay` or `run_job`, has to show less, `AreProduced` (Lawful.antt): scripts, flow, one order of all logs,
 //!   answers, none of which is 11, and decisions that agree and are true. This law gives the rest.
+//! - [`lawful_so_far`]: lawful reports are lawful so far, `LawfulSoFar` (Lawful.antt), which leaves out scripts alone, and so holds of each world on
+//!   the way too. By it causes come first (`CausesComeFirst`, Lawful.antt), and waits pend exactly where they have to.
 //! - [`causes_come_first`]: in that one order each message that is taken was sent to this rank by an earlier entry (`letters`), each revocation
 //!   comes after some rank's own call (`revocations`), each notice of a failure after the stop (`failures`), and each decision after the stops of
 //!   those that it excludes (`exclusions`). It is the whole proposal of the rank that made it, about the group that its log had made (`proposals`).
@@ -62,5 +64,6 @@
 mod laws;
 
 pub use laws::{
-    causes_come_first, pends_exactly, produced_is_lawful, revoked_pairs_none, revoked_refuses_none,
+    causes_come_first, lawful_so_far, pends_exactly, produced_is_lawful, revoked_pairs_none,
+    revoked_refuses_none,
 };

@@ -17,7 +17,7 @@ took-since known r before from None at polls h free = h
 took-since known r before from (Some asked) at polls h free = subst (λ joint. EntersSince joint r asked from) free h.since
 
 -- a poll that answers its step
-honest-answered : (known : Known) (p : Player) (asked : Step) (q : Player) → AnswersFollowSoFar known p → is_stopped p.rank.log ≡ false → PollAnswers p asked q → AnswersFollowSoFar known q
+pub honest-answered : (known : Known) (p : Player) (asked : Step) (q : Player) → AnswersFollowSoFar known p → is_stopped p.rank.log ≡ false → PollAnswers p asked q → AnswersFollowSoFar known q
 honest-answered known p asked q h running a =
     let adds : Adds p.rank (is_stop_step asked) a.rank = answers_add p.done p.rank asked a.answer a.rank running a.answers in
     let g : Grew p.rank a.rank = grew-adds p.rank (is_stop_step asked) a.rank adds in
@@ -122,14 +122,18 @@ matches script k turns polls (Some s) asked h next = same_Some s asked (sym h.0 
 undecided : {p : Player} {asked : Step} {topic : Topic} → IsUndecided p → p.current ≡ Some asked → topic_of p.rank.log asked ≡ Some topic → HasProposal p.rank topic → ⊥
 undecided {p} {asked} {topic} u e about pr = u topic.context (record { asked = asked; waits = e; on = on_topic p.rank.log asked topic about; ready = record { topic = topic; about = about; proposes = pr } })
 
--- one poll by a call
-pub honest-called : (known : Known) (script : List Step) (turns : ℕ) (p : Player) (asked : Step) (q : Player) → AnswersFollowSoFar known p → is_stopped p.rank.log ≡ false → MatchOption p.current (p.polls ≡ 0) (λ s. (slice_get script (length p.done) ≡ Some s) × (p.polls < turns)) → slice_get script (length p.done) ≡ Some asked → IsUndecided p → IsCalled p asked q → AnswersFollowSoFar known q
-honest-called known script turns p asked q h running current next u (inl a) = honest-answered known p asked q h running a
-honest-called known script turns p asked q h running current next u (inr o) =
+-- one poll by a call, of the step that stands open, or of one where none does
+pub honest-polled : (known : Known) (p : Player) (asked : Step) (q : Player) → AnswersFollowSoFar known p → is_stopped p.rank.log ≡ false → MatchOption p.current (p.polls ≡ 0) (λ o. o ≡ asked) → IsUndecided p → IsCalled p asked q → AnswersFollowSoFar known q
+honest-polled known p asked q h running current u (inl a) = honest-answered known p asked q h running a
+honest-polled known p asked q h running current u (inr o) =
     let adds : Adds p.rank false o.rank = opens_add (awaits_decision p.current) p.done p.rank asked o.rank o.stays in
     rw o.only (record {
       place = h.place;
       answers = all-grew known known p.rank o.rank [] 0 p.done h.place (learns-none p.rank h.place known) (grew-adds p.rank false o.rank adds) h.answers;
-      stands = stands-polled known p asked o.rank h.place p.current p.at h.stands (matches script (length p.done) turns p.polls p.current asked current next) (λ topic e about pr. undecided u e about pr) o.stays;
+      stands = stands-polled known p asked o.rank h.place p.current p.at h.stands current (λ topic e about pr. undecided u e about pr) o.stays;
       stop = ends-adds p.rank false o.rank running adds;
     })
+
+-- of one that comes next in a script
+pub honest-called : (known : Known) (script : List Step) (turns : ℕ) (p : Player) (asked : Step) (q : Player) → AnswersFollowSoFar known p → is_stopped p.rank.log ≡ false → MatchOption p.current (p.polls ≡ 0) (λ s. (slice_get script (length p.done) ≡ Some s) × (p.polls < turns)) → slice_get script (length p.done) ≡ Some asked → IsUndecided p → IsCalled p asked q → AnswersFollowSoFar known q
+honest-called known script turns p asked q h running current next u called = honest-polled known p asked q h running (matches script (length p.done) turns p.polls p.current asked current next) u called

@@ -5,6 +5,7 @@ pub mod Waits
 pub mod Progress
 pub mod Says
 pub mod Polls
+pub mod Moved
 pub mod Advance
 pub mod Decisions
 pub mod Beginnings
@@ -13,6 +14,9 @@ pub mod Honestly
 pub mod Calling
 pub mod Added
 pub mod Adopted
+pub mod Alike
+pub mod Shadows
+pub mod Telling
 pub mod Once
 pub mod Rounds
 pub mod Takes

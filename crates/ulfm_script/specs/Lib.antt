@@ -1,5 +1,6 @@
 pub mod Calls
 pub mod Player
+pub mod GivenUp
 pub mod Deciding
 pub mod Script
 pub mod Played

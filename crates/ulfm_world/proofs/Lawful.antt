@@ -1,11 +1,7 @@
 -- The reports of a replay are lawful.
-use Rattle.std.proofs.Common.{◌≡◌, ℕ, ◌<◌, true, List, [], length, refl, ap, sym, subst, ◌∙◌, arith, Option, Some, None, is_some}
-use Rattle.ulfm_world.proofs.Common.{Topic, Decision, is_member, at, Entry, Adopted, Report, World, player_at, rank_at, report_of, reports_in, IsWorld, same_Some, slice_get_within, get_or_from_slice_get, Known, IsTrueOf, AdoptsTruly, JobView, IsJob, known_for, IsStuck, IsUnderway, AllHaveFinished, AreProduced, IsReplayed, MadeAtRest, PerInbox}
-use Rattle.ulfm_board.specs.Known.{BothAgree, known_at}
-use Rattle.ulfm_match.proofs.Exists.{some_pairing}
-use Rattle.ulfm_rank.specs.History.{history_of}
-use Rattle.ulfm_rank.specs.Paired.{IsPaired}
-use Rattle.ulfm_rank.proofs.Pairings.{paired}
+use Rattle.std.proofs.Common.{◌≡◌, ℕ, ◌<◌, List, [], length, refl, ap, sym, subst, ◌∙◌, arith, Some}
+use Rattle.ulfm_world.proofs.Common.{Topic, Decision, at, Report, World, player_at, rank_at, report_of, reports_in, IsWorld, slice_get_within, get_or_from_slice_get, Known, JobView, IsJob, known_for, IsStuck, IsUnderway, AllHaveFinished, AreProduced, IsReplayed, MadeAtRest, PerInbox}
+use Rattle.ulfm_board.specs.Known.{known_at}
 use Rattle.ulfm_script.specs.Answered.{AnswersFollow}
 use Rattle.ulfm_report_laws.specs.Lawful.{LawfulReport}
 use Rattle.ulfm_script.specs.Played.{FollowsScript}
@@ -13,20 +9,15 @@ use Rattle.ulfm_script.proofs.Honestly.{honest-answers}
 use Rattle.ulfm_report_laws.proofs.Closing.{IsTrueOf as TrueOfLog}
 use Rattle.ulfm_report_laws.proofs.Lawful.{lawful}
 use Rattle.ulfm_report_laws.proofs.Taken.{took_none}
-use Rattle.ulfm_world.proofs.Agreed.{IsHeld, Settled}
+use Rattle.ulfm_world.proofs.Agreed.{Settled}
 use Rattle.ulfm_world.proofs.Ends.{stuck-answered, stuck-rest}
 use Rattle.ulfm_world.proofs.Foreign.{none_foreign}
 use Rattle.ulfm_world.proofs.Honesty.{true-reached}
 use Rattle.ulfm_world.proofs.OneOrder.{one_order}
-use Rattle.ulfm_world.proofs.Read.{many_reports, report_there, each_report, flowing-world, world-reached}
-use Rattle.ulfm_world.proofs.Safe.{settled-reached, held-safe, adopts-held}
+use Rattle.ulfm_world.proofs.Read.{many_reports, each_report, flowing-world, world-reached}
+use Rattle.ulfm_world.proofs.Safe.{settled-reached}
 use Rattle.ulfm_world.proofs.Settled.{settled_with}
-
--- two that know no other decision than a third agree
-both_agree : (a b c : Option Decision) → ((d : Decision) → a ≡ Some d → c ≡ Some d) → ((d : Decision) → b ≡ Some d → c ≡ Some d) → BothAgree a b
-both_agree None b c f g = tt
-both_agree (Some d) None c f g = tt
-both_agree (Some d) (Some e) c f g = same_Some e d (sym (g e refl) ∙ f d refl)
+use Rattle.ulfm_world.proofs.Truly.{both_agree, decisions_true, one_pairing}
 
 module _ (j : JobView) (w : World) (job : IsJob j) (came : IsUnderway j w) (stuck : (r : ℕ) → r < length w.players → IsStuck j w r) where
   world : IsWorld w
@@ -51,40 +42,17 @@ module _ (j : JobView) (w : World) (job : IsJob j) (came : IsUnderway j w) (stuc
     skips = (answered r i).skips;
   }
 
-  one_pairing : (r : ℕ) → r < length w.players → IsPaired (rank_at w r).log
-  one_pairing r i = let formed = (on_log r i).formed in let p = some_pairing (history_of (rank_at w r).log) formed in paired (rank_at w r).log p.0 formed p.1
-
   has_answers : (r : ℕ) (told : Report) (known : Known) → at (reports_in w) r told → at came.answers.knows r known → AnswersFollow known told
   has_answers r told known here knowing = each_report (λ x report. (k : Known) → at came.answers.knows x k → AnswersFollow k report) w (λ x i k stands.
       let is = get_or_from_slice_get came.answers.knows x k [] stands in
       let H : Known → Type 0 = λ (ks : Known). AnswersFollow ks (report_of (player_at w x)) in
-      subst H is (honest-answers (known_for came.answers.knows x) (player_at w x) (report_of (player_at w x)) (came.answers.honest x i) (answered x i).closed refl refl (one_pairing x i))) r told here known knowing
+      subst H is (honest-answers (known_for came.answers.knows x) (player_at w x) (report_of (player_at w x)) (came.answers.honest x i) (answered x i).closed refl refl (one_pairing (player_at w x) (on_log x i)))) r told here known knowing
 
   -- what is known at a place is held
   known_held : (r : ℕ) (c : Topic) {known : Known} (d : Decision) → at came.answers.knows r known → known_at known c ≡ Some d → known_at w.decided c ≡ Some d
   known_held r c {known} d here e =
       let inside : r < length w.players = omega (arith, slice_get_within came.answers.knows r known here, came.answers.many) in
       came.answers.held r c d inside (ap (λ (k : Known). known_at k c) (get_or_from_slice_get came.answers.knows r known [] here) ∙ e)
-
-  -- a member of the group that a decision is about is a rank of the world
-  member_inside : (c : Topic) (d : Decision) → IsHeld j.ranks w c d → (r : ℕ) → is_member d.old r ≡ true → r < length w.players
-  member_inside c d held r member =
-      let low : r < j.ranks = ((settled.keeps held.proposer held.inside).belongs c.context.number d.old held.group).below r member in
-      omega (arith, low, came.size)
-
-  true_decision : {c : Topic} (d : Decision) → IsHeld j.ranks w c d → IsTrueOf (reports_in w) d
-  true_decision {c} d held =
-      let safe = held-safe j.ranks w settled held in
-      record {
-        listed = λ r known e.
-            record { report = report_of (player_at w r); reported = report_there w r (member_inside c d held r (d.lawful.listed_members r (ap is_some e))); entered = safe.listed r known e };
-        excluded = λ r out.
-            record { report = report_of (player_at w r); reported = report_there w r (member_inside c d held r (d.lawful.excluded_members r out)); stopped = safe.stopped r out };
-      }
-
-  adopts_truly : (s : ℕ) → s < length w.players → (k : ℕ) (entry : Entry) → at (rank_at w s).log k entry → AdoptsTruly (reports_in w) entry
-  adopts_truly s i k (Adopted d) here = true_decision d (settled.held d.topic d ((adopts-held j.ranks w settled s d i (k, here)).held))
-  adopts_truly s i k _ here = tt
 
   produced : AreProduced j w.inboxes came.answers.knows (reports_in w)
   produced = record {
@@ -95,7 +63,7 @@ module _ (j : JobView) (w : World) (job : IsJob j) (came : IsUnderway j w) (stuc
     flow = (flowing-world world).flow;
     answers = has_answers;
     agreed = λ r s one other here there c. both_agree (known_at one c) (known_at other c) (known_at w.decided c) (λ d e. known_held r c d here e) (λ d e. known_held s c d there e);
-    decisions = each_report (λ s told. (k : ℕ) (entry : Entry) → at told.rank.log k entry → AdoptsTruly (reports_in w) entry) w adopts_truly;
+    decisions = decisions_true settled;
     none_foreign = none_foreign j.ranks (PerInbox j.capacity) w job.few_ranks came.reaches;
     one_order = one_order j.ranks (PerInbox j.capacity) w job.few_ranks came.reaches;
   }

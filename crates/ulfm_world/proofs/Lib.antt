@@ -30,7 +30,9 @@ pub mod Decided
 pub mod Kept
 pub mod Shrunk
 pub mod Read
+pub mod SoFar
 pub mod Rightly
+pub mod Shadowed
 pub mod Ordered
 pub mod Ordering
 pub mod InOrder
@@ -39,6 +41,9 @@ pub mod EachStep
 pub mod Foreign
 pub mod OneOrder
 pub mod Made
+pub mod Truly
+pub mod ToldSteps
+pub mod ToldSoFar
 pub mod Lawful
 pub mod Often
 pub mod Rings

@@ -1,183 +1,38 @@
 -- Each player's answers stay right, whatever a replay does next.
-use Rattle.std.proofs.Common.{◌≡◌, ◌≢◌, ℕ, ◌<◌, List, [], length, set, refl, ap, sym, ◌∙◌, arith, inl, inr, length-set, get_or-set_same, get_or-set_other, Option, Some, None, slice_get, replicate}
-use Rattle.ulfm_world.proofs.Common.{Context, WorldRank, Item, Topic, Decision, none-some, Took, is_stopped, State, logged, Step, JobView, script_at, Player, with_rank, Call, Decide, Leave, Skip, World, player_in, player_at, rank_at, start_world, Happens, Pushes, Takes, cases_eq, Known, IsDecided, get_or-replicate, length-replicate, known_for, AllAnswersFollowSoFar, Follows, stopped-push, AnswersFollowSoFar, IsUndecided, or-false, Room}
-use Rattle.ulfm_board.specs.Known.{Agrees, Answers as BoardAnswers, known_at, nothing_known, number_of, with_known}
-use Rattle.ulfm_board.proofs.Topics.{known_other, known_with, topics_apart}
-use Rattle.ulfm_script.proofs.Adopted.{agreed, keeps-answered, honest-decided}
+use Rattle.std.proofs.Common.{◌≡◌, ℕ, List, [], length, refl, ap, ◌∙◌, Some, slice_get}
+use Rattle.ulfm_world.proofs.Common.{Context, WorldRank, Item, Step, JobView, script_at, with_rank, Call, Decide, Leave, Skip, World, player_at, start_world, Happens, Pushes, Takes, AllAnswersFollowSoFar, Follows, AnswersFollowSoFar, IsUndecided, Room}
+use Rattle.ulfm_script.proofs.Adopted.{honest-decided}
 use Rattle.ulfm_script.proofs.Calling.{honest-called}
 use Rattle.ulfm_script.proofs.Honestly.{honest-moved, honest-left, honest-skipped, honest-start}
-use Rattle.ulfm_script.proofs.Takes.{takes-none, takes-one}
-use Rattle.ulfm_world.proofs.Changed.{player-same, player-other}
-use Rattle.ulfm_world.proofs.Starts.{player-start, length-start}
+use Rattle.ulfm_world.proofs.SoFar.{KeptByMoves, all-decides, all-pushes, all-set, all-start, all-takes}
 
--- one player is another, and the same is decided
-rightly-kept : (w w' : World) (r : ℕ) (p : Player) → r < length w.players → w'.players ≡ set w.players r p → w'.decided ≡ w.decided → (h : AllAnswersFollowSoFar w) → AnswersFollowSoFar (known_for h.knows r) p → AllAnswersFollowSoFar w'
-rightly-kept w w' r p inside players decided h honest =
-    let size : length w'.players ≡ length w.players = ap (λ (ps : List Player). length ps) players ∙ length-set w.players r p in
-    record {
-      knows = h.knows;
-      many = h.many ∙ sym size;
-      held = λ x c d i knows. ap (λ (ds : Known). known_at ds c) decided ∙ h.held x c d (omega (arith, i, size)) knows;
-      honest = λ x i.
-          rw (ap (λ (ps : List Player). player_in ps x) players) (elim (cases_eq x r) [
-            | inl same ↦ rw (player-same w.players r x p same inside) (rw same honest)
-            | inr other ↦ rw (player-other w.players r x p other) (h.honest x (omega (arith, i, size)))
-          ]);
-    }
-
-rightly-set : (w w' : World) (r : ℕ) (p : Player) → r < length w.players → w'.players ≡ set w.players r p → w'.decided ≡ w.decided → ((known : Known) → AnswersFollowSoFar known (player_at w r) → AnswersFollowSoFar known p) → AllAnswersFollowSoFar w → AllAnswersFollowSoFar w'
-rightly-set w w' r p inside players decided keeps h = rightly-kept w w' r p inside players decided h (keeps (known_for h.knows r) (h.honest r inside))
+moves-honest : KeptByMoves AnswersFollowSoFar
+moves-honest known p r h me ranks stops takes = honest-moved known p (with_rank p r) h refl me ranks stops takes
 
 pub rightly-pushes : (w : World) (s d : ℕ) (w' : World) → Pushes w s d w' → AllAnswersFollowSoFar w → AllAnswersFollowSoFar w'
-rightly-pushes w s d w' t h =
-    let p = with_rank (player_at w s) t.after in
-    let same : t.after.log ≡ (rank_at w s).log = ap (λ (r : State). r.log) t.leaves.marked in
-    rightly-set w w' s p t.inside_s (ap (λ (x : World). x.players) t.only) (ap (λ (x : World). x.decided) t.only)
-    (λ known q. honest-moved known (player_at w s) p q refl (ap (λ (r : State). r.me) t.leaves.marked) (ap (λ (r : State). r.ranks) t.leaves.marked) (ap is_stopped same) (takes-none (rank_at w s).log t.after.log same)) h
+rightly-pushes w s d w' t h = all-pushes AnswersFollowSoFar moves-honest w s d w' t h
 
 pub rightly-takes : (w : World) (r : ℕ) (passed : List (WorldRank × Item)) (w' : World) → Takes w r passed w' → AllAnswersFollowSoFar w → AllAnswersFollowSoFar w'
-rightly-takes w r passed w' t h =
-    let after = logged (rank_at w r) (Took t.source t.item) in
-    let p = with_rank (player_at w r) after in
-    rightly-set w w' r p t.inside (ap (λ (x : World). x.players) t.only) (ap (λ (x : World). x.decided) t.only)
-    (λ known q. honest-moved known (player_at w r) p q refl refl refl (stopped-push (rank_at w r).log (Took t.source t.item) ∙ or-false (is_stopped (rank_at w r).log)) (takes-one (rank_at w r).log after.log t.source t.item t.running refl)) h
+rightly-takes w r passed w' t h = all-takes AnswersFollowSoFar moves-honest w r passed w' t h
 
 pub rightly-calls : (j : JobView) (w : World) (r : ℕ) {asked : Step} (w' : World) → Follows j w → slice_get (script_at j r) (length (player_at w r).done) ≡ Some asked → IsUndecided (player_at w r) → Happens w (Call r asked) w' → AllAnswersFollowSoFar w → AllAnswersFollowSoFar w'
 rightly-calls j w r {asked} w' f next undecided t h =
     let c = t.1 in
-    rightly-set w w' r c.after c.inside (ap (λ (x : World). x.players) t.2 ∙ c.only) (ap (λ (x : World). x.decided) t.2)
+    all-set AnswersFollowSoFar w w' r c.after c.inside (ap (λ (x : World). x.players) t.2 ∙ c.only) (ap (λ (x : World). x.decided) t.2)
     (λ known q. honest-called known (script_at j r) j.turns (player_at w r) asked c.after q c.running (f r c.inside).follows.current next undecided c.called) h
 
 pub rightly-leaves : (w : World) (r : ℕ) (w' : World) → Happens w (Leave r) w' → AllAnswersFollowSoFar w → AllAnswersFollowSoFar w'
 rightly-leaves w r w' t h =
     let g = t.1 in
-    rightly-set w w' r g.after g.inside (ap (λ (x : World). x.players) t.2 ∙ g.only) (ap (λ (x : World). x.decided) t.2) (λ known q. honest-left known (player_at w r) g.after q g.left) h
+    all-set AnswersFollowSoFar w w' r g.after g.inside (ap (λ (x : World). x.players) t.2 ∙ g.only) (ap (λ (x : World). x.decided) t.2) (λ known q. honest-left known (player_at w r) g.after q g.left) h
 
 pub rightly-skips : (w : World) (r : ℕ) (asked : Step) (w' : World) → Happens w (Skip r asked) w' → AllAnswersFollowSoFar w → AllAnswersFollowSoFar w'
 rightly-skips w r asked w' t h =
     let s = t.1 in
-    rightly-set w w' r s.after s.inside (ap (λ (x : World). x.players) t.2 ∙ s.only) (ap (λ (x : World). x.decided) t.2) (λ known q. honest-skipped known (player_at w r) asked s.after q s.skipped) h
-
-agrees_with : (o : Option Decision) (held : Decision) → ((d : Decision) → o ≡ Some d → d ≡ held) → Agrees o held
-agrees_with None held same = tt
-agrees_with (Some d) held same = same d refl
-
--- a decision that is held is known for its rank from now on
-module _ (w : World) (h : AllAnswersFollowSoFar w) (r : ℕ) (inside : r < length w.players) (proposal held : Decision) (later : Known) (a : BoardAnswers None w.decided proposal held later) where
-  abbrev topic : Topic
-  topic = proposal.topic
-
-  abbrev now : Known
-  now = with_known (known_for h.knows r) topic held
-
-  before : Agrees (known_at (known_for h.knows r) topic) held
-  before = agrees_with (known_at (known_for h.knows r) topic) held (λ d e. agreed (known_at w.decided topic) held d a.as_before (h.held r topic d inside e))
-
-  now_here : known_at now topic ≡ Some held
-  now_here = known_with (known_for h.knows r) topic held before
-
-  board_answers : BoardAnswers (Some []) (known_for h.knows r) proposal held now
-  board_answers = record {
-    as_before = before;
-    first_stays = λ e none. absurd (cc);
-    known_now = now_here;
-    others_stay = refl;
-  }
-
-  -- what was decided stays so
-  stays : (c : Topic) (d : Decision) → known_at w.decided c ≡ Some d → known_at later c ≡ Some d
-  stays c d e = keeps-answered None w.decided proposal held later a c d e
-
-  -- and what is known for the rank is held
-  now_held : (c : Topic) (d : Decision) → known_at now c ≡ Some d → known_at later c ≡ Some d
-  now_held c d e = elim (cases_eq (number_of c) (number_of topic)) [
-    | inl cell ↦ let same = topics_apart c topic cell in ap (known_at later) same ∙ a.known_now ∙ sym now_here ∙ ap (known_at now) (sym same) ∙ e
-    | inr other ↦ stays c d (h.held r c d inside (sym (known_other (known_for h.knows r) c topic held other) ∙ e))
-  ]
-
-  -- the world after it, where this player has its answer
-  rightly-held : {p : Player} (w' : World) → w'.players ≡ set w.players r p → w'.decided ≡ later → AnswersFollowSoFar now p → AllAnswersFollowSoFar w'
-  rightly-held {p} w' players decided honest =
-      let size : length w'.players ≡ length w.players = ap (λ (ps : List Player). length ps) players ∙ length-set w.players r p in
-      let ks = set h.knows r now in
-      let here : (x : ℕ) → x ≡ r → known_for ks x ≡ now = λ x same. ap (known_for ks) same ∙ get_or-set_same h.knows r now [] (omega (arith, inside, h.many)) in
-      let there : (x : ℕ) → x ≢ r → known_for ks x ≡ known_for h.knows x = λ x other. get_or-set_other h.knows r x now [] other in
-      record {
-        knows = ks;
-        many = length-set h.knows r now ∙ h.many ∙ sym size;
-        held = λ x c d i e. ap (λ (k : Known). known_at k c) decided ∙ elim (cases_eq x r) [
-          | inl same ↦ now_held c d (ap (λ (k : Known). known_at k c) (sym (here x same)) ∙ e)
-          | inr other ↦ stays c d (h.held x c d (omega (arith, i, size)) (ap (λ (k : Known). known_at k c) (sym (there x other)) ∙ e))
-        ];
-        honest = λ x i.
-            let at : player_at w' x ≡ player_in (set w.players r p) x = ap (λ (ps : List Player). player_in ps x) players in
-            elim (cases_eq x r) [
-              | inl same ↦ rw (here x same) (rw (at ∙ player-same w.players r x p same inside) honest)
-              | inr other ↦ rw (there x other) (rw (at ∙ player-other w.players r x p other) (h.honest x (omega (arith, i, size))))
-            ];
-      }
-
--- where what is known at one place is held at another, and nothing is held there, nothing is known
-unknown_too : (known held : Option Decision) → ((d : Decision) → known ≡ Some d → held ≡ Some d) → held ≡ None → known ≡ None
-unknown_too None held holds none = refl
-unknown_too (Some d) held holds none = absurd (none-some d (sym none ∙ holds d refl))
+    all-set AnswersFollowSoFar w w' r s.after s.inside (ap (λ (x : World). x.players) t.2 ∙ s.only) (ap (λ (x : World). x.decided) t.2) (λ known q. honest-skipped known (player_at w r) asked s.after q s.skipped) h
 
 pub rightly-decides : (w : World) (r : ℕ) (comm : Context) (w' : World) → Happens w (Decide r comm) w' → AllAnswersFollowSoFar w → AllAnswersFollowSoFar w'
-rightly-decides w r comm w' t h =
-    let s = t.2 in let d = s.decided in
-    elim d.decision.outcome [
-      | inl a ↦
-          let known = known_for h.knows r in
-          let later = now w h r s.inside d.decision.proposal a.held t.1 a.board_answers in
-          let own : IsDecided (player_at w r) comm (Some []) known s.after later = record {
-            asked = d.asked;
-            waits = d.waits;
-            on = d.on;
-            answer = d.answer;
-            rank = d.rank;
-            decision = record {
-              topic = d.decision.topic;
-              about = d.decision.about;
-              accepted = d.decision.accepted;
-              proposal = d.decision.proposal;
-              proposed = d.decision.proposed;
-              outcome = inl (record { held = a.held; board_answers = board_answers w h r s.inside d.decision.proposal a.held t.1 a.board_answers; adoption = a.adoption });
-            };
-            only = d.only;
-          } in
-          rightly-held w h r s.inside d.decision.proposal a.held t.1 a.board_answers w' (ap (λ (x : World). x.players) t.3 ∙ s.only) (ap (λ (x : World). x.decided) t.3) (honest-decided (Some []) known later (player_at w r) comm s.after (h.honest r s.inside) s.running own)
-      | inr starves ↦
-          let known = known_for h.knows r in
-          let unknown : known_at known d.decision.proposal.topic ≡ None =
-          unknown_too (known_at known d.decision.proposal.topic) (known_at w.decided d.decision.proposal.topic) (λ held e. h.held r d.decision.proposal.topic held s.inside e) starves.starves.unknown in
-          let own : IsDecided (player_at w r) comm (Some []) known s.after known = record {
-            asked = d.asked;
-            waits = d.waits;
-            on = d.on;
-            answer = d.answer;
-            rank = d.rank;
-            decision = record {
-              topic = d.decision.topic;
-              about = d.decision.about;
-              accepted = d.decision.accepted;
-              proposal = d.decision.proposal;
-              proposed = d.decision.proposed;
-              outcome = inr (record { starves = record { unknown = unknown }; known_stay = refl; refused = starves.refused; rank_stays = starves.rank_stays });
-            };
-            only = d.only;
-          } in
-          rightly-kept w w' r s.after s.inside (ap (λ (x : World). x.players) t.3 ∙ s.only) (ap (λ (x : World). x.decided) t.3 ∙ starves.known_stay) h (honest-decided (Some []) known known (player_at w r) comm s.after (h.honest r s.inside) s.running own)
-    ]
+rightly-decides w r comm w' t h = all-decides AnswersFollowSoFar (λ known later p comm q right running d. honest-decided (Some []) known later p comm q right running d) w r comm w' t h
 
--- ranks that start
 pub rightly-start : (n : ℕ) (room : Room) → AllAnswersFollowSoFar (start_world n room)
-rightly-start n room = record {
-  knows = replicate n nothing_known;
-  many = length-replicate n nothing_known ∙ sym (length-start n n);
-  held = λ r c d i e. ap (λ (k : Known). known_at k c) (sym (none_known r (omega (arith, i, length-start n n)))) ∙ e;
-  honest = λ r i.
-      rw (player-start n n r (omega (arith, i, length-start n n))) (honest-start (known_for (replicate n nothing_known) r) r n);
-}
-  where
-    none_known : (r : ℕ) → r < n → known_for (replicate n nothing_known) r ≡ nothing_known
-    none_known r inside = get_or-replicate n r nothing_known [] inside
+rightly-start n room = all-start AnswersFollowSoFar honest-start n room

@@ -7,6 +7,7 @@ pub mod Made
 pub mod Sound
 pub mod Never
 pub mod Safe
+pub mod SoFar
 pub mod Rings
 pub mod Each
 pub mod Replay

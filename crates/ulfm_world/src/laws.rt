@@ -16,6 +16,7 @@ ghost use Rattle.ulfm_world.specs.Flow.{IsWorld};
 ghost use Rattle.ulfm_world.specs.Never.{RefusedNeverHappens};
 ghost use Rattle.ulfm_world.specs.Rest.{IsAtRest};
 ghost use Rattle.ulfm_world.specs.Rings.{HappensOnRings, IsRunOnRings};
+ghost use Rattle.ulfm_world.specs.SoFar.{IsLawfulSoFar};
 ghost use Rattle.ulfm_world.specs.Safe.{EntersOnce, DecidesSafely, SettlesSafely, AdoptsHeld, StarvesAlone};
 ghost use Rattle.ulfm_world.specs.World.{World, start_world, Happens, Reaches, Run, reports_in};
 
@@ -198,6 +199,12 @@ pub fn one_group()
 /// of them has a proposal there (ULFM, shrink and agree).
 pub fn proposed_at_rest()
     ensures { (n : ℕ) (room : Room) (w : World) → n ≤ 8 → Reaches (start_world n room) w → IsAtRest w → ProposesEach (reports_in w) }
+{}
+
+/// Whatever events come, what the ranks did so far is lawful, with each open step told as one that is given up: answers follow, those that return from
+/// an agreement are told one value and one list, and causes come first (`lawful_so_far` of `ulfm_report_laws`).
+pub fn lawful_in_each_world()
+    ensures { (n : ℕ) (room : Room) (w : World) → n ≤ 8 → Reaches (start_world n room) w → IsLawfulSoFar w }
 {}
 
 /// Rings give all that inboxes give. What happens where senders share the places of an inbox happens too where each has as many places

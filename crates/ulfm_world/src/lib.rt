@@ -11,6 +11,8 @@
 //!   World.antt).
 //! - [`refused_never_happens`]: a refused event doesn't happen, but where memory runs out (`RefusedNeverHappens`, Never.antt).
 //! - [`rings_give_all`]: places for each sender, as rings have them, give all that places for all senders give (`IsRunOnRings`, Rings.antt).
+//! - [`lawful_in_each_world`]: what ranks did so far is lawful, in each world: answers follow, agreements tell one value and one list, causes come
+//!   first (`IsLawfulSoFar`, SoFar.antt; `LawfulSoFar`, Lawful.antt of `ulfm_report_laws`).
 //! - [`flows`]: the log of a running rank has for another what that one took, then its inbox, then the outbox towards it. If a rank stopped, a
 //!   beginning goes out, and its notice comes next (`Flows`, Flow.antt of `ulfm_report_laws`).
 //! - [`each_done_was_sent`], [`each_found_was_sent`], [`letters_come_as_sent`], [`letters_are_given_once`], [`letters_keep_order`],
@@ -55,11 +57,11 @@ pub use inbox::Inbox;
 pub use laws::{
     adopted_as_held, adoption_starves_alone, agreed_at_rest, all_come_at_rest, decided_safely,
     each_done_was_sent, each_found_was_sent, each_over_is_true, entered_once, flows,
-    gone_has_stopped, known_at_rest, letters_are_given_once, letters_come_as_sent,
-    letters_keep_order, made_safely, no_match_is_missed, none_is_foreign, one_decision, one_group,
-    one_order, one_pairing_each, proposed_at_rest, receives_keep_order, refused_never_happens,
-    reports_are_faithful, revoked_by_a_rank, revoked_pairs_none, revoked_refuses_none,
-    rings_give_all, settled_safely,
+    gone_has_stopped, known_at_rest, lawful_in_each_world, letters_are_given_once,
+    letters_come_as_sent, letters_keep_order, made_safely, no_match_is_missed, none_is_foreign,
+    one_decision, one_group, one_order, one_pairing_each, proposed_at_rest, receives_keep_order,
+    refused_never_happens, reports_are_faithful, revoked_by_a_rank, revoked_pairs_none,
+    revoked_refuses_none, rings_give_all, settled_safely,
 };
 pub use lent_step::Asked;
 pub use room::Room;

@@ -56,12 +56,16 @@ measure j w = sum_below (length w.players) (weight_at j w) + sum_below (length w
 abbrev pub known_for : List Known → ℕ → Known
 known_for knows r = slice_index_or knows r []
 
--- Each player's answers are right so far, where a decision is one that is known for its rank, and held.
-pub record AllAnswersFollowSoFar (w : World) : Type 0 where
+-- Of each player this holds, with what is known for its rank, each of which is held.
+pub record AllSoFar (Holds : Known → Player → Type 0) (w : World) : Type 0 where
   pub knows : List Known
   pub many : length knows ≡ length w.players
   pub held : (r : ℕ) (topic : Topic) (d : Decision) → r < length w.players → known_at (known_for knows r) topic ≡ Some d → known_at w.decided topic ≡ Some d
-  pub honest : (r : ℕ) → r < length w.players → AnswersFollowSoFar (known_for knows r) (player_at w r)
+  pub honest : (r : ℕ) → r < length w.players → Holds (known_for knows r) (player_at w r)
+
+-- Each player's answers are right so far, where a decision is one that is known for its rank, and held.
+abbrev pub AllAnswersFollowSoFar : World → Type 0
+AllAnswersFollowSoFar w = AllSoFar AnswersFollowSoFar w
 
 -- from old to new, where something moved or nothing did
 pub record Moves (j : JobView) (old new : World) (moved : Bool) : Type 0 where

@@ -1,5 +1,6 @@
 use Rattle.ulfm_report_laws.proofs.Each.{revoked_refuses_none}
+use Rattle.ulfm_report_laws.proofs.Lawful.{so_far}
 use Rattle.ulfm_report_laws.proofs.laws.revoked_refuses_none.Goals as goal
 
 pub returns : goal.returns
-returns c = λ job inboxes knows reports h. revoked_refuses_none h
+returns c = λ job inboxes knows reports h. revoked_refuses_none (so_far h)
