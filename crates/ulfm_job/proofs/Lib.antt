@@ -2,7 +2,6 @@ pub mod Common
 pub mod Same
 pub mod Scripts
 pub mod WithStop
-pub mod Rounds
 pub mod Beside
 pub mod Listed
 pub mod Inside

@@ -133,10 +133,6 @@ abbrev pub is_agreement_step : Step → Bool
 is_agreement_step (Agree flag comm) = true
 is_agreement_step _ = false
 
--- how many steps of a script are agreements
-abbrev pub agreements_in : List Step → ℕ
-agreements_in script = length (filter is_agreement_step script)
-
 -- ranks decide the step together, if there is one
 abbrev pub is_decided_together : Option Step → Bool
 is_decided_together None = false

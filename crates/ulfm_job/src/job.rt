@@ -1,11 +1,11 @@
 //! A job.
-ghost use Rattle.std.specs.Prelude.{◌≡◌, ◌≢◌, ◌<◌, ◌≤◌, IfErr, IfOk, Err, option_map, slice_get, length, ℕ, ◌⊎◌};
-ghost use Rattle.ulfm_job.specs.Job.{IsJob, step_count, script_at, agreements_in, is_decided_together, may_leave, turns_at};
+ghost use Rattle.std.specs.Prelude.{◌≡◌, ◌≢◌, ◌<◌, ◌≤◌, IfErr, IfOk, Err, option_map, slice_get, length};
+ghost use Rattle.ulfm_job.specs.Job.{IsJob, step_count, script_at, is_decided_together, may_leave, turns_at};
 
 use crate::clause::Clause;
 use crate::condition::Condition;
 use crate::fault::JobFault;
-use crate::joint::{agreements, is_decided_together, is_left, without};
+use crate::joint::{is_decided_together, is_left, without};
 use crate::left_step::LeftStep;
 use crate::limits::MOST_STEPS;
 use crate::script_with_stop::{
@@ -253,31 +253,6 @@ impl Job {
         } else {
             turns
         }
-    }
-
-    /// How many of a rank's steps are agreements, 0 to 256: none where there is no such rank.
-    pub fn agreements(&self, rank: u8) -> u16
-        ensures exact { result ≡ agreements_in (script_at self.now rank) }
-        ensures few { result ≤ 256 }
-    {
-        // Read, so that the limits that each job keeps are known here.
-        let _ = &self.scripts;
-        agreements(self.script(rank)) as u16
-    }
-
-    /// The most agreements that a rank has among its steps, 0 to 256: as many rounds of agreements a board needs for the job.
-    pub fn rounds(&self) -> u16
-        ensures enough { (r : ℕ) → r < self.now.ranks → agreements_in (script_at self.now r) ≤ result }
-        ensures needed { (result ≡ 0) ⊎ ((r : ℕ) × (agreements_in (script_at self.now r) ≡ result)) }
-    {
-        let mut most = 0;
-        for rank in 0..self.ranks() {
-            let one = self.agreements(rank);
-            if most < one {
-                most = one;
-            }
-        }
-        most
     }
 
     /// The step at a place, from 0, of a rank's script, where there is one. It never answers out of memory.

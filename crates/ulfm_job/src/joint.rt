@@ -1,18 +1,11 @@
 //! Which of a job's steps ranks decide together, and which of these may be given up.
 ghost use Rattle.std.specs.Prelude.{◌≡◌, filter, option_map};
 ghost use Rattle.std.specs.List.{list_any};
-ghost use Rattle.ulfm_job.specs.Job.{agreements_in, is_decided_together, is_left, is_of_other};
+ghost use Rattle.ulfm_job.specs.Job.{is_decided_together, is_left, is_of_other};
 
 use crate::clause::Clause;
 use crate::left_step::LeftStep;
 use crate::step::Step;
-
-/// How many steps of a script are agreements.
-pub(crate) fn agreements(script: &[Step]) -> usize
-    ensures { result ≡ agreements_in script.now }
-{
-    script.iter().filter(|step| step.is_agreement()).count()
-}
 
 /// Whether ranks decide a step together, if there is one.
 pub(crate) fn is_decided_together(step: Option<&Step>) -> bool

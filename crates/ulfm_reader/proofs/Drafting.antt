@@ -5,7 +5,7 @@ use Rattle.toml.specs.Data.{Members, get_member}
 use Rattle.std.specs.Prelude.{codes}
 use Rattle.ulfm_reader.proofs.Asking.{in_step-err}
 use Rattle.ulfm_reader.proofs.Common.{Clause, Condition, JobFault, Name, Order, Step, lists_of, order_of, step_count}
-use Rattle.ulfm_job.proofs.Rounds.{one_of_all}
+use Rattle.ulfm_job.proofs.Scripts.{one_of_all}
 use Rattle.ulfm_reader.proofs.Scripts.{orders-put}
 use Rattle.ulfm_reader.specs.JobText.{drafted, filed_at, in_step}
 use Rattle.ulfm_reader.specs.Provisos.{step_provisos}
