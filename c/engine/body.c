@@ -23,7 +23,7 @@ static inline void copy_few(void *to, const void *from, size_t length) {
 
 static bool is_reference(const struct received *received) { return received->body.content == REFERENCE; }
 
-int um_send_short(uint32_t context, int dest, int world, int tag, struct bytes message) {
+int um_send_short(uint64_t context, int dest, int world, int tag, struct bytes message) {
     union body body;
     body.whole.content = MESSAGE;
     copy_few(body.whole.message, message.at, message.length);
@@ -59,7 +59,7 @@ static __attribute__((noinline)) int send_parcel(const struct parcel *like, int 
     return MPI_SUCCESS;
 }
 
-int um_send_body(uint32_t context, int dest, int world, int tag, struct bytes message, struct parcel **waits) {
+int um_send_body(uint64_t context, int dest, int world, int tag, struct bytes message, struct parcel **waits) {
     if (waits || !um_is_short(message.length))
         return send_parcel(&(struct parcel){.users = waits ? 3 : 2,
                                             .is_waited_for = waits != 0,
@@ -112,6 +112,6 @@ size_t um_set_body_aside(const struct received *received) {
     return length_in(received);
 }
 
-size_t um_length_of_probed(const ulfm_status *told, uint32_t context, int from) {
+size_t um_length_of_probed(const ulfm_status *told, uint64_t context, int from) {
     return told->length == REFERRING ? um_length_of_first(context, from, (int)told->tag) : told->length - 1;
 }

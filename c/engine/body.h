@@ -33,13 +33,13 @@ struct bytes {
 };
 
 /* Sends a message that stands in its body to the position `dest`, where nobody waits for its match. */
-int um_send_short(uint32_t context, int dest, int world, int tag, struct bytes message);
+int um_send_short(uint64_t context, int dest, int world, int tag, struct bytes message);
 
 /* Whether a message of this length can stand in its body. No such body is as long as one that refers to a parcel. */
 static inline bool um_is_short(size_t length) { return length <= AT_ONCE && length != sizeof(struct reference) - 1; }
 
 /* Sends a message to the position `dest`, the world rank `world`. Where `waits` isn't null, it gets a parcel whose flag tells the match. */
-int um_send_body(uint32_t context, int dest, int world, int tag, struct bytes message, struct parcel **waits);
+int um_send_body(uint64_t context, int dest, int world, int tag, struct bytes message, struct parcel **waits);
 
 /* Copies the message of a body that came into a buffer, and tells its sender that it was matched. The source in the status is the engine's. */
 void um_take_body(const struct received *received, void *buffer, size_t room, MPI_Status *status, int *code);
@@ -54,6 +54,6 @@ size_t um_set_body_aside(const struct received *received);
 bool um_is_long(size_t length);
 
 /* How long the message is that a probe found, of the world rank `from`. Receives that have theirs were looked at before. */
-size_t um_length_of_probed(const ulfm_status *told, uint32_t context, int from);
+size_t um_length_of_probed(const ulfm_status *told, uint64_t context, int from);
 
 #endif

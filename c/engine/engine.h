@@ -11,9 +11,9 @@ void um_let_go(struct parcel *parcel);
 void um_free_parcels(void);
 void um_fill_parcel(struct parcel *parcel);
 void um_empty_parcel(struct parcel *parcel, void *buffer, size_t length);
-size_t um_length_of_first(uint32_t context, int from, int tag);
-struct parcel *um_parcel_that_comes(int to, int from, uint32_t context, int tag);
-struct parcel *um_first_parcel(int from, uint32_t context, int tag);
+size_t um_length_of_first(uint64_t context, int from, int tag);
+struct parcel *um_parcel_that_comes(int to, int from, uint64_t context, int tag);
+struct parcel *um_first_parcel(int from, uint64_t context, int tag);
 
 /* answer.c */
 int um_class_of(uint32_t code);

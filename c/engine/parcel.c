@@ -66,7 +66,7 @@ void um_empty_parcel(struct parcel *parcel, void *buffer, size_t length) {
 }
 
 /* A message is about to be taken that was sent by a parcel, where the run is played: its parcel. */
-struct parcel *um_parcel_that_comes(int to, int from, uint32_t context, int tag) {
+struct parcel *um_parcel_that_comes(int to, int from, uint64_t context, int tag) {
     struct parcel *parcel = um_ranks[from].sent.first;
     while (parcel && (parcel->to != to || parcel->context != context || parcel->tag != tag || parcel->has_come)) parcel = parcel->next;
     if (parcel) parcel->has_come = true;
@@ -74,7 +74,7 @@ struct parcel *um_parcel_that_comes(int to, int from, uint32_t context, int tag)
 }
 
 /* .. of the first message that came to this rank and that no receive and no matched probe has. */
-struct parcel *um_first_parcel(int from, uint32_t context, int tag) {
+struct parcel *um_first_parcel(int from, uint64_t context, int tag) {
     for (struct parcel *parcel = um_ranks[from].sent.first; parcel; parcel = parcel->next) {
         bool is_kept = parcel->has_come && !parcel->is_met && !parcel->is_found;
         if (is_kept && parcel->to == um_me->number && parcel->context == context && parcel->tag == tag) return parcel;
@@ -83,7 +83,7 @@ struct parcel *um_first_parcel(int from, uint32_t context, int tag) {
 }
 
 /* How long the first message is that a rank sent here by a parcel with this tag, and that nobody took or set aside. */
-size_t um_length_of_first(uint32_t context, int from, int tag) {
+size_t um_length_of_first(uint64_t context, int from, int tag) {
     size_t length = 0;
     pthread_mutex_lock(&um_ranks[from].sent.lock);
     for (struct parcel *parcel = um_ranks[from].sent.first; parcel; parcel = parcel->next)

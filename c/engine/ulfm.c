@@ -56,27 +56,27 @@ uint32_t ulfm_me(ulfm_slot *slot, uint32_t *rank) {
     return ulfm_c_me(slot, rank);
 }
 
-uint32_t ulfm_group_of(ulfm_slot *slot, uint32_t comm, ulfm_group *group) {
+uint32_t ulfm_group_of(ulfm_slot *slot, uint64_t comm, ulfm_group *group) {
     if (!slot || !group) return ULFM_ENDED;
     return ulfm_c_group_of(slot, comm, group);
 }
 
-uint32_t ulfm_position(ulfm_slot *slot, uint32_t comm, uint32_t *position) {
+uint32_t ulfm_position(ulfm_slot *slot, uint64_t comm, uint32_t *position) {
     if (!slot || !position) return ULFM_ENDED;
     return ulfm_c_position(slot, comm, position);
 }
 
-uint32_t ulfm_dup(ulfm_slot *slot, uint32_t comm, uint32_t *made) {
+uint32_t ulfm_dup(ulfm_slot *slot, uint64_t comm, uint64_t *made) {
     if (!slot || !made) return ULFM_ENDED;
     return ulfm_c_dup(slot, comm, made);
 }
 
-uint32_t ulfm_isend(ulfm_slot *slot, uint32_t comm, uint32_t dest, uint32_t tag, const uint8_t *body, size_t length) {
+uint32_t ulfm_isend(ulfm_slot *slot, uint64_t comm, uint32_t dest, uint32_t tag, const uint8_t *body, size_t length) {
     if (!slot || (!body && length)) return ULFM_ENDED;
     return ulfm_c_isend(slot, comm, dest, tag, body ? body : &nothing, length);
 }
 
-uint32_t ulfm_irecv(ulfm_slot *slot, uint32_t comm, uint32_t source, uint32_t tag, uint32_t room, uint64_t *request) {
+uint32_t ulfm_irecv(ulfm_slot *slot, uint64_t comm, uint32_t source, uint32_t tag, uint32_t room, uint64_t *request) {
     if (!slot || !request) return ULFM_ENDED;
     return ulfm_c_irecv(slot, comm, source, tag, room, request);
 }
@@ -91,12 +91,12 @@ uint32_t ulfm_cancel(ulfm_slot *slot, uint64_t request, ulfm_status *status, uin
     return ulfm_c_cancel(slot, request, status, body ? body : &nothing, size);
 }
 
-uint32_t ulfm_iprobe(ulfm_slot *slot, uint32_t comm, uint32_t source, uint32_t tag, ulfm_status *status) {
+uint32_t ulfm_iprobe(ulfm_slot *slot, uint64_t comm, uint32_t source, uint32_t tag, ulfm_status *status) {
     if (!slot || !status) return ULFM_ENDED;
     return ulfm_c_iprobe(slot, comm, source, tag, status);
 }
 
-uint32_t ulfm_improbe(ulfm_slot *slot, uint32_t comm, uint32_t source, uint32_t tag, uint64_t *message, ulfm_status *status) {
+uint32_t ulfm_improbe(ulfm_slot *slot, uint64_t comm, uint32_t source, uint32_t tag, uint64_t *message, ulfm_status *status) {
     if (!slot || !message || !status) return ULFM_ENDED;
     return ulfm_c_improbe(slot, comm, source, tag, message, status);
 }
@@ -106,42 +106,42 @@ uint32_t ulfm_mrecv(ulfm_slot *slot, uint64_t message, ulfm_status *status, uint
     return ulfm_c_mrecv(slot, message, status, body ? body : &nothing, size);
 }
 
-uint32_t ulfm_revoke(ulfm_slot *slot, uint32_t comm) {
+uint32_t ulfm_revoke(ulfm_slot *slot, uint64_t comm) {
     if (!slot) return ULFM_ENDED;
     return ulfm_c_revoke(slot, comm);
 }
 
-uint32_t ulfm_is_revoked(ulfm_slot *slot, uint32_t comm, uint32_t *revoked) {
+uint32_t ulfm_is_revoked(ulfm_slot *slot, uint64_t comm, uint32_t *revoked) {
     if (!slot || !revoked) return ULFM_ENDED;
     return ulfm_c_is_revoked(slot, comm, revoked);
 }
 
-uint32_t ulfm_get_failed(ulfm_slot *slot, uint32_t comm, ulfm_group *failed) {
+uint32_t ulfm_get_failed(ulfm_slot *slot, uint64_t comm, ulfm_group *failed) {
     if (!slot || !failed) return ULFM_ENDED;
     return ulfm_c_get_failed(slot, comm, failed);
 }
 
-uint32_t ulfm_ack_failed(ulfm_slot *slot, uint32_t comm, uint32_t count, uint32_t *total) {
+uint32_t ulfm_ack_failed(ulfm_slot *slot, uint64_t comm, uint32_t count, uint32_t *total) {
     if (!slot || !total) return ULFM_ENDED;
     return ulfm_c_ack_failed(slot, comm, count, total);
 }
 
-uint32_t ulfm_enter_shrink(ulfm_slot *slot, uint32_t comm) {
+uint32_t ulfm_enter_shrink(ulfm_slot *slot, uint64_t comm) {
     if (!slot) return ULFM_ENDED;
     return ulfm_c_enter_shrink(slot, comm);
 }
 
-uint32_t ulfm_poll_shrink(ulfm_slot *slot, uint32_t comm, uint32_t *made) {
+uint32_t ulfm_poll_shrink(ulfm_slot *slot, uint64_t comm, uint64_t *made) {
     if (!slot || !made) return ULFM_ENDED;
     return ulfm_c_poll_shrink(slot, comm, made);
 }
 
-uint32_t ulfm_enter_agree(ulfm_slot *slot, uint32_t comm, uint32_t flag) {
+uint32_t ulfm_enter_agree(ulfm_slot *slot, uint64_t comm, uint32_t flag) {
     if (!slot) return ULFM_ENDED;
     return ulfm_c_enter_agree(slot, comm, flag);
 }
 
-uint32_t ulfm_poll_agree(ulfm_slot *slot, uint32_t comm, uint32_t *value, ulfm_group *missing) {
+uint32_t ulfm_poll_agree(ulfm_slot *slot, uint64_t comm, uint32_t *value, ulfm_group *missing) {
     if (!slot || !value || !missing) return ULFM_ENDED;
     return ulfm_c_poll_agree(slot, comm, value, missing);
 }

@@ -29,14 +29,14 @@ class Group(ctypes.Structure):
     _fields_ = [("size", c_uint32), ("members", c_uint8 * 8)]
 
 
-_BODY, _OUT, _ID = [c_char_p, c_size_t], [POINTER(c_uint32)], [POINTER(c_uint64)]
+_BODY, _OUT, _ID, _COMM = [c_char_p, c_size_t], [POINTER(c_uint32)], [POINTER(c_uint64)], [c_uint64]
 _CALLS = {
-    "end": [], "stop": [], "turn": _OUT, "flushed": _OUT, "me": _OUT, "group_of": [c_uint32, POINTER(Group)], "position": [c_uint32, *_OUT],
-    "dup": [c_uint32, *_OUT], "isend": [c_uint32] * 3 + _BODY, "irecv": [c_uint32] * 4 + _ID, "test": [c_uint64, POINTER(Status), *_BODY],
-    "cancel": [c_uint64, POINTER(Status), *_BODY], "iprobe": [c_uint32] * 3 + [POINTER(Status)], "improbe": [c_uint32] * 3 + _ID + [POINTER(Status)],
-    "mrecv": [c_uint64, POINTER(Status), *_BODY], "revoke": [c_uint32], "is_revoked": [c_uint32, *_OUT], "get_failed": [c_uint32, POINTER(Group)],
-    "ack_failed": [c_uint32, c_uint32, *_OUT], "enter_shrink": [c_uint32], "poll_shrink": [c_uint32, *_OUT], "enter_agree": [c_uint32] * 2,
-    "poll_agree": [c_uint32, *_OUT, POINTER(Group)],
+    "end": [], "stop": [], "turn": _OUT, "flushed": _OUT, "me": _OUT, "group_of": [*_COMM, POINTER(Group)], "position": _COMM + _OUT,
+    "dup": _COMM + _ID, "isend": _COMM + [c_uint32] * 2 + _BODY, "irecv": _COMM + [c_uint32] * 3 + _ID, "test": [c_uint64, POINTER(Status), *_BODY],
+    "cancel": [c_uint64, POINTER(Status), *_BODY], "iprobe": _COMM + [c_uint32] * 2 + [POINTER(Status)],
+    "improbe": _COMM + [c_uint32] * 2 + _ID + [POINTER(Status)], "mrecv": [c_uint64, POINTER(Status), *_BODY], "revoke": _COMM,
+    "is_revoked": _COMM + _OUT, "get_failed": [*_COMM, POINTER(Group)], "ack_failed": [*_COMM, c_uint32, *_OUT], "enter_shrink": _COMM,
+    "poll_shrink": _COMM + _ID, "enter_agree": [*_COMM, c_uint32], "poll_agree": [*_COMM, *_OUT, POINTER(Group)],
 }
 
 
@@ -134,7 +134,7 @@ class Rank:
         self.begin("enter_shrink")
         self.ask("enter_shrink", comm)
         self.begin("poll_shrink")
-        made = c_uint32()
+        made = c_uint64()
         self.until("poll_shrink", comm, byref(made))
         return made.value
 

@@ -56,10 +56,10 @@ typedef struct {
 /* What stands first in the ring from a rank. */
 typedef struct {
     uint32_t kind;   /* one of the kinds below */
-    uint32_t comm;   /* its communicator, 0 to 62. Of ULFM_NOTHING and ULFM_STOP_NOTICE 0 */
     uint32_t tag;    /* of a message: its tag, 0 to 32,767. Else 0 */
+    uint64_t comm;   /* its communicator, 0 to 62. Of ULFM_NOTHING and ULFM_STOP_NOTICE 0 */
     uint64_t length; /* of a message: bytes of the body, 0 to 1,024. Else 0 */
-    uint64_t round;  /* of an entry into an agreement: its number on the communicator, from 0. Else 0 */
+    uint64_t round;  /* of an entry into a shrink or an agreement: its number on the communicator, from 0. Else 0 */
 } ulfm_next_item;
 
 /* Kinds of what stands first. */
@@ -152,25 +152,25 @@ uint32_t ulfm_would(ulfm_slot *slot, uint64_t request, uint32_t *code);
 uint32_t ulfm_me(ulfm_slot *slot, uint32_t *rank);
 
 /* *group: the world ranks of the members, by their positions (MPI 4.0, 7.3.2 and 7.4.1, `MPI_Comm_group`, `MPI_Comm_size`). 16, 1. */
-uint32_t ulfm_group_of(ulfm_slot *slot, uint32_t comm, ulfm_group *group);
+uint32_t ulfm_group_of(ulfm_slot *slot, uint64_t comm, ulfm_group *group);
 
 /* *position: this rank's position (MPI 4.0, 7.4.1, `MPI_Comm_rank`). 16, 1, 11. */
-uint32_t ulfm_position(ulfm_slot *slot, uint32_t comm, uint32_t *position);
+uint32_t ulfm_position(ulfm_slot *slot, uint64_t comm, uint32_t *position);
 
 /* Duplicates a communicator: *made has the same group (MPI 4.0, 7.4.2, `MPI_Comm_dup`). It is made here alone, without a message: each member
    has to do the same. Each communicator c has one duplicate, of the number 2c + 1; the next ones are duplicates of the duplicate (1, 3, 7, 15,
    31 of the world's). 16, 1 (comm past 62), 10, 1, 6, 8, 9, 12. */
-uint32_t ulfm_dup(ulfm_slot *slot, uint32_t comm, uint32_t *made);
+uint32_t ulfm_dup(ulfm_slot *slot, uint64_t comm, uint64_t *made);
 
 /* ---- Messages ---- */
 
 /* Starts a send of `length` bytes to the member `dest` (MPI 4.0, 3.7.2, `MPI_Isend`). It is buffered: done when the call returns. 16, 1 (comm
    past 62), 3, 10, 1, 6, 2, 4, 5, 12. */
-uint32_t ulfm_isend(ulfm_slot *slot, uint32_t comm, uint32_t dest, uint32_t tag, const uint8_t *body, size_t length);
+uint32_t ulfm_isend(ulfm_slot *slot, uint64_t comm, uint32_t dest, uint32_t tag, const uint8_t *body, size_t length);
 
 /* Posts a receive from the member `source` or ULFM_ANY, with `tag` or ULFM_ANY, of at most `room` bytes (MPI 4.0, 3.7.2, `MPI_Irecv`).
    *request: its number, which none of this rank's requests and messages had before. 16, 1 (comm past 62), 3, 10, 1, 6, 2, 12. */
-uint32_t ulfm_irecv(ulfm_slot *slot, uint32_t comm, uint32_t source, uint32_t tag, uint32_t room, uint64_t *request);
+uint32_t ulfm_irecv(ulfm_slot *slot, uint64_t comm, uint32_t source, uint32_t tag, uint32_t room, uint64_t *request);
 
 /* Tests a receive (MPI 4.0, 3.7.3, `MPI_Test`). 0: it is over and released, *status tells how, and where status->error is 0 the body stands at
    `body`; of a body that is longer than `size` the first `size` bytes. Give as many bytes as the receive's room. 17, 18: it goes on. 16, 10, 7. */
@@ -183,11 +183,11 @@ uint32_t ulfm_cancel(ulfm_slot *slot, uint64_t request, ulfm_status *status, uin
 /* Looks for a message that a receive with these arguments would get where it was posted now (MPI 4.0, 3.8.1, `MPI_Iprobe`). 0: there is one, and
    *status tells of it. It changes nothing. 17: there is none. 16, 1 (comm past 62), 3, 10, 1, 6, 2, 5 (there is none, and `source` is known to
    have failed). */
-uint32_t ulfm_iprobe(ulfm_slot *slot, uint32_t comm, uint32_t source, uint32_t tag, ulfm_status *status);
+uint32_t ulfm_iprobe(ulfm_slot *slot, uint64_t comm, uint32_t source, uint32_t tag, ulfm_status *status);
 
 /* Looks for a message as `ulfm_iprobe` does, and takes it aside: `ulfm_mrecv` alone gets it, revoked or not (MPI 4.0, 3.8.2, `MPI_Improbe`). 0: there
    is one, *message is its number, and *status tells of it. 17: there is none. 16, 1 (comm past 62), 3, 10, 1, 6, 2, 5, 12. */
-uint32_t ulfm_improbe(ulfm_slot *slot, uint32_t comm, uint32_t source, uint32_t tag, uint64_t *message, ulfm_status *status);
+uint32_t ulfm_improbe(ulfm_slot *slot, uint64_t comm, uint32_t source, uint32_t tag, uint64_t *message, ulfm_status *status);
 
 /* Receives a message into `size` bytes, and releases it (MPI 4.0, 3.8.3, `MPI_Mrecv`). 0: as by `ulfm_test`; status->error is ULFM_TRUNCATED
    where its body is longer. 16, 10, 7. */
@@ -197,36 +197,36 @@ uint32_t ulfm_mrecv(ulfm_slot *slot, uint64_t message, ulfm_status *status, uint
 
 /* Revokes a communicator, here and, as the notice comes there, at all members (ULFM, `MPI_Comm_revoke`). Again it changes nothing. 16, 1 (comm
    past 62), 10, 1, 12. */
-uint32_t ulfm_revoke(ulfm_slot *slot, uint32_t comm);
+uint32_t ulfm_revoke(ulfm_slot *slot, uint64_t comm);
 
 /* *revoked: 1 where the communicator is known to be revoked, else 0 (ULFM, `MPI_Comm_is_revoked`). 16, 1 (comm past 62), 10, 1. */
-uint32_t ulfm_is_revoked(ulfm_slot *slot, uint32_t comm, uint32_t *revoked);
+uint32_t ulfm_is_revoked(ulfm_slot *slot, uint64_t comm, uint32_t *revoked);
 
 /* *failed: the members that are known to have failed, in the order in which this rank learned it, which stays (ULFM, `MPI_Comm_get_failed`).
    16, 1 (comm past 62), 10, 1. */
-uint32_t ulfm_get_failed(ulfm_slot *slot, uint32_t comm, ulfm_group *failed);
+uint32_t ulfm_get_failed(ulfm_slot *slot, uint64_t comm, ulfm_group *failed);
 
 /* Acknowledges the first `count` of them, or all where they are fewer; never fewer than before (ULFM, `MPI_Comm_ack_failed`). *total: how many
    are acknowledged now. 16, 1 (comm past 62), 10, 1, 12. */
-uint32_t ulfm_ack_failed(ulfm_slot *slot, uint32_t comm, uint32_t count, uint32_t *total);
+uint32_t ulfm_ack_failed(ulfm_slot *slot, uint64_t comm, uint32_t count, uint32_t *total);
 
 /* Enters the shrink of a communicator, revoked or not (ULFM, `MPI_Comm_shrink`). Each communicator c has one shrink, of the number 2c + 2. 16,
    1 (comm past 62), 10, 1, 8, 9, 12. */
-uint32_t ulfm_enter_shrink(ulfm_slot *slot, uint32_t comm);
+uint32_t ulfm_enter_shrink(ulfm_slot *slot, uint64_t comm);
 
 /* Asks for the decision of the shrink that was entered. 0: it is adopted, and *made is the communicator of the new group. 17: not all
    members that run have entered yet. 16, 1 (comm past 62), 10, 1, 14, 8, 11, 12. After 11 this rank is no member of the new group. After 12
    poll again. */
-uint32_t ulfm_poll_shrink(ulfm_slot *slot, uint32_t comm, uint32_t *made);
+uint32_t ulfm_poll_shrink(ulfm_slot *slot, uint64_t comm, uint64_t *made);
 
 /* Enters the next agreement on a communicator, revoked or not, with a flag (ULFM, `MPI_Comm_agree`). 16, 1 (comm past 62), 10, 1, 8 (the
    last one isn't adopted yet), 12. */
-uint32_t ulfm_enter_agree(ulfm_slot *slot, uint32_t comm, uint32_t flag);
+uint32_t ulfm_enter_agree(ulfm_slot *slot, uint64_t comm, uint32_t flag);
 
 /* Asks for the decision of the agreement that was entered last. 0: it is adopted. *value: the AND of the flags of all members but those in
    *missing, which failed. It is the same at all members that are told. 17: not all members that run have entered yet. 16, 1 (comm past 62), 10,
    1, 14, 8, 11, 12. */
-uint32_t ulfm_poll_agree(ulfm_slot *slot, uint32_t comm, uint32_t *value, ulfm_group *missing);
+uint32_t ulfm_poll_agree(ulfm_slot *slot, uint64_t comm, uint32_t *value, ulfm_group *missing);
 
 #ifdef __cplusplus
 }

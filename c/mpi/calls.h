@@ -60,7 +60,7 @@ int um_make_another(struct comm *of, MPI_Comm *made);
 void um_free_marks(void);
 MPI_Comm um_handle_of(const struct comm *comm);
 struct comm *um_new_comm(struct chain *chain, int plane, MPI_Errhandler handler, const struct group *group);
-struct chain *um_new_chain(uint32_t context);
+struct chain *um_new_chain(uint64_t context);
 bool um_make_world(void);
 void um_free_comm(struct comm *comm);
 void um_clear_comms(void);

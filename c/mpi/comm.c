@@ -12,10 +12,10 @@ MPI_Comm um_handle_of(const struct comm *comm) {
 }
 
 /* The chain of a context, with its first duplicate, for collectives, and the others, as far as contexts are left. */
-struct chain *um_new_chain(uint32_t context) {
+struct chain *um_new_chain(uint64_t context) {
     struct chain *chain = calloc(1, sizeof *chain);
     if (!chain) return 0;
-    uint32_t last;
+    uint64_t last;
     bool is_left = ulfm_dup(um_me->slot, context, &last) == ULFM_OK;
     chain->hidden = is_left ? last : NO_CONTEXT_LEFT;
     chain->plane[0].context = context;

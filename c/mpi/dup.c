@@ -39,7 +39,7 @@ void um_free_marks(void) {
 /* Takes away what was sent on a plane before and never received. */
 void um_drop_messages(const struct chain *chain, int plane) {
     if (plane >= chain->planes) return;
-    uint32_t context = chain->plane[plane].context;
+    uint64_t context = chain->plane[plane].context;
     struct received received;
     uint64_t id;
     while (ulfm_improbe(um_me->slot, context, ULFM_ANY, ULFM_ANY, &id, &received.told) == ULFM_OK) {

@@ -19,7 +19,7 @@ struct decided {
 };
 
 /* plane.c */
-bool um_has_requests(uint32_t context);
+bool um_has_requests(uint64_t context);
 uint64_t um_name_of_copy(const struct comm *parent, unsigned number);
 void um_wish_for(const struct chain *chain, struct wish *own);
 void um_decide(const struct comm *team, const struct wish *all, uint64_t name, struct decided *decided);

@@ -15,7 +15,7 @@ static struct given all_given[MAX_RANKS][CONTEXTS];
 static pthread_mutex_t given_lock = PTHREAD_MUTEX_INITIALIZER;
 
 /* Whether a request that isn't over is on a context. */
-bool um_has_requests(uint32_t context) {
+bool um_has_requests(uint64_t context) {
     for (int k = 0; k < um_me->mpi.request_count; k++)
         if (um_me->mpi.requests[k] && um_me->mpi.requests[k]->context == context) return true;
     return false;
@@ -25,7 +25,8 @@ bool um_has_requests(uint32_t context) {
 static unsigned free_planes(const struct chain *chain) {
     unsigned all = 0;
     for (int k = 0; k < PLANES; k++) {
-        uint32_t context = chain->plane[k].context, revoked = 0;
+        uint64_t context = chain->plane[k].context;
+        uint32_t revoked = 0;
         if (k >= chain->planes) all |= 1u << k;
         else if (!chain->plane[k].is_free || um_has_requests(context)) continue;
         else if (ulfm_is_revoked(um_me->slot, context, &revoked) == ULFM_OK && !revoked) all |= 1u << k;

@@ -44,7 +44,7 @@ static void take_message(struct probe *probe, uint64_t id) {
 /* Looks once. */
 static void look(struct probe *probe) {
     struct comm *comm = probe->comm;
-    uint32_t context = comm->context;
+    uint64_t context = comm->context;
     uint32_t source = comm->is_self ? comm->engine_position[0] : probe->source == MPI_ANY_SOURCE ? ULFM_ANY : comm->engine_position[probe->source];
     uint32_t tag = probe->tag == MPI_ANY_TAG ? ULFM_ANY : (uint32_t)probe->tag, code;
     ulfm_status told;

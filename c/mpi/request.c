@@ -103,7 +103,7 @@ static void end_with_nobody(struct request *request) {
     request->over = true;
 }
 
-static inline uint32_t post(const struct comm *comm, uint32_t context, int source, int tag, uint64_t *id) {
+static inline uint32_t post(const struct comm *comm, uint64_t context, int source, int tag, uint64_t *id) {
     uint32_t from = comm->is_self ? comm->engine_position[0] : source == MPI_ANY_SOURCE ? ULFM_ANY : comm->engine_position[source];
     return ulfm_irecv(um_me->slot, context, from, tag == MPI_ANY_TAG ? ULFM_ANY : (uint32_t)tag, BODY, id);
 }

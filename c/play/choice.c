@@ -55,7 +55,7 @@ static void stand_before(struct event call, uint64_t look) {
     if (um_footprints) um_begin_call(&call);
 }
 
-static struct event event_of(enum kind_of_event kind, uint32_t comm, uint32_t peer, uint32_t tag) {
+static struct event event_of(enum kind_of_event kind, uint64_t comm, uint32_t peer, uint32_t tag) {
     return (struct event){.kind = (uint8_t)kind,
                           .rank = (uint8_t)um_me->number,
                           .peer = peer > MAX_RANKS ? NOBODY : (uint8_t)peer,
@@ -103,7 +103,7 @@ static uint32_t bits_of_group(const ulfm_group *group) {
 #define SELDOM __attribute__((noinline))
 
 REAL(isend);
-static SELDOM uint32_t isend(ulfm_slot *slot, uint32_t comm, uint32_t dest, uint32_t tag, const uint8_t *body, size_t length) {
+static SELDOM uint32_t isend(ulfm_slot *slot, uint64_t comm, uint32_t dest, uint32_t tag, const uint8_t *body, size_t length) {
     before(event_of(SENDS, comm, dest, tag));
     uint32_t code = __real_ulfm_isend(slot, comm, dest, tag, body, length);
     if (um_footprints) um_end_send(dest, code);
@@ -111,12 +111,12 @@ static SELDOM uint32_t isend(ulfm_slot *slot, uint32_t comm, uint32_t dest, uint
     return code;
 }
 
-uint32_t __wrap_ulfm_isend(ulfm_slot *slot, uint32_t comm, uint32_t dest, uint32_t tag, const uint8_t *body, size_t length) {
+uint32_t __wrap_ulfm_isend(ulfm_slot *slot, uint64_t comm, uint32_t dest, uint32_t tag, const uint8_t *body, size_t length) {
     return um_is_played ? isend(slot, comm, dest, tag, body, length) : __real_ulfm_isend(slot, comm, dest, tag, body, length);
 }
 
 REAL(irecv);
-static SELDOM uint32_t irecv(ulfm_slot *slot, uint32_t comm, uint32_t source, uint32_t tag, uint32_t room, uint64_t *request) {
+static SELDOM uint32_t irecv(ulfm_slot *slot, uint64_t comm, uint32_t source, uint32_t tag, uint32_t room, uint64_t *request) {
     before(event_of(POSTS, comm, source, tag));
     struct parcel *parcel = um_parcel_for(comm, source, tag);
     uint32_t code = __real_ulfm_irecv(slot, comm, source, tag, room, request);
@@ -125,7 +125,7 @@ static SELDOM uint32_t irecv(ulfm_slot *slot, uint32_t comm, uint32_t source, ui
     return code;
 }
 
-uint32_t __wrap_ulfm_irecv(ulfm_slot *slot, uint32_t comm, uint32_t source, uint32_t tag, uint32_t room, uint64_t *request) {
+uint32_t __wrap_ulfm_irecv(ulfm_slot *slot, uint64_t comm, uint32_t source, uint32_t tag, uint32_t room, uint64_t *request) {
     return um_is_played ? irecv(slot, comm, source, tag, room, request) : __real_ulfm_irecv(slot, comm, source, tag, room, request);
 }
 
@@ -172,7 +172,7 @@ uint32_t __wrap_ulfm_cancel(ulfm_slot *slot, uint64_t request, ulfm_status *stat
 }
 
 REAL(iprobe);
-uint32_t __wrap_ulfm_iprobe(ulfm_slot *slot, uint32_t comm, uint32_t source, uint32_t tag, ulfm_status *status) {
+uint32_t __wrap_ulfm_iprobe(ulfm_slot *slot, uint64_t comm, uint32_t source, uint32_t tag, ulfm_status *status) {
     if (!um_is_played) return __real_ulfm_iprobe(slot, comm, source, tag, status);
     bool is_vain = um_players[um_me->number].in_wait && __real_ulfm_iprobe(slot, comm, source, tag, status) == ULFM_NOT_YET;
     if (!before_look(event_of(PROBES, comm, source, tag), 0, is_vain)) return ULFM_NOT_YET;
@@ -182,7 +182,7 @@ uint32_t __wrap_ulfm_iprobe(ulfm_slot *slot, uint32_t comm, uint32_t source, uin
 }
 
 REAL(improbe);
-uint32_t __wrap_ulfm_improbe(ulfm_slot *slot, uint32_t comm, uint32_t source, uint32_t tag, uint64_t *message, ulfm_status *status) {
+uint32_t __wrap_ulfm_improbe(ulfm_slot *slot, uint64_t comm, uint32_t source, uint32_t tag, uint64_t *message, ulfm_status *status) {
     if (!um_is_played) return __real_ulfm_improbe(slot, comm, source, tag, message, status);
     bool is_vain = um_players[um_me->number].in_wait && __real_ulfm_iprobe(slot, comm, source, tag, status) == ULFM_NOT_YET;
     if (!before_look(event_of(PROBES, comm, source, tag), 1, is_vain)) return ULFM_NOT_YET;
@@ -193,7 +193,7 @@ uint32_t __wrap_ulfm_improbe(ulfm_slot *slot, uint32_t comm, uint32_t source, ui
 }
 
 REAL(revoke);
-uint32_t __wrap_ulfm_revoke(ulfm_slot *slot, uint32_t comm) {
+uint32_t __wrap_ulfm_revoke(ulfm_slot *slot, uint64_t comm) {
     um_go_beyond_messages();
     if (!um_is_played) return __real_ulfm_revoke(slot, comm);
     before(event_of(REVOKES, comm, NOBODY, ULFM_ANY));
@@ -205,7 +205,7 @@ uint32_t __wrap_ulfm_revoke(ulfm_slot *slot, uint32_t comm) {
 }
 
 REAL(is_revoked);
-uint32_t __wrap_ulfm_is_revoked(ulfm_slot *slot, uint32_t comm, uint32_t *answer) {
+uint32_t __wrap_ulfm_is_revoked(ulfm_slot *slot, uint64_t comm, uint32_t *answer) {
     bool is_event = um_is_played && before_look(event_of(ASKS_REVOKED, comm, NOBODY, ULFM_ANY), 0, !um_is_known_revoked(um_me->number, comm));
     uint32_t code = __real_ulfm_is_revoked(slot, comm, answer);
     if (um_is_played && um_players[um_me->number].looks_anew) *answer = 0;
@@ -214,7 +214,7 @@ uint32_t __wrap_ulfm_is_revoked(ulfm_slot *slot, uint32_t comm, uint32_t *answer
 }
 
 REAL(get_failed);
-uint32_t __wrap_ulfm_get_failed(ulfm_slot *slot, uint32_t comm, ulfm_group *failed) {
+uint32_t __wrap_ulfm_get_failed(ulfm_slot *slot, uint64_t comm, ulfm_group *failed) {
     bool is_event = um_is_played && before_look(event_of(ASKS_FAILED, comm, NOBODY, ULFM_ANY), 0, true);
     uint32_t code = __real_ulfm_get_failed(slot, comm, failed);
     if (um_is_played && um_players[um_me->number].looks_anew) failed->size = 0;
@@ -223,7 +223,7 @@ uint32_t __wrap_ulfm_get_failed(ulfm_slot *slot, uint32_t comm, ulfm_group *fail
 }
 
 REAL(ack_failed);
-uint32_t __wrap_ulfm_ack_failed(ulfm_slot *slot, uint32_t comm, uint32_t count, uint32_t *total) {
+uint32_t __wrap_ulfm_ack_failed(ulfm_slot *slot, uint64_t comm, uint32_t count, uint32_t *total) {
     bool is_event = um_is_played && before_look(event_of(ACKNOWLEDGES, comm, NOBODY, ULFM_ANY), count, false);
     uint32_t code = __real_ulfm_ack_failed(slot, comm, count, total);
     if (um_footprints && is_event) um_end_question(*total);
@@ -231,7 +231,7 @@ uint32_t __wrap_ulfm_ack_failed(ulfm_slot *slot, uint32_t comm, uint32_t count, 
 }
 
 REAL(dup);
-uint32_t __wrap_ulfm_dup(ulfm_slot *slot, uint32_t comm, uint32_t *made) {
+uint32_t __wrap_ulfm_dup(ulfm_slot *slot, uint64_t comm, uint64_t *made) {
     bool is_event = um_is_played && um_me->life.has_begun; /* nothing comes before MPI_Init is over */
     if (is_event) before(event_of(DUPLICATES, comm, NOBODY, ULFM_ANY));
     uint32_t code = __real_ulfm_dup(slot, comm, made);
@@ -240,7 +240,7 @@ uint32_t __wrap_ulfm_dup(ulfm_slot *slot, uint32_t comm, uint32_t *made) {
 }
 
 REAL(enter_shrink);
-uint32_t __wrap_ulfm_enter_shrink(ulfm_slot *slot, uint32_t comm) {
+uint32_t __wrap_ulfm_enter_shrink(ulfm_slot *slot, uint64_t comm) {
     um_go_beyond_messages();
     if (!um_is_played) return __real_ulfm_enter_shrink(slot, comm);
     before(event_of(ENTERS_SHRINK, comm, NOBODY, ULFM_ANY));
@@ -252,7 +252,7 @@ uint32_t __wrap_ulfm_enter_shrink(ulfm_slot *slot, uint32_t comm) {
 }
 
 REAL(enter_agree);
-uint32_t __wrap_ulfm_enter_agree(ulfm_slot *slot, uint32_t comm, uint32_t flag) {
+uint32_t __wrap_ulfm_enter_agree(ulfm_slot *slot, uint64_t comm, uint32_t flag) {
     um_go_beyond_messages();
     if (!um_is_played) return __real_ulfm_enter_agree(slot, comm, flag);
     before(event_of(ENTERS_AGREE, comm, NOBODY, ULFM_ANY));
@@ -264,7 +264,7 @@ uint32_t __wrap_ulfm_enter_agree(ulfm_slot *slot, uint32_t comm, uint32_t flag) 
 }
 
 REAL(poll_shrink);
-uint32_t __wrap_ulfm_poll_shrink(ulfm_slot *slot, uint32_t comm, uint32_t *made) {
+uint32_t __wrap_ulfm_poll_shrink(ulfm_slot *slot, uint64_t comm, uint64_t *made) {
     if (!um_is_played) return __real_ulfm_poll_shrink(slot, comm, made);
     if (!before_look(event_of(POLLS_SHRINK, comm, NOBODY, ULFM_ANY), 0, !um_has_heard_all(um_me->number, comm, false))) return ULFM_NOT_YET;
     struct proposal own = um_proposal_of(um_me->number, comm, false);
@@ -275,7 +275,7 @@ uint32_t __wrap_ulfm_poll_shrink(ulfm_slot *slot, uint32_t comm, uint32_t *made)
 }
 
 REAL(poll_agree);
-uint32_t __wrap_ulfm_poll_agree(ulfm_slot *slot, uint32_t comm, uint32_t *value, ulfm_group *missing) {
+uint32_t __wrap_ulfm_poll_agree(ulfm_slot *slot, uint64_t comm, uint32_t *value, ulfm_group *missing) {
     if (!um_is_played) return __real_ulfm_poll_agree(slot, comm, value, missing);
     if (!before_look(event_of(POLLS_AGREE, comm, NOBODY, ULFM_ANY), 0, !um_has_heard_all(um_me->number, comm, true))) return ULFM_NOT_YET;
     struct proposal own = um_proposal_of(um_me->number, comm, true);

@@ -18,7 +18,7 @@ static int heard[MAX_RANKS][MAX_RANKS][CONTEXTS][2]; /* how many of them came to
 static uint8_t known[MAX_RANKS];
 static uint64_t revoked[MAX_RANKS];
 
-void um_note_entry(int rank, uint32_t comm, bool agrees, uint32_t flag) {
+void um_note_entry(int rank, uint64_t comm, bool agrees, uint32_t flag) {
     struct entries *own = &entries[rank][comm][agrees];
     if (!um_grow(&own->at, own->count, sizeof *own->at)) return;
     own->at[own->count].flag = flag;
@@ -27,9 +27,9 @@ void um_note_entry(int rank, uint32_t comm, bool agrees, uint32_t flag) {
 
 bool um_knows_failed(int rank, int other) { return known[rank] >> other & 1; }
 
-void um_note_revoked(int rank, uint32_t comm) { revoked[rank] |= 1ull << comm; }
+void um_note_revoked(int rank, uint64_t comm) { revoked[rank] |= 1ull << comm; }
 
-bool um_is_known_revoked(int rank, uint32_t comm) { return revoked[rank] >> comm & 1; }
+bool um_is_known_revoked(int rank, uint64_t comm) { return revoked[rank] >> comm & 1; }
 
 /* A rank takes an item. */
 void um_note_item(int rank, int from, const ulfm_next_item *item) {
@@ -40,7 +40,7 @@ void um_note_item(int rank, int from, const ulfm_next_item *item) {
 }
 
 /* Who entered, and need not have: those that entries of members which aren't excluded say have failed, where that is so too of whom theirs say it. */
-static uint8_t optional_of(const struct proposal *made, uint32_t comm, bool agrees) {
+static uint8_t optional_of(const struct proposal *made, uint64_t comm, bool agrees) {
     uint8_t said = 0, optional = 0;
     for (int k = 0; k < MAX_RANKS; k++)
         if (made->listed & ~made->excluded & 1u << k) said |= entries[k][comm][agrees].at[made->round].known;
@@ -50,7 +50,7 @@ static uint8_t optional_of(const struct proposal *made, uint32_t comm, bool agre
 }
 
 /* What the rank would propose for its last shrink or agreement. */
-struct proposal um_proposal_of(int rank, uint32_t comm, bool agrees) {
+struct proposal um_proposal_of(int rank, uint64_t comm, bool agrees) {
     ulfm_group group;
     const struct entries *own = &entries[rank][comm][agrees];
     int round = own->count - 1;
@@ -72,11 +72,11 @@ struct proposal um_proposal_of(int rank, uint32_t comm, bool agrees) {
 }
 
 /* Who entered the shrink of a communicator, as bits. */
-uint8_t um_entered(uint32_t comm) {
+uint8_t um_entered(uint64_t comm) {
     uint8_t bits = 0;
     for (int k = 0; k < MAX_RANKS; k++) bits |= (uint8_t)((entries[k][comm][false].count > 0) << k);
     return bits;
 }
 
 /* Whether it could be decided there now. */
-bool um_has_heard_all(int rank, uint32_t comm, bool agrees) { return um_proposal_of(rank, comm, agrees).is_possible; }
+bool um_has_heard_all(int rank, uint64_t comm, bool agrees) { return um_proposal_of(rank, comm, agrees).is_possible; }

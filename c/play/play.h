@@ -85,12 +85,12 @@ bool um_looks_again(struct player *player);
 void um_forget_looks(struct player *player);
 
 /* heard.c */
-void um_note_entry(int rank, uint32_t comm, bool agrees, uint32_t flag);
-void um_note_revoked(int rank, uint32_t comm);
+void um_note_entry(int rank, uint64_t comm, bool agrees, uint32_t flag);
+void um_note_revoked(int rank, uint64_t comm);
 void um_note_item(int rank, int from, const ulfm_next_item *item);
 bool um_knows_failed(int rank, int other);
-bool um_is_known_revoked(int rank, uint32_t comm);
-bool um_has_heard_all(int rank, uint32_t comm, bool agrees);
+bool um_is_known_revoked(int rank, uint64_t comm);
+bool um_has_heard_all(int rank, uint64_t comm, bool agrees);
 
 /* controller.c */
 extern ulfm_next_item um_heads[MAX_RANKS][MAX_RANKS]; /* what is first, from each rank to each */
@@ -120,7 +120,7 @@ void um_plan_losses(int kept[MAX_RANKS][MAX_RANKS]);
 /* matches.c */
 void um_match(struct parcel *parcel);
 void um_note_come(struct parcel *parcel);
-struct parcel *um_parcel_for(uint32_t comm, uint32_t source, uint32_t tag);
+struct parcel *um_parcel_for(uint64_t comm, uint32_t source, uint32_t tag);
 
 /* snapshot.c */
 void *um_shared_memory(size_t bytes);

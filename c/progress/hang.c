@@ -8,7 +8,7 @@
 static const char *name_of(const struct sight *sight, char *name, size_t room) {
     if (!sight->size) return "";
     if (sight->name[0]) snprintf(name, room, " on %s", sight->name);
-    else snprintf(name, room, " on a communicator of %d (context %u)", sight->size, sight->context);
+    else snprintf(name, room, " on a communicator of %d (context %llu)", sight->size, (unsigned long long)sight->context);
     return name;
 }
 
@@ -20,7 +20,8 @@ static bool is_in_same(struct rank *rank, const struct sight *waiting) {
 
 /* The members that a shrink or an agreement waits for: those that run and aren't in the same one. */
 static uint32_t missing_from(const struct rank *waiting, const struct sight *sight) {
-    uint32_t bits = 0, context = sight->context;
+    uint32_t bits = 0;
+    uint64_t context = sight->context;
     bool agrees = !strcmp(sight->call.name, "MPIX_Comm_agree");
     if (!sight->size || (strcmp(sight->call.name, "MPIX_Comm_shrink") && !agrees)) return 0;
     for (int k = 0; k < sight->size; k++) {
@@ -45,7 +46,7 @@ static void tell_peer(const struct rank *rank, const struct sight *sight, char *
         if (waits_for >> k & 1) used += snprintf(text + used, room - used, "%s %d", used ? "," : " for rank", k);
 }
 
-uint32_t __real_ulfm_get_failed(ulfm_slot *slot, uint32_t comm, ulfm_group *failed);
+uint32_t __real_ulfm_get_failed(ulfm_slot *slot, uint64_t comm, ulfm_group *failed);
 
 /* Which failures this rank knows, so that others can tell. In a run that is played nobody else runs, and it is asked then: it is no event. */
 static uint32_t known_by(struct rank *rank) {

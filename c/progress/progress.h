@@ -67,7 +67,7 @@ bool um_all_are_gone(void *unused, bool is_settled);
 struct sight {
     struct call call;
     int size;                /* of its communicator; 0: it has none */
-    uint32_t context, first; /* of its messages, and of the first one of its chain */
+    uint64_t context, first; /* of its messages, and of the first one of its chain */
     uint8_t members[MAX_RANKS];
     char name[MPI_MAX_OBJECT_NAME];
 };

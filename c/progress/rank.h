@@ -25,12 +25,12 @@ enum {
 
 /* The contexts of one group that were made by duplication: the first one, its duplicate (for collectives), that one's, and so on. */
 struct chain {
-    uint32_t hidden; /* the first duplicate, NO_CONTEXT_LEFT where there is none */
+    uint64_t hidden; /* the first duplicate, NO_CONTEXT_LEFT where there is none */
     int made;        /* how many contexts it has: made ahead, since one that is revoked can't be duplicated */
     int planes;      /* how many of them a program has had */
     int users;       /* the communicators here that point to it */
     struct {
-        uint32_t context;
+        uint64_t context;
         bool is_free;   /* the program freed its communicator */
         unsigned begun; /* the collectives that began on it before */
     } plane[PLANES];
@@ -38,8 +38,8 @@ struct chain {
 
 /* A communicator of the program. */
 struct comm {
-    uint32_t context; /* of its messages */
-    uint32_t hidden;  /* of its collectives, NO_CONTEXT_LEFT where there is none */
+    uint64_t context; /* of its messages */
+    uint64_t hidden;  /* of its collectives, NO_CONTEXT_LEFT where there is none */
     struct chain *chain;
     int plane;        /* its number in the chain, in the tags of its collectives */
     unsigned begun;   /* how many collectives began */
@@ -86,7 +86,7 @@ struct parcel {
     int matched_at, met_with; /* where the run is searched: the event in which it was matched, and the other one that this took */
     bool is_found;            /* by a matched probe, so that no other one tells of it; for the receiver alone */
     int from, to;             /* world ranks */
-    uint32_t context;
+    uint64_t context;
     int tag;
     size_t length;      /* of the message */
     const void *source; /* where the sender has its bytes */
@@ -106,7 +106,7 @@ struct reduction;
 struct request {
     enum kind kind;
     struct comm *comm;
-    uint32_t context;
+    uint64_t context;
     int peer, tag;
     void *buffer;
     size_t room;

@@ -20,7 +20,8 @@ struct agreement {
 /* Whether each member is in the agreement that this rank is in, was in it, or has left: else there can't be a decision, and the engine needn't be
    asked. In a run that is played a rank goes by what it heard alone. */
 static bool can_be_agreed(const struct agreement *agreement) {
-    uint32_t context = agreement->comm->context, own = atomic_load(&um_me->shared.agreed[context]);
+    uint64_t context = agreement->comm->context;
+    uint32_t own = atomic_load(&um_me->shared.agreed[context]);
     for (int k = 0; k < agreement->comm->size && !um_is_played; k++) {
         const struct rank *rank = &um_ranks[agreement->comm->members[k]];
         if (atomic_load(&rank->shared.agreed[context]) < own && !atomic_load(&rank->shared.is_gone)) return false;
@@ -41,7 +42,8 @@ static int code_of(uint32_t code) { return code == ULFM_ALREADY_MADE ? ONE_AT_A_
 
 /* Enters the next agreement of the engine: the AND of the words of all members but those that are missing. */
 static int enter(struct agreement *agreement, uint32_t word) {
-    uint32_t context = agreement->comm->context, code = ulfm_enter_agree(um_me->slot, context, word);
+    uint64_t context = agreement->comm->context;
+    uint32_t code = ulfm_enter_agree(um_me->slot, context, word);
     if (code != ULFM_OK) return code_of(code);
     atomic_fetch_add(&um_me->shared.agreed[context], 1); /* before its word goes out */
     um_progress();
@@ -118,7 +120,7 @@ uint32_t um_missing_from_agreement(const struct request *request) {
     if (request->look != look_at_agreement || request->over) return 0;
     for (int k = 0; k < agreement->comm->size; k++) {
         const struct rank *rank = &um_ranks[agreement->comm->members[k]];
-        uint32_t context = agreement->comm->context;
+        uint64_t context = agreement->comm->context;
         bool is_there = atomic_load(&rank->shared.agreed[context]) >= atomic_load(&um_me->shared.agreed[context]);
         if (!is_there && !atomic_load(&rank->shared.is_gone)) bits |= 1u << rank->number;
     }

@@ -36,7 +36,7 @@ int MPIX_Comm_is_revoked(MPI_Comm comm, int *flag) {
 
 struct shrink {
     struct comm *comm;
-    uint32_t context, made;
+    uint64_t context, made;
     uint32_t code;
     MPI_Comm *handle;
 };

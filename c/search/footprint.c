@@ -14,7 +14,7 @@ static int revoked_at[MAX_RANKS][CONTEXTS];
 static int decided[CONTEXTS]; /* so many agreements on a communicator were decided */
 
 static struct footprint *present(void) { return &um_footprints[um_step]; }
-static uint32_t members_of(int rank, uint32_t comm) {
+static uint32_t members_of(int rank, uint64_t comm) {
     ulfm_group group;
     uint32_t bits = 0;
     if (ulfm_group_of(&um_ranks[rank].home, comm, &group) != ULFM_OK) return 0;
@@ -23,7 +23,7 @@ static uint32_t members_of(int rank, uint32_t comm) {
 }
 
 /* The world rank of a position; ANYBODY where it has none. */
-int um_member_at(int rank, uint32_t comm, uint32_t position) {
+int um_member_at(int rank, uint64_t comm, uint32_t position) {
     ulfm_group group;
     if (ulfm_group_of(&um_ranks[rank].home, comm, &group) != ULFM_OK || position >= group.size) return ANYBODY;
     return group.members[position];
@@ -191,7 +191,7 @@ void um_end_listed(const ulfm_group *failed) {
     um_end_question(list);
 }
 
-uint32_t um_topic_of(uint32_t comm, bool agrees, int round) { return 1 + (comm * 2 + agrees) * MOST_ROUNDS + (uint32_t)round; }
+uint32_t um_topic_of(uint64_t comm, bool agrees, int round) { return 1 + (comm * 2 + agrees) * MOST_ROUNDS + (uint32_t)round; }
 
 void um_end_entry(bool agrees, uint32_t flag, uint32_t code) {
     struct footprint *own = present();

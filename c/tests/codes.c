@@ -4,6 +4,7 @@
 
 static ulfm_slot slots[2];
 static uint32_t out;
+static uint64_t made;
 static uint64_t id;
 static ulfm_status status;
 static ulfm_group group;
@@ -21,7 +22,7 @@ static void want(uint32_t code, uint32_t wanted, const char *call) {
 
 /* Each call that a slot alone lets answer: 16 of a null one and of an ended one, 10 of a rank that stopped where `stopped` says so. */
 static void all_calls(ulfm_slot *slot, uint32_t wanted) {
-    WANT(ulfm_dup(slot, 0, &out), wanted);
+    WANT(ulfm_dup(slot, 0, &made), wanted);
     WANT(ulfm_isend(slot, 0, 0, 0, body, 1), wanted);
     WANT(ulfm_irecv(slot, 0, 0, 0, 1, &id), wanted);
     WANT(ulfm_test(slot, 0, &status, body, 1), wanted);
@@ -34,7 +35,7 @@ static void all_calls(ulfm_slot *slot, uint32_t wanted) {
     WANT(ulfm_get_failed(slot, 0, &group), wanted);
     WANT(ulfm_ack_failed(slot, 0, 1, &out), wanted);
     WANT(ulfm_enter_shrink(slot, 0), wanted);
-    WANT(ulfm_poll_shrink(slot, 0, &out), wanted);
+    WANT(ulfm_poll_shrink(slot, 0, &made), wanted);
     WANT(ulfm_enter_agree(slot, 0, 1), wanted);
     WANT(ulfm_poll_agree(slot, 0, &out, &group), wanted);
 }
@@ -104,16 +105,16 @@ static void refusals(ulfm_slot *slot) {
     WANT(ulfm_mrecv(slot, UINT64_MAX, &status, body, 1), ULFM_NO_REQUEST);
     WANT(ulfm_iprobe(slot, 0, 0, 0, &status), ULFM_NOT_YET);
     WANT(ulfm_improbe(slot, 0, 0, 0, &id, &status), ULFM_NOT_YET);
-    WANT(ulfm_poll_shrink(slot, 0, &out), ULFM_NOT_ENTERED);
+    WANT(ulfm_poll_shrink(slot, 0, &made), ULFM_NOT_ENTERED);
     WANT(ulfm_poll_agree(slot, 0, &out, &group), ULFM_NOT_ENTERED);
     WANT(ulfm_enter_agree(slot, 0, 1), 0);
     WANT(ulfm_enter_agree(slot, 0, 1), ULFM_ALREADY_MADE);
     WANT(ulfm_enter_shrink(slot, 0), 0);
     WANT(ulfm_enter_shrink(slot, 0), ULFM_ALREADY_MADE);
-    for (uint32_t comm = 0; comm < 31; comm = 2 * comm + 1) WANT(ulfm_dup(slot, comm, &out), 0);
-    WANT(ulfm_dup(slot, 31, &out), ULFM_NO_CONTEXT);
+    for (uint64_t comm = 0; comm < 31; comm = 2 * comm + 1) WANT(ulfm_dup(slot, comm, &made), 0);
+    WANT(ulfm_dup(slot, 31, &made), ULFM_NO_CONTEXT);
     WANT(ulfm_enter_shrink(slot, 31), ULFM_NO_CONTEXT);
-    WANT(ulfm_dup(slot, 0, &out), ULFM_ALREADY_MADE);
+    WANT(ulfm_dup(slot, 0, &made), ULFM_ALREADY_MADE);
     WANT(ulfm_revoke(slot, 1), 0);
     WANT(ulfm_isend(slot, 1, 0, 0, body, 1), ULFM_REVOKED);
 }
@@ -138,8 +139,8 @@ static void edges(ulfm_slot *slot) {
 
 /* A rank that stopped, and calls that are refused for two causes: the one that ulfm.h lists first is answered. */
 static void orders(ulfm_slot *slot) {
-    WANT(ulfm_dup(slot, 63, &out), ULFM_NO_COMM);
-    WANT(ulfm_dup(slot, 5, &out), ULFM_STOPPED);
+    WANT(ulfm_dup(slot, 63, &made), ULFM_NO_COMM);
+    WANT(ulfm_dup(slot, 5, &made), ULFM_STOPPED);
     wrong_sends(slot, ULFM_STOPPED);
     WANT(ulfm_position(slot, 5, &out), ULFM_NO_COMM);
 }

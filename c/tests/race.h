@@ -19,7 +19,7 @@ struct condition {
 
 struct step {
     char op[16];
-    uint32_t comm, who, tag, more; /* who: a rank, or the step that is named; more: room, flag or count */
+    uint64_t comm, who, tag, more; /* who: a rank, or the step that is named; more: room, flag or count */
     uint8_t body[MOST_BYTES];
     size_t length;
     struct condition *conditions;

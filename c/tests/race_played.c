@@ -78,7 +78,7 @@ static void play_step(struct actor *actor, struct step *at) {
 int um_run_program(struct rank *rank) {
     struct actor *actor = &actors[rank->number];
     bool has_stopped = false;
-    uint32_t made;
+    uint64_t made;
     actor->me = (uint32_t)rank->number;
     if (!um_options.no_loss) ulfm_dup(&rank->home, 0, &made);
     rank->life.has_begun = true;

@@ -42,7 +42,7 @@ static int told(struct step *step, const ulfm_status *status, const uint8_t *bod
 }
 
 /* The members of a communicator that stand in a group, by their positions: as the group has them, or in rising order. */
-static uint32_t positions(uint32_t me, uint32_t comm, const ulfm_group *some, bool rising, uint32_t *found) {
+static uint32_t positions(uint32_t me, uint64_t comm, const ulfm_group *some, bool rising, uint32_t *found) {
     ulfm_group all;
     uint32_t count = 0;
     if (ulfm_group_of(slot_of(me), comm, &all)) give_up("no group", me, "");
@@ -107,15 +107,17 @@ static int acknowledge(struct actor *actor, struct step *step) {
 }
 
 static int duplicate(struct actor *actor, struct step *step) {
-    uint32_t made, code = ulfm_dup(slot_of(actor->me), step->comm, &made);
+    uint64_t made;
+    uint32_t code = ulfm_dup(slot_of(actor->me), step->comm, &made);
     if (code) return refused(step, code);
-    snprintf(step->answer, sizeof step->answer, "comm %u", made);
+    snprintf(step->answer, sizeof step->answer, "comm %llu", (unsigned long long)made);
     return 0;
 }
 
 static int shrink(struct actor *actor, struct step *step) {
     ulfm_group group;
-    uint32_t made, position, members[MOST_ACTORS], code;
+    uint64_t made;
+    uint32_t position, members[MOST_ACTORS], code;
     char first[64], rest[64];
     if (!step->is_entered) {
         code = ulfm_enter_shrink(slot_of(actor->me), step->comm);
@@ -127,7 +129,7 @@ static int shrink(struct actor *actor, struct step *step) {
     if (code) return refused(step, code);
     if (ulfm_group_of(slot_of(actor->me), made, &group) || ulfm_position(slot_of(actor->me), made, &position)) give_up("no group", actor->me, "shrink");
     for (uint32_t k = 0; k < group.size; k++) members[k] = group.members[k];
-    snprintf(first, sizeof first, "comm %u ranks", made);
+    snprintf(first, sizeof first, "comm %llu ranks", (unsigned long long)made);
     snprintf(rest, sizeof rest, " me %u", position);
     return listed(step, first, members, group.size, rest);
 }

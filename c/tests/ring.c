@@ -55,7 +55,7 @@ static void *rank(void *arg) {
     if (r != PROC_FAILED && r != REVOKED) { fprintf(stderr, "rank %d: %d\n", me, r); exit(4); }
     if (ulfm_revoke(&slots[me], comm)) exit(5);
     if (ulfm_enter_shrink(&slots[me], comm)) exit(6);
-    uint32_t made = 0;
+    uint64_t made = 0;
     for (;;) {
         uint32_t d = ulfm_poll_shrink(&slots[me], comm, &made);
         if (d == 0) break;

@@ -1,12 +1,12 @@
 -- Codes are read back.
-use Rattle.std.proofs.Common.{◌≡◌, ℕ, ◌+◌, ◌*◌, ◌/◌, ◌%◌, Some, refl, ap, sym, ◌∙◌}
+use Rattle.std.proofs.Common.{◌≡◌, ℕ, ◌+◌, ◌*◌, ◌/◌, ◌%◌, Bool, true, false, cond, nat_lt, List, [], ◌∷◌, ◌++◌, Some, refl, ap, sym, ◌∙◌}
 use Rattle.std.proofs.Math.Nat.{mod-add-div}
 use Rattle.std.proofs.lemmas.Option.{same_Some}
 use Rattle.std.specs.Prelude.{option_map}
 use Rattle.ulfm_base.specs.Error.{error_text}
 use Rattle.ulfm_base.specs.declared.error.CallError.{CallError}
 use Rattle.ulfm_base.specs.declared.error.CallError.TheVariants as error
-use Rattle.ulfm_answer.specs.Told.{CodesAreRead, code_of, of_four, of_two, read_code, refusal_of}
+use Rattle.ulfm_answer.specs.Told.{CodesAreRead, code_of, eight, of_four, of_two, read_code, refusal_of}
 use Rattle.ulfm_answer.specs.declared.told_answer.ToldAnswer.{ToldAnswer}
 use Rattle.ulfm_answer.specs.declared.told_answer.ToldAnswer.TheVariants.{Sent, Posted, Done, Over, Pending, Found, Cancelled, Ranks, Acked, Revoked, Made, Shrunk, Agreed, Noted, Stopped, Unfinished, Skipped, Refused}
 
@@ -42,6 +42,14 @@ refusal_read error.BadSize = refl
 refusal_read error.NotEntered = refl
 refusal_read error.Truncated = refl
 
+made_read : (comm : ℕ) (b : Bool) → read_code (cond b (15 ∷ comm ∷ []) (18 ∷ eight comm)) ≡ Some (Made comm)
+made_read comm true = refl
+made_read comm false = ap (λ (n : ℕ). Some (Made n)) (eight_read comm)
+
+shrunk_read : (comm : ℕ) (group : List ℕ) (me : ℕ) (b : Bool) → read_code (cond b (16 ∷ comm ∷ me ∷ group) (19 ∷ me ∷ (eight comm ++ group))) ≡ Some (Shrunk comm group me)
+shrunk_read comm group me true = refl
+shrunk_read comm group me false = ap (λ (n : ℕ). Some (Shrunk n group me)) (eight_read comm)
+
 pub codes_are_read : CodesAreRead
 codes_are_read Sent = refl
 codes_are_read Posted = refl
@@ -58,8 +66,8 @@ codes_are_read (Over reason) = ap (option_map Over) (refusal_read reason)
 codes_are_read (Refused reason) = ap (option_map Refused) (refusal_read reason)
 codes_are_read (Ranks members) = refl
 codes_are_read (Acked total) = refl
-codes_are_read (Made comm) = refl
-codes_are_read (Shrunk comm group me) = refl
+codes_are_read (Made comm) = made_read comm (nat_lt comm 256)
+codes_are_read (Shrunk comm group me) = shrunk_read comm group me (nat_lt comm 256)
 codes_are_read (Agreed value missing) = ap (λ (v : ℕ). Some (Agreed v missing)) (four_read value)
 
 -- codes tell answers apart

@@ -43,6 +43,14 @@ four n = two (n % 65536) ++ two (n / 65536)
 abbrev pub eight : ℕ → List ℕ
 eight n = four (n % 4294967296) ++ four (n / 4294967296)
 
+-- that a duplicate of this context was made: by one byte, or from 256 on by eight
+abbrev pub made_code : ℕ → List ℕ
+made_code comm = if nat_lt comm 256 then 15 ∷ comm ∷ [] else 18 ∷ eight comm
+
+-- that a shrink made a communicator of this context and group, with the rank's position there
+abbrev pub shrunk_code : ℕ → List ℕ → ℕ → List ℕ
+shrunk_code comm group me = if nat_lt comm 256 then 16 ∷ comm ∷ me ∷ group else 19 ∷ me ∷ (eight comm ++ group)
+
 -- the code of what is told: a number for its kind, and what it has
 abbrev pub code_of : ToldAnswer → List ℕ
 code_of told.Sent = 0 ∷ []
@@ -60,8 +68,8 @@ code_of (told.Over reason) = 11 ∷ error_text reason
 code_of (told.Refused reason) = 12 ∷ error_text reason
 code_of (told.Ranks members) = 13 ∷ members
 code_of (told.Acked total) = 14 ∷ total ∷ []
-code_of (told.Made comm) = 15 ∷ comm ∷ []
-code_of (told.Shrunk comm group me) = 16 ∷ comm ∷ me ∷ group
+code_of (told.Made comm) = made_code comm
+code_of (told.Shrunk comm group me) = shrunk_code comm group me
 code_of (told.Agreed value missing) = 17 ∷ (four value ++ missing)
 
 -- the code of an answer: that of what is told of it
@@ -122,6 +130,15 @@ abbrev pub read_shrunk : List ℕ → Option ToldAnswer
 read_shrunk (comm ∷ me ∷ group) = Some (told.Shrunk comm group me)
 read_shrunk _ = None
 
+-- the same from context 256 on
+abbrev pub read_far_made : List ℕ → Option ToldAnswer
+read_far_made (a ∷ b ∷ c ∷ d ∷ e ∷ f ∷ g ∷ h ∷ []) = Some (told.Made (of_four a b c d + 4294967296 * of_four e f g h))
+read_far_made _ = None
+
+abbrev pub read_far_shrunk : List ℕ → Option ToldAnswer
+read_far_shrunk (me ∷ a ∷ b ∷ c ∷ d ∷ e ∷ f ∷ g ∷ h ∷ group) = Some (told.Shrunk (of_four a b c d + 4294967296 * of_four e f g h) group me)
+read_far_shrunk _ = None
+
 -- what was agreed
 abbrev pub read_agreed : List ℕ → Option ToldAnswer
 read_agreed (a ∷ b ∷ c ∷ d ∷ missing) = Some (told.Agreed (of_four a b c d) missing)
@@ -153,6 +170,8 @@ read_kind kind rest =
     else if kind == 15 then read_made rest
     else if kind == 16 then read_shrunk rest
     else if kind == 17 then read_agreed rest
+    else if kind == 18 then read_far_made rest
+    else if kind == 19 then read_far_shrunk rest
     else None
 
 -- nothing follows

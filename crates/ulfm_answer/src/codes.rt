@@ -1,7 +1,7 @@
 //! The codes of answers: bytes that are read back.
 ghost use Rattle.std.specs.Prelude.{◌≡◌, ◌∷◌, ◌++◌, [], OnOk};
 ghost use Rattle.ulfm_base.specs.Error.{error_text};
-ghost use Rattle.ulfm_answer.specs.Told.{code_of, eight, four, told_of, two};
+ghost use Rattle.ulfm_answer.specs.Told.{code_of, eight, four, made_code, shrunk_code, told_of, two};
 
 use crate::answer::StepAnswer;
 use crate::told_answer::{ToldAnswer, members_of, told_of};
@@ -56,6 +56,30 @@ fn put_kind(code: &mut Vec<u8>, kind: u8, rest: &[u8]) -> Result<(), OutOfMemory
     put_bytes(code, rest)
 }
 
+/// Puts that a duplicate of this context was made.
+fn put_made(code: &mut Vec<u8>, comm: u64) -> Result<(), OutOfMemory>
+    ensures { OnOk result (code.new.items ≡ code.old.items ++ made_code comm) }
+{
+    if comm < 256 {
+        return put_kind(code, 15, &[comm as u8]);
+    }
+    put_byte(code, 18)?;
+    put_eight(code, comm)
+}
+
+/// Puts that a shrink made a communicator of this context and group, with the rank's position there.
+fn put_shrunk(code: &mut Vec<u8>, comm: u64, members: &[u8], me: u8) -> Result<(), OutOfMemory>
+    ensures { OnOk result (code.new.items ≡ code.old.items ++ shrunk_code comm members.now me) }
+{
+    if comm < 256 {
+        put_kind(code, 16, &[comm as u8, me])?;
+        return put_bytes(code, members);
+    }
+    put_kind(code, 19, &[me])?;
+    put_eight(code, comm)?;
+    put_bytes(code, members)
+}
+
 /// Puts a kind, and where a letter came from with its tag.
 fn put_letter(code: &mut Vec<u8>, kind: u8, source: u8, tag: u16) -> Result<(), OutOfMemory>
     ensures { OnOk result (code.new.items ≡ code.old.items ++ kind ∷ source ∷ two tag) }
@@ -98,11 +122,8 @@ fn put_told(code: &mut Vec<u8>, told: &ToldAnswer<'_>) -> Result<(), OutOfMemory
         ToldAnswer::Refused(error) => put_refusal(code, 12, *error),
         ToldAnswer::Ranks(members) => put_kind(code, 13, members.as_slice()),
         ToldAnswer::Acked(total) => put_kind(code, 14, &[*total]),
-        ToldAnswer::Made(comm) => put_kind(code, 15, &[*comm]),
-        ToldAnswer::Shrunk(comm, members, me) => {
-            put_kind(code, 16, &[*comm, *me])?;
-            put_bytes(code, members.as_slice())
-        }
+        ToldAnswer::Made(comm) => put_made(code, *comm),
+        ToldAnswer::Shrunk(comm, members, me) => put_shrunk(code, *comm, members.as_slice(), *me),
         ToldAnswer::Agreed(value, missing) => {
             put_byte(code, 17)?;
             put_four(code, *value)?;

@@ -135,9 +135,9 @@ pub(crate) fn put_told<S: Sink>(sink: &mut S, told: &ToldAnswer<'_>) -> Result<(
         ToldAnswer::Ranks(members) => put_list(sink, "ranks [", members.as_slice()),
         ToldAnswer::Acked(total) => put_both(sink, "acked ", u64::from(*total)),
         ToldAnswer::Revoked => sink.put("revoked"),
-        ToldAnswer::Made(comm) => put_both(sink, "comm ", u64::from(*comm)),
+        ToldAnswer::Made(comm) => put_both(sink, "comm ", *comm),
         ToldAnswer::Shrunk(comm, members, me) => {
-            put_both(sink, "comm ", u64::from(*comm))?;
+            put_both(sink, "comm ", *comm)?;
             put_group(sink, members.as_slice(), *me)
         }
         ToldAnswer::Agreed(value, missing) => {

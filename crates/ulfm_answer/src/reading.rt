@@ -1,7 +1,7 @@
 //! Answers that are read back from their codes.
 ghost use Rattle.std.specs.Prelude.{◌≡◌, ◌+◌, ◌*◌};
 ghost use Rattle.std.specs.List.{position};
-ghost use Rattle.ulfm_answer.specs.Told.{has_text, of_two, read_acked, read_agreed, read_alone, read_code, read_done, read_found, read_kind, read_made, read_over, read_refused, read_shrunk, refusal_of};
+ghost use Rattle.ulfm_answer.specs.Told.{has_text, of_two, read_acked, read_agreed, read_alone, read_code, read_done, read_far_made, read_far_shrunk, read_found, read_kind, read_made, read_over, read_refused, read_shrunk, refusal_of};
 
 use crate::bytes::Bytes;
 use crate::told_answer::ToldAnswer;
@@ -126,7 +126,7 @@ fn read_made(rest: &[u8]) -> Option<ToldAnswer<'_>>
     ensures { result ≡ read_made rest.now }
 {
     match rest {
-        [comm] => Some(ToldAnswer::Made(*comm)),
+        [comm] => Some(ToldAnswer::Made(u64::from(*comm))),
         _ => None,
     }
 }
@@ -136,7 +136,39 @@ fn read_shrunk(rest: &[u8]) -> Option<ToldAnswer<'_>>
     ensures { result ≡ read_shrunk rest.now }
 {
     match rest {
-        [comm, me, members @ ..] => Some(ToldAnswer::Shrunk(*comm, Bytes::new(members), *me)),
+        [comm, me, members @ ..] => Some(ToldAnswer::Shrunk(
+            u64::from(*comm),
+            Bytes::new(members),
+            *me,
+        )),
+        _ => None,
+    }
+}
+
+/// The context of a duplicate, from 256 on.
+fn read_far_made(rest: &[u8]) -> Option<ToldAnswer<'_>>
+    ensures { result ≡ read_far_made rest.now }
+{
+    match rest {
+        [a, b, c, d, e, f, g, h] => {
+            let low = of_four(of_two(*a, *b), of_two(*c, *d));
+            let high = of_four(of_two(*e, *f), of_two(*g, *h));
+            Some(ToldAnswer::Made(of_eight(low, high) as u64))
+        }
+        _ => None,
+    }
+}
+
+/// What a shrink made, from context 256 on.
+fn read_far_shrunk(rest: &[u8]) -> Option<ToldAnswer<'_>>
+    ensures { result ≡ read_far_shrunk rest.now }
+{
+    match rest {
+        [me, a, b, c, d, e, f, g, h, members @ ..] => {
+            let low = of_four(of_two(*a, *b), of_two(*c, *d));
+            let high = of_four(of_two(*e, *f), of_two(*g, *h));
+            Some(ToldAnswer::Shrunk(of_eight(low, high) as u64, Bytes::new(members), *me))
+        }
         _ => None,
     }
 }
@@ -186,6 +218,8 @@ fn read_kind(kind: u8, rest: &[u8]) -> Option<ToldAnswer<'_>>
         15 => read_made(rest),
         16 => read_shrunk(rest),
         17 => read_agreed(rest),
+        18 => read_far_made(rest),
+        19 => read_far_shrunk(rest),
         _ => None,
     }
 }

@@ -34,9 +34,9 @@ pub enum ToldAnswer<'a> {
     /// The communicator is revoked.
     Revoked,
     /// A duplicate was made, with this context.
-    Made(u8),
+    Made(u64),
     /// A shrink made a communicator with this context and these members, in which the rank has this position.
-    Shrunk(u8, Bytes<'a>, u8),
+    Shrunk(u64, Bytes<'a>, u8),
     /// An agreement has this value, and leaves out these members.
     Agreed(u32, Bytes<'a>),
     /// A note was made.

@@ -9,3 +9,5 @@ pub mod Places
 pub mod Topics
 pub mod Longer
 pub mod Tables
+pub mod Odd
+pub mod Children

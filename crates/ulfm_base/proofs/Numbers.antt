@@ -18,10 +18,10 @@ same_rank a b e = at b.number e b.in_range
 pub same_context : (a b : Context) → a.number ≡ b.number → a ≡ b
 same_context a b e = at b.number e b.in_range
   where
-    at : (n : ℕ) → a.number ≡ n → (h : n < 63) → ◌≡◌ {A = Context} a (record { number = n; in_range = h })
+    at : (n : ℕ) → a.number ≡ n → (h : n < 35184372088832) → ◌≡◌ {A = Context} a (record { number = n; in_range = h })
     at n e h =
-        let F : ℕ → Type 0 = λ n. (h : n < 63) → ◌≡◌ {A = Context} a (record { number = n; in_range = h }) in
-        subst F e (λ h. ap (λ (k : a.number < 63). let r : Context = record { number = a.number; in_range = k } in r) (let one : (x y : a.number < 63) → x ≡ y = hlevel props in one a.in_range h)) h
+        let F : ℕ → Type 0 = λ n. (h : n < 35184372088832) → ◌≡◌ {A = Context} a (record { number = n; in_range = h }) in
+        subst F e (λ h. ap (λ (k : a.number < 35184372088832). let r : Context = record { number = a.number; in_range = k } in r) (let one : (x y : a.number < 35184372088832) → x ≡ y = hlevel props in one a.in_range h)) h
 
 -- tags are equal where their numbers are
 pub same_tag : (a b : Tag) → a.number ≡ b.number → a ≡ b

@@ -8,13 +8,13 @@ use Rattle.ulfm_base.specs.Topic.{is_purpose, is_topic}
 use Rattle.ulfm_base.proofs.Numbers.{same_context}
 
 purposes_equal : (a b : Purpose) → is_purpose a b ≡ true → a ≡ b
-purposes_equal Shrink Shrink h = refl
-purposes_equal Shrink (Agree round) h = absurd (false≢true h)
-purposes_equal (Agree round) Shrink h = absurd (false≢true h)
+purposes_equal (Shrink round) (Shrink other) h = ap Shrink (eqb-true round other h)
+purposes_equal (Shrink round) (Agree other) h = absurd (false≢true h)
+purposes_equal (Agree round) (Shrink other) h = absurd (false≢true h)
 purposes_equal (Agree round) (Agree other) h = ap Agree (eqb-true round other h)
 
 purpose_itself : (a : Purpose) → is_purpose a a ≡ true
-purpose_itself Shrink = refl
+purpose_itself (Shrink round) = eq-eqb round round refl
 purpose_itself (Agree round) = eq-eqb round round refl
 
 -- topics of which the test passes are equal

@@ -46,7 +46,7 @@ and_all entries = and_entries 4294967295 entries
 
 -- the value of an agreement is the AND of the listed flags; a shrink has none
 abbrev pub value_of : Purpose → List (Option Contribution) → Option ℕ
-value_of Shrink entries = None
+value_of (Shrink round) entries = None
 value_of (Agree round) entries = Some (and_all entries)
 
 -- the members of the old group that aren't listed, in order

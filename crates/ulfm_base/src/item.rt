@@ -20,7 +20,7 @@ pub enum Item {
     Enter(Entrance),
 }
 
-const _: () = prove!(size_of::<Item>() <= 48);
+const _: () = prove!(size_of::<Item>() <= 56);
 
 impl Clone for Item {
     ghost is_clone = { λ x y. y ≡ x };

@@ -7,13 +7,16 @@
 //! - A [`Table`] has values by context, with room that is made before it is needed (`put_at`, Table.antt).
 //! - A [`CallError`] is a refusal: its number and its name are those of traces.
 //!
-//! A context names a communicator: 0 is the world's, and that of number c has its duplicate at 2c + 1 and its shrink at 2c + 2.
+//! A context names a communicator, by its path from the world's, which is 0 (`child_of`, Context.antt). The first duplicate of c is 2c + 1, and its
+//! first shrink 2c + 2, for c up to 30; all others are past 62. No two have one number (`children_are_apart`), and each is greater than that of
+//! which it was made (`children_are_greater`).
 //!
 //! Files:
 //!
 //! - names: `rank.rt`, `group.rt`, `rank_set.rt`, `context.rt`, `tag.rt`; values by context: `table.rt`
 //! - messages and receives: `envelope.rt`, `body.rt`, `pattern.rt`, `request_id.rt`
 //! - items, and as a log keeps them: `item.rt`, `item_kind.rt`, `noted.rt`, `noted_item.rt`, `noted_letter.rt`
+//! - laws of contexts: `law.rt`; values by context: `table.rt`
 //! - shrinks and agreements: `topic.rt`, `entrance.rt`, `contribution.rt`, `decision.rt`; refusals: `error.rt`
 //!
 //! Not here: what a rank does with any of these (`ulfm_log`, `ulfm_rank`). Nor whether a decision is true of what ranks did: `ulfm_report_laws` says that
@@ -30,6 +33,7 @@ mod error;
 mod group;
 mod item;
 mod item_kind;
+mod law;
 mod noted;
 mod noted_item;
 mod noted_letter;
@@ -42,7 +46,7 @@ mod tag;
 mod topic;
 
 pub use body::Body;
-pub use context::{CONTEXTS, Context};
+pub use context::{CONTEXTS, Context, PAST_CONTEXTS};
 pub use contribution::Contribution;
 pub use decision::{Decision, Listing};
 pub use entrance::Entrance;
@@ -51,6 +55,7 @@ pub use error::{CallError, OutOfMemory};
 pub use group::{Group, RankNumbers};
 pub use item::Item;
 pub use item_kind::ItemKind;
+pub use law::{children_are_apart, children_are_greater, first_children_have_numbers};
 pub use noted::Noted;
 pub use noted_item::NotedItem;
 pub use noted_letter::NotedLetter;

@@ -74,11 +74,18 @@ impl<V: Copy> Table<V> {
         self.entries.len() < self.entries.capacity()
     }
 
+    /// The number of each context that has a value, with it, by rising numbers.
+    pub fn entries(&self) -> &[(u64, V)]
+        ensures { result.now ≡ self.now.entries }
+    {
+        self.entries.as_slice()
+    }
+
     /// The value of a context, where it has one.
     pub fn get(&self, context: Context) -> Option<V>
         ensures { result ≡ value_of context.number self.now.entries }
     {
-        let number = u64::from(context.number);
+        let number = context.number;
         for (at, value) in &self.entries {
             if *at == number {
                 return Some(*value);
@@ -93,7 +100,7 @@ impl<V: Copy> Table<V> {
         ensures entries { self.new.entries ≡ put_at context.number value self.old.entries }
         ensures values { (c : ℕ) → value_of c self.new.entries ≡ (if context.number == c then Some value else value_of c self.old.entries) }
     {
-        let number = u64::from(context.number);
+        let number = context.number;
         let place = self.place_of(number);
         if place < self.entries.len() && self.entries[place].0 == number {
             self.entries[place] = (number, value);

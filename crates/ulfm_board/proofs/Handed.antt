@@ -3,9 +3,10 @@ use Rattle.std.proofs.Common.{◌≡◌, ◌==◌, ℕ, ◌+◌, ◌*◌, ◌/�
 use Rattle.std.proofs.lemmas.Bool.{cases_eq, eq-eqb, ne_eqb}
 use Rattle.std.proofs.lemmas.List.{length-append, length-replicate}
 use Rattle.std.specs.declared.alloc.AllocError.{AllocError}
+use Rattle.ulfm_base.specs.Topic.{round_of}
 use Rattle.ulfm_base.specs.declared.decision.Decision.{Decision}
 use Rattle.ulfm_base.specs.declared.topic.Topic.{Topic}
-use Rattle.ulfm_board.specs.Known.{Agrees, Answers, Starves, known_at, number_of, row_of, turn_of, with_known}
+use Rattle.ulfm_board.specs.Known.{Agrees, Answers, Starves, known_at, number_of, row_of, with_known}
 use Rattle.ulfm_board.specs.inside.Trail.{GoesOn, KnowsCell, TrailView, cell_in, known_of, seen, slot_of}
 use Rattle.ulfm_board.proofs.Listed.{get_known, put_known, same_known}
 use Rattle.ulfm_board.proofs.Seen.{seen_here, seen_longer, seen_set}
@@ -36,10 +37,10 @@ known_on a b more whole goes = same_known a b (gone_on a b more whole goes)
 topic_row : (topic : Topic) → number_of topic / 64 ≡ row_of topic
 topic_row topic = omega arith
 
-topic_cell : (topic : Topic) → number_of topic % 64 ≡ turn_of topic.purpose % 64
+topic_cell : (topic : Topic) → number_of topic % 64 ≡ round_of topic.purpose % 64
 topic_cell topic = omega arith
 
-module _ (a m : TrailView) (more : List ℕ) (topic : Topic) (slot cell : ℕ) (whole : IsWhole a) (goes : GoesOn a more m) (found : slot_of m.numbers (row_of topic) ≡ Some slot) (place : cell ≡ turn_of topic.purpose % 64) where
+module _ (a m : TrailView) (more : List ℕ) (topic : Topic) (slot cell : ℕ) (whole : IsWhole a) (goes : GoesOn a more m) (found : slot_of m.numbers (row_of topic) ≡ Some slot) (place : cell ≡ round_of topic.purpose % 64) where
   here : slot_of m.numbers (number_of topic / 64) ≡ Some slot
   here = ap (slot_of m.numbers) (topic_row topic) ∙ found
 
@@ -93,7 +94,7 @@ module _ (a m : TrailView) (more : List ℕ) (topic : Topic) (slot cell : ℕ) (
     }
 
 -- what a seat is answered, by the result of the call at its cell
-module _ (a m : TrailView) (more : List ℕ) (slot cell : ℕ) (whole : IsWhole a) (goes : GoesOn a more m) (b : TrailView) (names : List ℕ) (d : Decision) (found : slot_of m.numbers (row_of d.topic) ≡ Some slot) (place : cell ≡ turn_of d.topic.purpose % 64) where
+module _ (a m : TrailView) (more : List ℕ) (slot cell : ℕ) (whole : IsWhole a) (goes : GoesOn a more m) (b : TrailView) (names : List ℕ) (d : Decision) (found : slot_of m.numbers (row_of d.topic) ≡ Some slot) (place : cell ≡ round_of d.topic.purpose % 64) where
   pub answers_of : (r : Result Decision AllocError) → IfOk r (λ (held : Decision). Agrees (get_or m.decided (64 * slot + cell) None) held × KnowsCell m (64 * slot + cell) held b) → IfOk r (λ (held : Decision). Answers (Some names) (known_of a) d held (known_of b))
   answers_of (Ok held) h = answers a m more d.topic slot cell whole goes found place b names d held refl h.0 h.1
   answers_of (Err e) h = tt

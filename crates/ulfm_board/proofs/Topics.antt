@@ -1,34 +1,42 @@
 -- Topics by their numbers, and what is known on one where a decision on one becomes known.
-use Rattle.std.proofs.Common.{◌≡◌, ◌≢◌, ◌==◌, ◌%◌, ◌/◌, ℕ, Bool, cond, ap, sym, ◌∙◌, refl, subst, arith, inl, inr, is_some, Option, Some, None}
+use Rattle.std.proofs.Common.{◌≡◌, ◌≢◌, ◌==◌, ◌<◌, ◌%◌, ◌/◌, ℕ, Bool, cond, ap, sym, ◌∙◌, refl, subst, arith, inl, inr, is_some, Option, Some, None}
 use Rattle.std.specs.Option.{unwrap_or}
 use Rattle.std.proofs.lemmas.Bool.{cases_eq, eq-eqb, ne_eqb}
 use Rattle.std.specs.Cmp.{nat_cmp_total, unsigned_tied}
 use Rattle.std.specs.FinMap.{find, put}
 use Rattle.std.specs.FinMap.Entries.{find-put}
 use Rattle.std.specs.Ordering.{nat_cmp}
+use Rattle.ulfm_base.specs.Topic.{round_of}
 use Rattle.ulfm_base.specs.declared.decision.Decision.{Decision}
 use Rattle.ulfm_base.specs.declared.topic.Purpose.{Purpose}
 use Rattle.ulfm_base.specs.declared.topic.Purpose.TheVariants.{Shrink, Agree}
 use Rattle.ulfm_base.specs.declared.topic.Topic.{Topic}
 use Rattle.ulfm_base.proofs.Numbers.{same_context}
-use Rattle.ulfm_board.specs.Known.{Agrees, Known, known_at, number_of, row_of, turn_of, with_known}
+use Rattle.ulfm_board.specs.Known.{Agrees, Known, kind_of, known_at, number_of, row_of, with_known}
 
-turns_apart : (a b : Purpose) → turn_of a ≡ turn_of b → a ≡ b
-turns_apart Shrink Shrink h = refl
-turns_apart Shrink (Agree round) h = absurd (omega arith)
-turns_apart (Agree round) Shrink h = absurd (omega arith)
-turns_apart (Agree round) (Agree other) h = ap Agree (omega arith)
+purposes_apart : (a b : Purpose) → kind_of a ≡ kind_of b → round_of a ≡ round_of b → a ≡ b
+purposes_apart (Shrink round) (Shrink other) kinds rounds = ap Shrink rounds
+purposes_apart (Shrink round) (Agree other) kinds rounds = absurd (omega (arith, kinds))
+purposes_apart (Agree round) (Shrink other) kinds rounds = absurd (omega (arith, kinds))
+purposes_apart (Agree round) (Agree other) kinds rounds = ap Agree rounds
+
+kind_low : (a : Purpose) → kind_of a < 2
+kind_low (Shrink round) = omega arith
+kind_low (Agree round) = omega arith
 
 -- topics of one number are the same
 pub topics_apart : (a b : Topic) → number_of a ≡ number_of b → a ≡ b
 topics_apart a b h =
-    let places : turn_of a.purpose % 64 ≡ turn_of b.purpose % 64 = omega (arith, h) in
+    let places : round_of a.purpose % 64 ≡ round_of b.purpose % 64 = omega (arith, h) in
     let rows : row_of a ≡ row_of b = omega (arith, h) in
-    let blocks : turn_of a.purpose / 64 ≡ turn_of b.purpose / 64 = omega (arith, a.context.in_range, b.context.in_range, rows) in
-    let numbers : a.context.number ≡ b.context.number = omega (arith, rows, blocks) in
-    let turns : turn_of a.purpose ≡ turn_of b.purpose = omega (arith, places, blocks) in
+    let low = kind_low a.purpose in
+    let other_low = kind_low b.purpose in
+    let blocks : round_of a.purpose / 64 ≡ round_of b.purpose / 64 = omega (arith, a.context.in_range, b.context.in_range, low, other_low, rows) in
+    let numbers : a.context.number ≡ b.context.number = omega (arith, rows, blocks, low, other_low) in
+    let kinds : kind_of a.purpose ≡ kind_of b.purpose = omega (arith, rows, blocks, numbers) in
+    let rounds : round_of a.purpose ≡ round_of b.purpose = omega (arith, places, blocks) in
     let context = same_context a.context b.context numbers in
-    let purpose = turns_apart a.purpose b.purpose turns in
+    let purpose = purposes_apart a.purpose b.purpose kinds rounds in
     λ i. record { context = context i; purpose = purpose i }
 
 -- the decision of a number, where one of another is put in, or one of the same

@@ -1,24 +1,26 @@
 -- What a decider knows of the decisions of shrinks and agreements, by the numbers of their topics.
-use Rattle.std.specs.Prelude.{◌≡◌, ℕ, suc, ◌+◌, ◌*◌, ◌/◌, ◌%◌, List, [], Option, None, Some, IfSome, is_some, All, if◌then◌else◌}
+use Rattle.std.specs.Prelude.{◌≡◌, ℕ, ◌+◌, ◌*◌, ◌/◌, ◌%◌, List, [], Option, None, Some, IfSome, is_some, All, if◌then◌else◌}
 use Rattle.std.specs.FinMap.{find, put}
 use Rattle.std.specs.Ordering.{nat_cmp}
+use Rattle.ulfm_base.specs.Topic.{round_of}
+use Rattle.ulfm_base.specs.declared.context.TheConstants.{PAST_CONTEXTS}
 use Rattle.ulfm_base.specs.declared.decision.Decision.{Decision}
 use Rattle.ulfm_base.specs.declared.topic.Purpose.{Purpose}
 use Rattle.ulfm_base.specs.declared.topic.Purpose.TheVariants.{Shrink, Agree}
 use Rattle.ulfm_base.specs.declared.topic.Topic.{Topic}
 
--- which turn a purpose has on its communicator: the shrink has the first, and each round of agreements one of its own
-abbrev pub turn_of : Purpose → ℕ
-turn_of Shrink = 0
-turn_of (Agree round) = suc round
+-- which of a communicator's two kinds of rows a purpose has
+abbrev pub kind_of : Purpose → ℕ
+kind_of (Shrink round) = 0
+kind_of (Agree round) = 1
 
--- the number of a topic's row: each of the contexts 0 to 62 has one for each 64 turns
+-- the number of a topic's row: each context has one for each 64 shrinks, and one for each 64 agreements
 abbrev pub row_of : Topic → ℕ
-row_of topic = 63 * (turn_of topic.purpose / 64) + topic.context.number
+row_of topic = 2 * PAST_CONTEXTS * (round_of topic.purpose / 64) + (2 * topic.context.number + kind_of topic.purpose)
 
 -- the number of a topic: each row has 64
 abbrev pub number_of : Topic → ℕ
-number_of topic = 64 * row_of topic + turn_of topic.purpose % 64
+number_of topic = 64 * row_of topic + round_of topic.purpose % 64
 
 -- decisions by the numbers of their topics, which rise
 abbrev pub Known : Type 0

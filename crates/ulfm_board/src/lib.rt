@@ -4,8 +4,8 @@
 //!
 //!     let held = decider.decide(decision)?;
 //!
-//! Nothing is taken from the start. The board that threads share is a register of rows, each of the cells of one communicator for 64 of its
-//! turns: its shrink, and its agreements. The first decision that is handed in on such a turn puts the row into the register's first free slot.
+//! Nothing is taken from the start. The board that threads share is a register of rows, each of the cells of 64 shrinks, or of 64
+//! agreements, of one communicator. The first decision that is handed in on one of them puts the row into the register's first free slot.
 //! Each slot is set once: of seats that want one at once the first gets it. Another takes that row if it is the one that it wants, and else goes
 //! on to the next slot. If no memory is found for a row, the register is as it was, and nothing is known.
 //!

@@ -11,12 +11,12 @@ pub(crate) const CELLS: usize = 64;
 /// The place of one decision, set at most once.
 pub(crate) type Cell = OnceBox<Decision>;
 
-/// The cells of 64 turns of one communicator.
+/// The cells of 64 shrinks, or of 64 agreements, of one communicator.
 #[derive(Drop)]
 pub(crate) struct Row {
     /// The number of the row.
     pub(crate) number: u128,
-    /// A cell for each of its turns.
+    /// A cell for each of them.
     pub(crate) cells: Vec<Cell>,
     pub(crate) ghost whole: { vec_len cells ≡ 64 },
 }

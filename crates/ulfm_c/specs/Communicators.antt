@@ -1,6 +1,6 @@
 -- What calls by C on communicators and their groups do (MPI 4.0, chapter 7).
-use Rattle.std.specs.Prelude.{◌≡◌, ℕ, ◌⊎◌, List, Some, None}
-use Rattle.ulfm_base.specs.Context.{dup_of}
+use Rattle.std.specs.Prelude.{◌≡◌, ℕ, ◌⊎◌, false, List, Some, None}
+use Rattle.ulfm_base.specs.Context.{nth_dup}
 use Rattle.ulfm_base.specs.Group.{rank_in}
 use Rattle.ulfm_base.specs.declared.error.CallError.{CallError}
 use Rattle.ulfm_base.specs.declared.error.CallError.TheVariants.{NoComm, NotMember}
@@ -9,7 +9,7 @@ use Rattle.ulfm_c.specs.Told.{listed}
 use Rattle.ulfm_c.specs.declared.c_status.CGroup.{CGroup}
 use Rattle.ulfm_c.specs.View.{ProcessView, with_rank}
 use Rattle.ulfm_rank.specs.Checks.{dup_checks}
-use Rattle.ulfm_log.specs.Communicators.{group_of}
+use Rattle.ulfm_log.specs.Communicators.{dups_of, group_of}
 use Rattle.ulfm_log.specs.State.{logged}
 use Rattle.ulfm_log.specs.declared.entry.Comm.{Comm}
 use Rattle.ulfm_log.specs.declared.entry.Entry.TheVariants.{Duplicated}
@@ -30,8 +30,9 @@ GroupCall old new comm before group code = CommCall old new comm code (group ≡
 -- a communicator is duplicated, and the number of the duplicate told
 abbrev pub DupCall : ProcessView → ProcessView → ℕ → ℕ → ℕ → ℕ → Type 0
 DupCall old new comm before made code = CommCall old new comm code (made ≡ before) (λ c.
-    Checked old new code (made ≡ before) (dup_checks old.rank c.context.number)
-    ((made ≡ dup_of c.context.number) × (new ≡ with_rank old (logged old.rank (Duplicated c.context)))))
+    Checked old new code (made ≡ before) (dup_checks false old.rank c.context.number)
+    ((made ≡ nth_dup (dups_of old.rank.log c.context.number) c.context.number)
+    × (new ≡ with_rank old (logged old.rank (Duplicated c.context (dups_of old.rank.log c.context.number))))))
 
 -- the rank is no member of a communicator
 abbrev pub IsOutside : ProcessView → Comm → CallError → Type 0

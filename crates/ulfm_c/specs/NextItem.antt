@@ -13,7 +13,7 @@ bare_item kind comm = record { kind = kind; comm = comm; tag = 0; length = 0; ro
 
 -- the entry into a shrink or an agreement
 abbrev pub entry_of : Purpose → ℕ → CNextItem
-entry_of Shrink comm = bare_item 4 comm
+entry_of (Shrink round) comm = record { kind = 4; comm = comm; tag = 0; length = 0; round = round }
 entry_of (Agree round) comm = record { kind = 5; comm = comm; tag = 0; length = 0; round = round }
 
 abbrev pub entry_item : Topic → CNextItem

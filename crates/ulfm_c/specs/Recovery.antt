@@ -1,6 +1,5 @@
 -- What calls by C on failures, revocations, and entries into shrinks and agreements do (ULFM).
-use Rattle.std.specs.Prelude.{◌≡◌, ℕ, ⊤, [], Some, None, min, if◌then◌else◌}
-use Rattle.ulfm_base.specs.Topic.{shrink_topic}
+use Rattle.std.specs.Prelude.{◌≡◌, ℕ, ⊤, false, [], Some, None, min, if◌then◌else◌}
 use Rattle.ulfm_c.specs.Calls.{Answers, Checked, CommCall}
 use Rattle.ulfm_c.specs.Told.{listed}
 use Rattle.ulfm_c.specs.declared.c_status.CGroup.{CGroup}
@@ -8,7 +7,7 @@ use Rattle.ulfm_c.specs.View.{ProcessView, with_rank}
 use Rattle.ulfm_rank.specs.Calls.{Enters, acknowledging, revoking}
 use Rattle.ulfm_rank.specs.Checks.{Fails, Passes, agree_checks, comm_checks, group_at, shrink_checks}
 use Rattle.ulfm_log.specs.Facts.{ack_answer, is_revoked, known_in}
-use Rattle.ulfm_log.specs.Proposal.{next_agreement}
+use Rattle.ulfm_log.specs.Proposal.{next_agreement, next_shrink}
 use Rattle.ulfm_log.specs.declared.entry.Comm.{Comm}
 
 -- a communicator is revoked
@@ -38,7 +37,7 @@ AckCall old new comm count before total code = CommCall old new comm code (total
 -- the shrink of a communicator is entered
 abbrev pub EnterShrinkCall : ProcessView → ProcessView → ℕ → ℕ → Type 0
 EnterShrinkCall old new comm code = CommCall old new comm code ⊤ (λ c.
-    Checked old new code ⊤ (shrink_checks old.rank c.context) (Enters old.rank (shrink_topic c.context) None new.rank × (new ≡ with_rank old new.rank)))
+    Checked old new code ⊤ (shrink_checks false old.rank c.context) (Enters old.rank (next_shrink old.rank.log c.context) None new.rank × (new ≡ with_rank old new.rank)))
 
 -- the next agreement on a communicator is entered, with a flag
 abbrev pub EnterAgreeCall : ProcessView → ProcessView → ℕ → ℕ → ℕ → Type 0

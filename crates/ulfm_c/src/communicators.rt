@@ -9,7 +9,7 @@ use crate::handle::{Handle, with};
 use crate::words::{comm_of, number_of};
 use std::alloc::Global;
 
-fn group_of(process: &Process, comm: u32, group: &mut CGroup) -> u32
+fn group_of(process: &Process, comm: u64, group: &mut CGroup) -> u32
     ensures { GroupCall process.now.view process.now.view comm group.old group.new result }
 {
     let comm = match comm_of(comm) {
@@ -30,7 +30,7 @@ fn group_of(process: &Process, comm: u32, group: &mut CGroup) -> u32
 pub extern "C" fn ulfm_c_group_of(
     alloc: Global,
     handle: &mut Handle,
-    comm: u32,
+    comm: u64,
     group: &mut CGroup,
 ) -> u32
     ensures { Call handle.old.slot.held handle.new.slot.held result (group.new ≡ group.old) (λ old new. GroupCall old new comm group.old group.new result) }
@@ -38,7 +38,7 @@ pub extern "C" fn ulfm_c_group_of(
     with!(handle, alloc, |process| group_of(&process, comm, group))
 }
 
-fn dup(process: &mut Process, comm: u32, made: &mut u32) -> u32
+fn dup(process: &mut Process, comm: u64, made: &mut u64) -> u32
     ensures { DupCall process.old.view process.new.view comm made.old made.new result }
 {
     let comm = match comm_of(comm) {
@@ -47,7 +47,7 @@ fn dup(process: &mut Process, comm: u32, made: &mut u32) -> u32
     };
     match process.dup(comm) {
         Ok(copy) => {
-            *made = copy.context.number as u32;
+            *made = copy.context.number;
             return 0;
         }
         Err(error) => return number_of(error),
@@ -56,14 +56,14 @@ fn dup(process: &mut Process, comm: u32, made: &mut u32) -> u32
 
 /// Duplicates a communicator (`Process::dup`).
 #[unsafe(no_mangle)]
-pub extern "C" fn ulfm_c_dup(alloc: Global, handle: &mut Handle, comm: u32, made: &mut u32) -> u32
+pub extern "C" fn ulfm_c_dup(alloc: Global, handle: &mut Handle, comm: u64, made: &mut u64) -> u32
     ensures { Call handle.old.slot.held handle.new.slot.held result (made.new ≡ made.old) (λ old new. DupCall old new comm made.old made.new result) }
 {
     with!(handle, alloc, |process| dup(&mut process, comm, made))
 }
 
 /// This rank's position in a communicator. 11: it is no member.
-fn position(process: &Process, comm: u32, position: &mut u32) -> u32
+fn position(process: &Process, comm: u64, position: &mut u32) -> u32
     ensures { PositionCall process.now.view process.now.view comm position.old position.new result }
 {
     let comm = match comm_of(comm) {
@@ -88,7 +88,7 @@ fn position(process: &Process, comm: u32, position: &mut u32) -> u32
 pub extern "C" fn ulfm_c_position(
     alloc: Global,
     handle: &mut Handle,
-    comm: u32,
+    comm: u64,
     at: &mut u32,
 ) -> u32
     ensures { Call handle.old.slot.held handle.new.slot.held result (at.new ≡ at.old) (λ old new. PositionCall old new comm at.old at.new result) }

@@ -10,7 +10,7 @@ use crate::words::{comm_of, number_of};
 use std::alloc::Global;
 
 /// The decision of a shrink.
-fn poll_shrink(process: &mut Process, comm: u32, made: &mut u32) -> u32
+fn poll_shrink(process: &mut Process, comm: u64, made: &mut u64) -> u32
     ensures { ShrinkCall process.old.view process.new.view comm made.old made.new result }
 {
     let comm = match comm_of(comm) {
@@ -19,7 +19,7 @@ fn poll_shrink(process: &mut Process, comm: u32, made: &mut u32) -> u32
     };
     match process.poll_shrink(comm) {
         Ok(Some(child)) => {
-            *made = child.context.number as u32;
+            *made = child.context.number;
             return 0;
         }
         Ok(None) => return 17,
@@ -32,8 +32,8 @@ fn poll_shrink(process: &mut Process, comm: u32, made: &mut u32) -> u32
 pub extern "C" fn ulfm_c_poll_shrink(
     alloc: Global,
     handle: &mut Handle,
-    comm: u32,
-    made: &mut u32,
+    comm: u64,
+    made: &mut u64,
 ) -> u32
     ensures { Call handle.old.slot.held handle.new.slot.held result (made.new ≡ made.old) (λ old new. ShrinkCall old new comm made.old made.new result) }
 {
@@ -45,7 +45,7 @@ pub extern "C" fn ulfm_c_poll_shrink(
 }
 
 /// The decision of an agreement.
-fn poll_agree(process: &mut Process, comm: u32, value: &mut u32, missing: &mut CGroup) -> u32
+fn poll_agree(process: &mut Process, comm: u64, value: &mut u32, missing: &mut CGroup) -> u32
     ensures { AgreeCall process.old.view process.new.view comm value.old value.new missing.old missing.new result }
 {
     let comm = match comm_of(comm) {
@@ -68,7 +68,7 @@ fn poll_agree(process: &mut Process, comm: u32, value: &mut u32, missing: &mut C
 pub extern "C" fn ulfm_c_poll_agree(
     alloc: Global,
     handle: &mut Handle,
-    comm: u32,
+    comm: u64,
     value: &mut u32,
     missing: &mut CGroup,
 ) -> u32

@@ -12,7 +12,7 @@ use ulfm_base::{RequestId, Tag};
 use ulfm_log::Cancel;
 
 /// A send to the member at a position.
-fn send(process: &mut Process, comm: u32, dest: u32, tag: u32, body: &[u8]) -> u32
+fn send(process: &mut Process, comm: u64, dest: u32, tag: u32, body: &[u8]) -> u32
     ensures { SendCall process.old.view process.new.view comm dest tag body.now result }
 {
     let comm = match comm_of(comm) {
@@ -34,7 +34,7 @@ fn send(process: &mut Process, comm: u32, dest: u32, tag: u32, body: &[u8]) -> u
 pub extern "C" fn ulfm_c_isend(
     alloc: Global,
     handle: &mut Handle,
-    comm: u32,
+    comm: u64,
     dest: u32,
     tag: u32,
     body: &[u8],
@@ -51,7 +51,7 @@ pub extern "C" fn ulfm_c_isend(
 /// A receive from a position or any.
 fn receive(
     process: &mut Process,
-    comm: u32,
+    comm: u64,
     source: u32,
     tag: u32,
     room: u32,
@@ -81,7 +81,7 @@ fn receive(
 pub extern "C" fn ulfm_c_irecv(
     alloc: Global,
     handle: &mut Handle,
-    comm: u32,
+    comm: u64,
     source: u32,
     tag: u32,
     room: u32,

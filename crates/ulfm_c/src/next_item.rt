@@ -11,24 +11,24 @@ use ulfm_carrier::Head;
 pub struct CNextItem {
     /// Its kind, or 0 where there is none.
     pub kind: u32,
-    /// Its communicator.
-    pub comm: u32,
     /// Its tag.
     pub tag: u32,
+    /// Its communicator.
+    pub comm: u64,
     /// How many bytes.
     pub length: u64,
-    /// Which agreement.
+    /// Which shrink or agreement.
     pub round: u64,
 }
 
 /// An item without a tag, a length and a round.
-fn bare_item(kind: u32, comm: u32) -> CNextItem
+fn bare_item(kind: u32, comm: u64) -> CNextItem
     ensures { result ≡ bare_item kind comm }
 {
     CNextItem {
         kind,
-        comm,
         tag: 0,
+        comm,
         length: 0,
         round: 0,
     }
@@ -38,9 +38,12 @@ fn bare_item(kind: u32, comm: u32) -> CNextItem
 fn entry_item(topic: Topic) -> CNextItem
     ensures { result ≡ entry_item topic }
 {
-    let comm = topic.context.number as u32;
+    let comm = topic.context.number;
     match topic.purpose {
-        Purpose::Shrink => bare_item(4, comm),
+        Purpose::Shrink { round } => CNextItem {
+            round,
+            ..bare_item(4, comm)
+        },
         Purpose::Agree { round } => CNextItem {
             round,
             ..bare_item(5, comm)
@@ -63,10 +66,10 @@ pub(crate) fn next_item(head: Option<Head>) -> CNextItem
         ) => CNextItem {
             tag: tag.number as u32,
             length: length as u64,
-            ..bare_item(1, context.number as u32)
+            ..bare_item(1, context.number)
         },
         Some(Head::Gone) => bare_item(2, 0),
-        Some(Head::Revoke(context)) => bare_item(3, context.number as u32),
+        Some(Head::Revoke(context)) => bare_item(3, context.number),
         Some(Head::Enter(topic)) => entry_item(topic),
     }
 }

@@ -11,7 +11,7 @@ use std::alloc::Global;
 use ulfm_log::{MessageId, Probed};
 
 /// A probe that changes nothing.
-fn iprobe(process: &Process, comm: u32, source: u32, tag: u32, status: &mut CStatus) -> u32
+fn iprobe(process: &Process, comm: u64, source: u32, tag: u32, status: &mut CStatus) -> u32
     ensures { LookCall process.now.view process.now.view comm source tag status.old status.new result }
 {
     let comm = match comm_of(comm) {
@@ -37,7 +37,7 @@ fn iprobe(process: &Process, comm: u32, source: u32, tag: u32, status: &mut CSta
 pub extern "C" fn ulfm_c_iprobe(
     alloc: Global,
     handle: &mut Handle,
-    comm: u32,
+    comm: u64,
     source: u32,
     tag: u32,
     status: &mut CStatus,
@@ -54,7 +54,7 @@ pub extern "C" fn ulfm_c_iprobe(
 /// A probe that makes what it finds a message.
 fn improbe(
     process: &mut Process,
-    comm: u32,
+    comm: u64,
     source: u32,
     tag: u32,
     message: &mut u64,
@@ -86,7 +86,7 @@ fn improbe(
 pub extern "C" fn ulfm_c_improbe(
     alloc: Global,
     handle: &mut Handle,
-    comm: u32,
+    comm: u64,
     source: u32,
     tag: u32,
     message: &mut u64,

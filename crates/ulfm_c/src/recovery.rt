@@ -9,7 +9,7 @@ use crate::handle::{Handle, with};
 use crate::words::{comm_of, number_of, position_of};
 use std::alloc::Global;
 
-fn revoke(process: &mut Process, comm: u32) -> u32
+fn revoke(process: &mut Process, comm: u64) -> u32
     ensures { RevokeCall process.old.view process.new.view comm result }
 {
     let comm = match comm_of(comm) {
@@ -26,13 +26,13 @@ fn revoke(process: &mut Process, comm: u32) -> u32
 
 /// Revokes a communicator (`Process::revoke`).
 #[unsafe(no_mangle)]
-pub extern "C" fn ulfm_c_revoke(alloc: Global, handle: &mut Handle, comm: u32) -> u32
+pub extern "C" fn ulfm_c_revoke(alloc: Global, handle: &mut Handle, comm: u64) -> u32
     ensures { Call handle.old.slot.held handle.new.slot.held result ⊤ (λ old new. RevokeCall old new comm result) }
 {
     with!(handle, alloc, |process| revoke(&mut process, comm))
 }
 
-fn enter_shrink(process: &mut Process, comm: u32) -> u32
+fn enter_shrink(process: &mut Process, comm: u64) -> u32
     ensures { EnterShrinkCall process.old.view process.new.view comm result }
 {
     let comm = match comm_of(comm) {
@@ -49,13 +49,13 @@ fn enter_shrink(process: &mut Process, comm: u32) -> u32
 
 /// Enters the shrink of a communicator (`Process::enter_shrink`).
 #[unsafe(no_mangle)]
-pub extern "C" fn ulfm_c_enter_shrink(alloc: Global, handle: &mut Handle, comm: u32) -> u32
+pub extern "C" fn ulfm_c_enter_shrink(alloc: Global, handle: &mut Handle, comm: u64) -> u32
     ensures { Call handle.old.slot.held handle.new.slot.held result ⊤ (λ old new. EnterShrinkCall old new comm result) }
 {
     with!(handle, alloc, |process| enter_shrink(&mut process, comm))
 }
 
-fn enter_agree(process: &mut Process, comm: u32, flag: u32) -> u32
+fn enter_agree(process: &mut Process, comm: u64, flag: u32) -> u32
     ensures { EnterAgreeCall process.old.view process.new.view comm flag result }
 {
     let comm = match comm_of(comm) {
@@ -75,7 +75,7 @@ fn enter_agree(process: &mut Process, comm: u32, flag: u32) -> u32
 pub extern "C" fn ulfm_c_enter_agree(
     alloc: Global,
     handle: &mut Handle,
-    comm: u32,
+    comm: u64,
     flag: u32,
 ) -> u32
     ensures { Call handle.old.slot.held handle.new.slot.held result ⊤ (λ old new. EnterAgreeCall old new comm flag result) }
@@ -87,7 +87,7 @@ pub extern "C" fn ulfm_c_enter_agree(
     )
 }
 
-fn ack_failed(process: &mut Process, comm: u32, count: u32, total: &mut u32) -> u32
+fn ack_failed(process: &mut Process, comm: u64, count: u32, total: &mut u32) -> u32
     ensures { AckCall process.old.view process.new.view comm count total.old total.new result }
 {
     let comm = match comm_of(comm) {
@@ -108,7 +108,7 @@ fn ack_failed(process: &mut Process, comm: u32, count: u32, total: &mut u32) -> 
 pub extern "C" fn ulfm_c_ack_failed(
     alloc: Global,
     handle: &mut Handle,
-    comm: u32,
+    comm: u64,
     count: u32,
     total: &mut u32,
 ) -> u32
@@ -121,7 +121,7 @@ pub extern "C" fn ulfm_c_ack_failed(
     )
 }
 
-fn is_revoked(process: &Process, comm: u32, revoked: &mut u32) -> u32
+fn is_revoked(process: &Process, comm: u64, revoked: &mut u32) -> u32
     ensures { IsRevokedCall process.now.view process.now.view comm revoked.old revoked.new result }
 {
     let comm = match comm_of(comm) {
@@ -142,7 +142,7 @@ fn is_revoked(process: &Process, comm: u32, revoked: &mut u32) -> u32
 pub extern "C" fn ulfm_c_is_revoked(
     alloc: Global,
     handle: &mut Handle,
-    comm: u32,
+    comm: u64,
     revoked: &mut u32,
 ) -> u32
     ensures { Call handle.old.slot.held handle.new.slot.held result (revoked.new ≡ revoked.old) (λ old new. IsRevokedCall old new comm revoked.old revoked.new result) }
@@ -150,7 +150,7 @@ pub extern "C" fn ulfm_c_is_revoked(
     with!(handle, alloc, |process| is_revoked(&process, comm, revoked))
 }
 
-fn get_failed(process: &Process, comm: u32, failed: &mut CGroup) -> u32
+fn get_failed(process: &Process, comm: u64, failed: &mut CGroup) -> u32
     ensures { FailedCall process.now.view process.now.view comm failed.old failed.new result }
 {
     let comm = match comm_of(comm) {
@@ -171,7 +171,7 @@ fn get_failed(process: &Process, comm: u32, failed: &mut CGroup) -> u32
 pub extern "C" fn ulfm_c_get_failed(
     alloc: Global,
     handle: &mut Handle,
-    comm: u32,
+    comm: u64,
     failed: &mut CGroup,
 ) -> u32
     ensures { Call handle.old.slot.held handle.new.slot.held result (failed.new ≡ failed.old) (λ old new. FailedCall old new comm failed.old failed.new result) }

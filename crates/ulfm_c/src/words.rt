@@ -29,13 +29,13 @@ pub(crate) fn number_of(error: CallError) -> u32
 }
 
 /// The communicator of a number, where it can have one.
-pub(crate) fn comm_of(number: u32) -> Option<Comm>
+pub(crate) fn comm_of(number: u64) -> Option<Comm>
     ensures { MatchOption result (63 ≤ number) (λ comm. comm.context.number ≡ number) }
 {
     if number > 62 {
         return None;
     }
-    let context = Context::new(number as u8)?;
+    let context = Context::new(number)?;
     Some(Comm { context })
 }
 

@@ -31,8 +31,8 @@ fn comm_of(step: &Value) -> i64 {
 }
 
 /// The number of the communicator that a step makes, if it isn't refused.
-fn made_by(step: &Value) -> Option<u8> {
-    let of = match u8::try_from(comm_of(step)) {
+fn made_by(step: &Value) -> Option<u64> {
+    let of = match u64::try_from(comm_of(step)) {
         Ok(number) => Context::new(number)?,
         Err(_) => return None,
     };
@@ -45,9 +45,9 @@ fn made_by(step: &Value) -> Option<u8> {
 
 /// Whether a step makes this communicator, if it isn't refused.
 fn makes(step: &Value, comm: i64) -> bool {
-    match made_by(step) {
-        Some(made) => i64::from(made) == comm,
-        None => false,
+    match (made_by(step), u64::try_from(comm)) {
+        (Some(made), Ok(comm)) => made == comm,
+        _ => false,
     }
 }
 

@@ -110,7 +110,7 @@ keeps-start n me inside = record {
   owes_each = λ d c h. absurd (false≢true h);
   belongs = belongs-start n me inside;
   enters_once = λ k entrance h. absurd (none-some (Entered entrance) h);
-  rounds_counted = λ context round h. absurd (false≢true h);
+  rounds_counted = λ topic h. absurd (false≢true h);
 }
 
 pub keeps-push : (n me : ℕ) (log : List Entry) (e : Entry) → Keeps n me log → Fits n me log e → Keeps n me (log ++ e ∷ [])

@@ -1,22 +1,21 @@
 -- What a log tells of entrances into topics, and what a longer one tells.
-use Rattle.std.proofs.Common.{◌≡◌, ℕ, ◌+◌, ◌<◌, ◌&&◌, arith, subst, length, filter, length-append, true, false, cond, eqb, List, [], ◌∷◌, ◌++◌, refl, ap, sym, ◌∙◌, inl, inr, ◌⊎◌, Option, Some, None}
+use Rattle.std.proofs.Common.{◌≡◌, ℕ, ◌+◌, ◌<◌, ◌&&◌, arith, subst, length, filter, length-append, Bool, true, false, cond, List, [], ◌∷◌, ◌++◌, refl, ap, sym, ◌∙◌, inl, inr, ◌⊎◌, Option, Some, None}
 use Rattle.std.specs.Prelude.{⊤, is_some}
 use Rattle.std.proofs.lemmas.List.Elements.{filter-append}
-use Rattle.ulfm_log.proofs.Common.{Context, Topic, Purpose, Shrink, Agree, Entrance, Decision, Contribution, has, is_topic, topics_equal, topic_passes, agreement_topic, is_agreement, agreements, enters_agreement, deciders, Entry, Entered, Adopted, first_given, Knows, false≢true, eq-eqb, or_cases, or_left, or_parts, group_of, is_made, members_of, entry_of, has_entered, adopts, has_adopted, is_foreign, none-some, cond_some, is_gone, tells_gone}
+use Rattle.ulfm_log.proofs.Common.{Topic, Purpose, Shrink, Agree, Entrance, Decision, Contribution, has, is_topic, topics_equal, topic_passes, is_agreement, is_of_kind, is_round_on, round_of, rounds_of, enters_round, deciders, Entry, Entered, Adopted, first_given, Knows, false≢true, eq-eqb, or_cases, or_left, or_parts, group_of, is_made, members_of, entry_of, has_entered, adopts, has_adopted, is_foreign, none-some, cond_some, is_gone, tells_gone}
 use Rattle.ulfm_log.proofs.Gather.{any-push}
 use Rattle.ulfm_log.proofs.Firsts.{or_else_cases, or_else_first, some_from, first-push}
 use Rattle.ulfm_log.proofs.Grouped.{group_stays, members_found}
 
--- an agreement is entered in its turn: its number is how many were entered on its communicator before
-abbrev pub IsInTurn : List Entry → ℕ → Purpose → Type 0
-IsInTurn before c Shrink = ⊤
-IsInTurn before c (Agree round) = round ≡ agreements before c
+-- a round is entered in its turn: its number is how many of its kind were entered on its communicator before
+abbrev pub IsInTurn : List Entry → Topic → Type 0
+IsInTurn before topic = round_of topic.purpose ≡ rounds_of before (is_agreement topic.purpose) topic.context.number
 
 -- An entry that a rank may add: it enters a topic of a communicator that it made, once and in its turn, with the failures that
 -- it knows; it adopts a decision on a topic that it entered, which isn't foreign.
 abbrev pub Fits : ℕ → ℕ → List Entry → Entry → Type 0
 Fits n me before (Entered entrance) =
-    (is_made n before entrance.topic.context.number ≡ true) × (has_entered before entrance.topic ≡ false) × Knows before entrance.contribution.known × IsInTurn before entrance.topic.context.number entrance.topic.purpose
+    (is_made n before entrance.topic.context.number ≡ true) × (has_entered before entrance.topic ≡ false) × Knows before entrance.contribution.known × IsInTurn before entrance.topic
 Fits n me before (Adopted d) = (is_made n before d.topic.context.number ≡ true) × (has_entered before d.topic ≡ true) × (is_foreign me (deciders n before d.topic) before d.topic d ≡ false)
 Fits n me before _ = ⊤
 
@@ -103,30 +102,38 @@ knows_sets n me log e h fits t s set own inside =
           sym ((rw is.1 at fits).2 s) ∙ ap (λ (c : Contribution). has c.known s) is.3 ∙ inside
     ])
 
--- each agreement that a rank entered has a number below that of the next one
+-- each round that a rank entered has a number below that of the next one of its kind
 abbrev pub RoundsCounted : List Entry → Type 0
-RoundsCounted log = (context : Context) (round : ℕ) → has_entered log (agreement_topic context round) ≡ true → round < agreements log context.number
+RoundsCounted log = (topic : Topic) → has_entered log topic ≡ true → round_of topic.purpose < rounds_of log (is_agreement topic.purpose) topic.context.number
 
--- the agreements of a log that goes on
-pub agreements-more : (log more : List Entry) (c : ℕ) → agreements (log ++ more) c ≡ agreements log c + agreements more c
-agreements-more log more c = ap length (filter-append (enters_agreement c) log more) ∙ length-append (filter (enters_agreement c) log) (filter (enters_agreement c) more)
+-- the rounds of a log that goes on
+pub rounds-more : (log more : List Entry) (agrees : Bool) (c : ℕ) → rounds_of (log ++ more) agrees c ≡ rounds_of log agrees c + rounds_of more agrees c
+rounds-more log more agrees c = ap length (filter-append (enters_round agrees c) log more) ∙ length-append (filter (enters_round agrees c) log) (filter (enters_round agrees c) more)
 
--- an entrance into an agreement counts
-pub counts : (entrance : Entrance) (context : Context) (round : ℕ) → entrance.topic ≡ agreement_topic context round → length (filter (enters_agreement context.number) (Entered entrance ∷ [])) ≡ 1
-counts entrance context round same =
-    let one : (eqb entrance.topic.context.number context.number && is_agreement entrance.topic.purpose) ≡ true = ap (λ (t : Topic). eqb t.context.number context.number && is_agreement t.purpose) same ∙ ap (λ b. b && true) (eq-eqb context.number context.number refl) in
-    ap (λ b. length (cond b (Entered entrance ∷ []) [])) one
+-- a purpose is of its kind
+own_kind : (purpose : Purpose) → is_of_kind (is_agreement purpose) purpose ≡ true
+own_kind (Shrink round) = refl
+own_kind (Agree round) = refl
+
+-- a topic is a round of its kind on its communicator
+pub own_round : (topic : Topic) → is_round_on (is_agreement topic.purpose) topic.context.number topic ≡ true
+own_round topic = ap (λ b. b && is_of_kind (is_agreement topic.purpose) topic.purpose) (eq-eqb topic.context.number topic.context.number refl) ∙ own_kind topic.purpose
+
+-- an entrance counts
+pub counts : (entrance : Entrance) (topic : Topic) → entrance.topic ≡ topic → length (filter (enters_round (is_agreement topic.purpose) topic.context.number) (Entered entrance ∷ [])) ≡ 1
+counts entrance topic same = ap (λ b. length (cond b (Entered entrance ∷ []) [])) (ap (is_round_on (is_agreement topic.purpose) topic.context.number) same ∙ own_round topic)
 
 pub rounds_counted : (n me : ℕ) (log : List Entry) (e : Entry) → RoundsCounted log → Fits n me log e → RoundsCounted (log ++ e ∷ [])
-rounds_counted n me log e h fits context round entered =
-    let t = agreement_topic context round in
+rounds_counted n me log e h fits t entered =
+    let agrees = is_agreement t.purpose in
+    let c = t.context.number in
     let set = some_from (own_set (log ++ e ∷ []) t) entered in
-    let more = agreements-more log (e ∷ []) context.number in
+    let more = rounds-more log (e ∷ []) agrees c in
     elim (own_cases log e t set.0 set.1) [
-      | inl was ↦ let below = h context round (ap is_some was) in omega (arith, more, below)
+      | inl was ↦ let below = h t (ap is_some was) in omega (arith, more, below)
       | inr now ↦
           let is = entry_parts t e set.0 now.1 in
-          let turn : round ≡ agreements log context.number = subst (λ (u : Topic). IsInTurn log u.context.number u.purpose) is.2 (rw is.1 at fits).3 in
-          let one : length (filter (enters_agreement context.number) (e ∷ [])) ≡ 1 = ap (λ x. length (filter (enters_agreement context.number) (x ∷ []))) is.1 ∙ counts is.0 context round is.2 in
+          let turn : round_of t.purpose ≡ rounds_of log agrees c = subst (IsInTurn log) is.2 (rw is.1 at fits).3 in
+          let one : length (filter (enters_round agrees c) (e ∷ [])) ≡ 1 = ap (λ x. length (filter (enters_round agrees c) (x ∷ []))) is.1 ∙ counts is.0 t is.2 in
           omega (arith, more, turn, one)
     ]

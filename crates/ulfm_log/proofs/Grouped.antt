@@ -1,6 +1,6 @@
 -- What an entry makes of the communicators of a log.
 use Rattle.std.proofs.Common.{◌≡◌, ℕ, Bool, true, false, cond, eqb, List, [], ◌∷◌, ◌++◌, refl, ap, sym, ◌∙◌, inl, inr, ◌⊎◌, Some, None, eqb-true}
-use Rattle.ulfm_log.proofs.Common.{Context, Purpose, Shrink, Agree, Decision, decided_comm, dup_of, shrink_of, numbers_from, Entry, Duplicated, Adopted, or_else, find_group, copy_of, made_by, comms_of, group_of, members_of, or_empty, none-some, same_Some}
+use Rattle.ulfm_log.proofs.Common.{Context, Purpose, Shrink, Agree, Decision, decided_comm, nth_dup, nth_shrink, numbers_from, Entry, Duplicated, Adopted, or_else, find_group, copy_of, made_by, comms_of, group_of, members_of, or_empty, none-some, same_Some}
 use Rattle.ulfm_log.proofs.Gather.{gathered-push}
 use Rattle.ulfm_log.proofs.Firsts.{or_else_cases, or_else_first}
 use Rattle.ulfm_log.specs.Log.{by_found}
@@ -44,30 +44,32 @@ found_copy c p d (x ∷ comms) h e = pick (eqb x.0 p) (found_copy c p d comms h)
 -- an entry duplicates a communicator of this group, and the duplicate has the context c
 pub record Duplicates (comms : List (ℕ × List ℕ)) (e : Entry) (c : ℕ) (g : List ℕ) : Type 0 where
   pub parent : Context
-  pub entry : e ≡ Duplicated parent
-  pub child : c ≡ dup_of parent.number
+  pub count : ℕ
+  pub entry : e ≡ Duplicated parent count
+  pub child : c ≡ nth_dup count parent.number
   pub group : find_group parent.number comms ≡ Some g
 
 -- an entry adopts the decision of a shrink with this new group, whose communicator has the context c
 pub record Adopts (e : Entry) (c : ℕ) (g : List ℕ) : Type 0 where
   pub decision : Decision
+  pub round : ℕ
   pub entry : e ≡ Adopted decision
-  pub shrinks : decision.topic.purpose ≡ Shrink
-  pub child : c ≡ shrink_of decision.topic.context.number
+  pub shrinks : decision.topic.purpose ≡ Shrink round
+  pub child : c ≡ nth_shrink round decision.topic.context.number
   pub group : decision.fresh ≡ g
 
 -- the communicator that a decision makes is that of a shrink
-shrunk : (c : ℕ) (purpose : Purpose) (d : ℕ) (fresh g : List ℕ) → find_group c (decided_comm purpose d fresh) ≡ Some g → (purpose ≡ Shrink) × (c ≡ shrink_of d) × (fresh ≡ g)
-shrunk c Shrink d fresh g h = let found = found_one c (shrink_of d) fresh g h in (refl, found.0, found.1)
+shrunk : (c : ℕ) (purpose : Purpose) (d : ℕ) (fresh g : List ℕ) → find_group c (decided_comm purpose d fresh) ≡ Some g → (round : ℕ) × (purpose ≡ Shrink round) × (c ≡ nth_shrink round d) × (fresh ≡ g)
+shrunk c (Shrink round) d fresh g h = let found = found_one c (nth_shrink round d) fresh g h in (round, refl, found.0, found.1)
 shrunk c (Agree round) d fresh g h = absurd (none-some g h)
 
 pub made_cases : (comms : List (ℕ × List ℕ)) (e : Entry) (c : ℕ) (g : List ℕ) → find_group c (made_by comms e) ≡ Some g → Duplicates comms e c g ⊎ Adopts e c g
-made_cases comms (Duplicated parent) c g h =
-    let found = found_copy c parent.number (dup_of parent.number) comms g h in
-    inl (record { parent = parent; entry = refl; child = found.0; group = found.1 })
+made_cases comms (Duplicated parent count) c g h =
+    let found = found_copy c parent.number (nth_dup count parent.number) comms g h in
+    inl (record { parent = parent; count = count; entry = refl; child = found.0; group = found.1 })
 made_cases comms (Adopted decision) c g h =
     let made = shrunk c decision.topic.purpose decision.topic.context.number decision.fresh g h in
-    inr (record { decision = decision; entry = refl; shrinks = made.0; child = made.1; group = made.2 })
+    inr (record { decision = decision; round = made.0; entry = refl; shrinks = made.1; child = made.2; group = made.3 })
 made_cases comms _ c g h = absurd (none-some g h)
 
 -- the group of a context: it was there, or the last entry made it

@@ -10,8 +10,8 @@ pub mod Foreign
 pub mod Owing
 pub mod Held
 pub mod Logs
+pub mod Counts
 pub mod Made
-pub mod Contexts
 pub mod Outgrown
 pub mod Parents
 pub mod Proposing

@@ -12,7 +12,7 @@ use Rattle.ulfm_base.specs.Decision.{entry_at, in_entry}
 use Rattle.ulfm_base.specs.declared.item.Item.{Item}
 use Rattle.ulfm_base.specs.declared.item.Item.TheVariants.{Enter}
 use Rattle.ulfm_base.specs.Group.{is_member, excluding, numbers_from}
-use Rattle.ulfm_base.specs.Topic.{agreement_topic, is_agreement, is_contribution, is_topic}
+use Rattle.ulfm_base.specs.Topic.{is_contribution, is_round_on, is_topic, topic_on}
 use Rattle.ulfm_log.specs.declared.entry.Entry.{Entry}
 use Rattle.ulfm_log.specs.declared.entry.Entry.TheVariants.{Entered, Adopted, Took}
 use Rattle.ulfm_log.specs.Log.{first_given}
@@ -52,26 +52,62 @@ adopts topic _ = false
 abbrev pub has_adopted : List Entry → Topic → Bool
 has_adopted log topic = list_any (adopts topic) log
 
+-- an entry enters a round of this kind on the communicator c: an agreement, or else a shrink
+abbrev pub enters_round : Bool → ℕ → Entry → Bool
+enters_round agrees c (Entered entrance) = is_round_on agrees c entrance.topic
+enters_round agrees c _ = false
+
+-- how many rounds of this kind on the communicator c the rank entered
+abbrev pub rounds_of : List Entry → Bool → ℕ → ℕ
+rounds_of log agrees c = length (filter (enters_round agrees c) log)
+
+-- the round of this kind on a communicator that the rank enters next
+abbrev pub next_round : List Entry → Bool → Context → Topic
+next_round log agrees context = topic_on agrees context (rounds_of log agrees context.number)
+
+-- the round of this kind on a communicator that the rank entered last, or that of number 0 where it entered none
+abbrev pub last_round : List Entry → Bool → Context → Topic
+last_round log agrees context = topic_on agrees context (rounds_of log agrees context.number - 1)
+
+-- the rank entered a round of this kind on a communicator, and didn't adopt its decision yet
+abbrev pub is_in_round : List Entry → Bool → Context → Bool
+is_in_round log agrees context = has_entered log (last_round log agrees context) && not (has_adopted log (last_round log agrees context))
+
 -- an entry enters an agreement on the communicator c
 abbrev pub enters_agreement : ℕ → Entry → Bool
-enters_agreement c (Entered entrance) = entrance.topic.context.number == c && is_agreement entrance.topic.purpose
-enters_agreement c _ = false
+enters_agreement = enters_round true
 
 -- how many agreements on the communicator c the rank entered
 abbrev pub agreements : List Entry → ℕ → ℕ
-agreements log c = length (filter (enters_agreement c) log)
+agreements log c = rounds_of log true c
 
 -- the agreement on a communicator that the rank enters next
 abbrev pub next_agreement : List Entry → Context → Topic
-next_agreement log context = agreement_topic context (agreements log context.number)
+next_agreement log context = next_round log true context
 
 -- the agreement on a communicator that the rank entered last, or that of number 0 where it entered none
 abbrev pub last_agreement : List Entry → Context → Topic
-last_agreement log context = agreement_topic context (agreements log context.number - 1)
+last_agreement log context = last_round log true context
 
 -- the rank entered an agreement on a communicator, and didn't adopt its decision yet
 abbrev pub is_agreeing : List Entry → Context → Bool
-is_agreeing log context = has_entered log (last_agreement log context) && not (has_adopted log (last_agreement log context))
+is_agreeing log context = is_in_round log true context
+
+-- how many shrinks of the communicator c the rank entered
+abbrev pub shrinks : List Entry → ℕ → ℕ
+shrinks log c = rounds_of log false c
+
+-- the shrink of a communicator that the rank enters next
+abbrev pub next_shrink : List Entry → Context → Topic
+next_shrink log context = next_round log false context
+
+-- the shrink of a communicator that the rank entered last, or that of number 0 where it entered none
+abbrev pub last_shrink : List Entry → Context → Topic
+last_shrink log context = last_round log false context
+
+-- the rank entered a shrink of a communicator, and didn't adopt its decision yet
+abbrev pub is_shrinking : List Entry → Context → Bool
+is_shrinking log context = is_in_round log false context
 
 -- with what the member r is listed, if it is: its own first entrance, or that of the first `Enter` taken from it
 abbrev pub listed_of : ℕ → List Entry → Topic → ℕ → Option Contribution

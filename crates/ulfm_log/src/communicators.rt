@@ -1,42 +1,28 @@
 //! The communicators of one rank (MPI 4.0, 7.4).
-//!
-//! Room for all 63 is made at the start, so that a duplicate and an adoption make no more.
-ghost use Rattle.std.specs.Prelude.{◌≡◌, ◌++◌, ◌∷◌, [], Some, None, is_some, false, IfOk, MatchOption};
-ghost use Rattle.ulfm_base.specs.Context.{shrink_of};
-ghost use Rattle.ulfm_base.specs.declared.topic.Purpose.TheVariants.{Shrink};
-ghost use Rattle.ulfm_log.specs.Communicators.{decided_comm, find_group};
+ghost use Rattle.std.specs.Prelude.{◌≡◌, ◌<◌, ◌++◌, ◌∷◌, ◌==◌, ◌^◌, ℕ, suc, [], Some, None, false, if◌then◌else◌, IfOk, IsTrue, MatchOption, OnErr, OnOk};
+ghost use Rattle.ulfm_base.specs.Table.{count_at};
+ghost use Rattle.ulfm_log.specs.Communicators.{decided_comm, find_group, HasSame};
 
 use std::alloc::Global;
 use std::marker::Model;
-use ulfm_base::{CONTEXTS, Context, Decision, Group, OutOfMemory, Purpose};
+use ulfm_base::{Context, Decision, Group, OutOfMemory, Purpose, Table};
 
-/// Each communicator's context with its group, in the order in which they were made. There is room for one of each
-/// context from the start.
+/// Each communicator's context with its group, in the order in which they were made, and by context how many duplicates are counted.
+/// Contracts see whether there is room for one more of each, too.
 #[derive(Drop)]
 pub struct Communicators {
     made: Vec<(Context, Group)>,
+    dups: Table<u64>,
 }
 
 impl Model for Communicators {
-    ghost use Rattle.std.specs.Prelude.{ℕ, List, map, ◌≤◌, vec_capacity};
-    ghost use Rattle.ulfm_base.specs.declared.context.TheConstants.{CONTEXTS};
-    ghost use Rattle.ulfm_log.specs.inside.Made.{by_number, AreApart};
+    ghost use Rattle.std.specs.Prelude.{◌&&◌, map, nat_lt, vec_len, vec_capacity};
+    ghost use Rattle.ulfm_log.specs.Communicators.{CommunicatorsView};
+    ghost use Rattle.ulfm_log.specs.inside.Made.{by_number};
 
-    ghost Value = { List (ℕ × List ℕ) };
+    ghost Value = { CommunicatorsView };
 
-    ghost view = { λ c. map by_number c.made.items };
-
-    ghost invariant = { λ c. (CONTEXTS ≤ vec_capacity c.made) × AreApart c.made.items };
-}
-
-impl Clone for Communicators {
-    ghost is_clone = { λ x y. y ≡ x };
-
-    fn clone(&self) -> Result<Communicators, OutOfMemory> {
-        let mut made = Vec::with_capacity(*self.made.allocator(), CONTEXTS)?;
-        made.extend_with_clones(self.made.as_slice())?;
-        Ok(Communicators { made })
-    }
+    ghost view = { λ c. record { made = map by_number c.made.items; dups = c.dups.entries; room = nat_lt (vec_len c.made) (vec_capacity c.made) && c.dups.room } };
 }
 
 impl Communicators {
@@ -46,58 +32,103 @@ impl Communicators {
     ///
     /// `OutOfMemory` where the list finds no room.
     pub fn new(alloc: Global, world: Group) -> Result<Communicators, OutOfMemory>
-        ensures { IfOk result (λ communicators. communicators ≡ (0, world) ∷ []) }
+        ensures made { IfOk result (λ communicators. communicators.made ≡ (0, world) ∷ []) }
+        ensures dups { IfOk result (λ communicators. communicators.dups ≡ []) }
     {
-        let mut communicators = Communicators {
-            made: Vec::with_capacity(alloc, CONTEXTS)?,
-        };
-        communicators.add(Context::WORLD, world);
-        Ok(communicators)
+        let mut made = Vec::with_capacity(alloc, 1)?;
+        made.push_reserved((Context::WORLD, world));
+        Ok(Communicators {
+            made,
+            dups: Table::new(alloc),
+        })
     }
 
-    /// Adds the communicator of a context that has none yet.
-    pub fn add(&mut self, context: Context, group: Group)
-        requires { is_some (find_group context.number self.old) ≡ false }
-        ensures { self.new ≡ self.old ++ (context.number, group) ∷ [] }
+    /// The same communicators. There may be less room for more.
+    ///
+    /// # Errors
+    ///
+    /// `OutOfMemory` where a growth was refused.
+    pub fn copy(&self) -> Result<Communicators, OutOfMemory>
+        ensures { IfOk result (λ copy. HasSame self.now copy) }
+    {
+        let dups = self.dups.copy()?;
+        let mut made = Vec::with_capacity(*self.made.allocator(), self.made.len())?;
+        made.extend_with_clones(self.made.as_slice())?;
+        Ok(Communicators { made, dups })
+    }
+
+    /// Makes room for one more.
+    ///
+    /// # Errors
+    ///
+    /// `OutOfMemory` where there was no such room and a growth was refused.
+    pub fn make_place(&mut self) -> Result<(), OutOfMemory>
+        ensures has_the_same { HasSame self.old self.new }
+        ensures room { OnOk result (IsTrue self.new.room) }
+        ensures room_lacked { OnErr result (self.old.room ≡ false) }
+        ensures stays { IsTrue self.old.room → IsTrue self.new.room }
+    {
+        self.made.reserve(1)?;
+        self.dups.make_place()
+    }
+
+    /// Whether there is room for one more.
+    pub fn has_place(&self) -> bool
+        ensures { result ≡ self.now.room }
+    {
+        self.made.len() < self.made.capacity() && self.dups.has_place()
+    }
+
+    /// Adds the communicator of a context, which isn't a duplicate. The room that `make_place` made is used up.
+    fn add(&mut self, context: Context, group: Group)
+        requires { IsTrue self.old.room }
+        ensures made { self.new.made ≡ self.old.made ++ (context.number, group) ∷ [] }
+        ensures dups_stay { self.new.dups ≡ self.old.dups }
     {
         self.made.push_reserved((context, group));
     }
 
-    /// Adds the communicator that a decision makes: a shrink makes one, which isn't there yet, and an agreement none.
+    /// Adds the duplicate of this number of a communicator, which has this context and group. The room that `make_place` made is used
+    /// up.
+    pub fn duplicate(&mut self, of: Context, count: u64, context: Context, group: Group)
+        requires room { IsTrue self.old.room }
+        requires countable { count < 2 ^ 63 }
+        ensures made { self.new.made ≡ self.old.made ++ (context.number, group) ∷ [] }
+        ensures counts_this_one { (c : ℕ) → count_at self.new.dups c ≡ (if of.number == c then suc count else count_at self.old.dups c) }
+    {
+        self.dups.put(of, count + 1);
+        self.made.push_reserved((context, group));
+    }
+
+    /// How many duplicates of a communicator are counted: one more than the greatest of their numbers.
+    pub fn dups(&self, of: Context) -> u64
+        ensures { result ≡ count_at self.now.dups of.number }
+    {
+        self.dups.get(of).unwrap_or(0)
+    }
+
+    /// Adds the communicator that a decision makes: a shrink makes one, and an agreement none. The room that `make_place` made may be
+    /// used up.
     pub fn adopt(&mut self, decision: &Decision)
-        requires { decision.now.topic.purpose ≡ Shrink → is_some (find_group (shrink_of decision.now.topic.context.number) self.old) ≡ false }
-        ensures { self.new ≡ self.old ++ decided_comm decision.now.topic.purpose decision.now.topic.context.number decision.now.fresh }
+        requires { IsTrue self.old.room }
+        ensures made { self.new.made ≡ self.old.made ++ decided_comm decision.now.topic.purpose decision.now.topic.context.number decision.now.fresh }
+        ensures dups_stay { self.new.dups ≡ self.old.dups }
     {
         match decision.topic.purpose {
-            Purpose::Shrink => {
-                let context = Context {
-                    number: decision.topic.context.shrink_number(),
-                };
-                self.add(context, decision.fresh.copied());
-            }
+            Purpose::Shrink { round } => match decision.topic.context.nth_shrink(round) {
+                Some(context) => self.add(context, decision.fresh.copied()),
+                None => unreachable!(),
+            },
             Purpose::Agree { .. } => {}
         }
     }
 
     /// The group of a context's communicator, where it was made.
     pub fn group_of(&self, context: Context) -> Option<&Group>
-        ensures { MatchOption result (find_group context.number self.now ≡ None) (λ group. find_group context.number self.now ≡ Some group.now) }
+        ensures { MatchOption result (find_group context.number self.now.made ≡ None) (λ group. find_group context.number self.now.made ≡ Some group.now) }
     {
-        self.find(context.number)
-    }
-
-    /// Whether the communicator of the context of this number was made.
-    pub fn is_made(&self, number: u8) -> bool
-        ensures { result ≡ is_some (find_group number self.now) }
-    {
-        self.find(number).is_some()
-    }
-
-    fn find(&self, number: u8) -> Option<&Group>
-        ensures { MatchOption result (find_group number self.now ≡ None) (λ group. find_group number self.now ≡ Some group.now) }
-    {
-        for (context, group) in &self.made {
-            if context.number == number {
+        for (made, group) in &self.made {
+            if made.number == context.number {
                 return Some(group);
             }
         }

@@ -1,4 +1,4 @@
-//! The entries of a log that tell of shrinks, and of the last agreements (ULFM, shrink and agree).
+//! The entries of a log that tell of the last shrinks and the last agreements (ULFM, shrink and agree).
 ghost use Rattle.std.specs.Prelude.{◌≡◌, ◌<◌, ◌≤◌, [], ◌∷◌, ◌++◌, filter, vec_len, vec_capacity, OnOk, OnErr};
 ghost use Rattle.ulfm_log.specs.Decisive.{rounds_on, tells};
 ghost use Rattle.ulfm_log.specs.declared.entry.Entry.TheVariants.{Took};
@@ -45,7 +45,7 @@ pub fn hear(told: &mut Vec<Row>, rounds: &Rounds, source: WorldRank, item: &Item
     }
 }
 
-/// What belongs to agreements before the last ones goes.
+/// What belongs to shrinks and agreements before the last ones goes.
 pub fn forget(told: &mut Vec<Row>, rounds: &Rounds)
     ensures items { told.new.items ≡ filter (tells (rounds_on rounds.now)) told.old.items }
     ensures len { vec_len told.new ≤ vec_len told.old }

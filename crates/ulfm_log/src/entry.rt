@@ -13,7 +13,7 @@ use ulfm_base::{
 /// Names a communicator by its context.
 #[derive(Clone, Copy, Debug, PartialEq, Eq)]
 pub struct Comm {
-    /// 0 to 62.
+    /// By the path from the world.
     pub context: Context,
 }
 
@@ -62,8 +62,8 @@ pub enum Cancel {
 /// An accepted call that changed something, or an item that was taken. Of letters it keeps no bytes; contracts see them.
 #[derive(Drop)]
 pub enum Entry {
-    /// A communicator was duplicated.
-    Duplicated(Context),
+    /// A communicator was duplicated, and this is the number of the duplicate among its duplicates, from 0.
+    Duplicated(Context, u64),
     /// A shrink or an agreement was entered.
     Entered(Entrance),
     /// The decision of a shrink or of an agreement was adopted.
@@ -97,7 +97,7 @@ impl Clone for Entry {
 
     fn clone(&self) -> Result<Entry, OutOfMemory> {
         let entry = match self {
-            Entry::Duplicated(context) => Entry::Duplicated(*context),
+            Entry::Duplicated(context, count) => Entry::Duplicated(*context, *count),
             Entry::Entered(entrance) => Entry::Entered(*entrance),
             Entry::Adopted(decision) => Entry::Adopted(decision.clone()?),
             Entry::Acknowledged(context, total) => Entry::Acknowledged(*context, *total),

@@ -1,7 +1,7 @@
 //! The notes of a rank, and all that follows from them except for receives: its communicators, its shrinks and agreements, and what it owes to each
 //! other rank.
 //!
-//! A [`Log`] has an [`Entry`] for all that a rank did and took. Beside it stand [`Communicators`], the [`Row`]s that tell of shrinks and of the last
+//! A [`Log`] has an [`Entry`] for all that a rank did and took. Beside it stand [`Communicators`], the [`Row`]s that tell of the last shrinks and
 //! agreements, and the [`Outboxes`]; `ulfm_rank` has one of each for a rank, and keeps them in step:
 //!
 //!     announce(&mut outboxes, me, known, members, entrance);

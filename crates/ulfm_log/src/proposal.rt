@@ -93,7 +93,7 @@ fn value_of(purpose: Purpose, listed: &Listing) -> Option<u32>
     ensures { result ≡ value_of purpose listed.now }
 {
     match purpose {
-        Purpose::Shrink => None,
+        Purpose::Shrink { .. } => None,
         Purpose::Agree { .. } => Some(and_all(listed)),
     }
 }

@@ -1,5 +1,6 @@
 //! What tells of most envelopes at once that a pattern doesn't admit them.
-ghost use Rattle.std.specs.Prelude.{◌≡◌, ◌↔◌, IsTrue};
+ghost use Rattle.std.specs.Prelude.{◌≡◌, ◌<◌, ◌↔◌, IsTrue};
+ghost use Rattle.ulfm_base.specs.declared.context.TheConstants.{PAST_CONTEXTS};
 ghost use Rattle.ulfm_match.specs.inside.Glance.{word_of, Suits};
 
 use ulfm_base::Envelope;
@@ -8,7 +9,7 @@ use ulfm_base::Envelope;
 #[derive(Clone, Copy)]
 pub(crate) enum Glance {
     /// A context, a source and a tag, in one word.
-    Named(u32),
+    Named(u64),
     /// The source of this number.
     From(u8),
     /// The tag of this number.
@@ -16,10 +17,11 @@ pub(crate) enum Glance {
 }
 
 /// A context, a source and a tag in one word.
-pub(crate) fn word(context: u8, source: u8, tag: u16) -> u32
+pub(crate) fn word(context: u64, source: u8, tag: u16) -> u64
+    requires { context < PAST_CONTEXTS }
     ensures { result ≡ word_of context source tag }
 {
-    u32::from(context) + u32::from(source) * 256 + u32::from(tag) * 65536
+    context * 262144 + u64::from(source) * 32768 + u64::from(tag)
 }
 
 impl Glance {

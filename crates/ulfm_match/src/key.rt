@@ -1,5 +1,6 @@
 //! What the entries of a bucket have in common: a context, one source or any, one tag or any. Each such has one number.
-ghost use Rattle.std.specs.Prelude.{◌≡◌, false};
+ghost use Rattle.std.specs.Prelude.{◌≡◌, ◌<◌, false};
+ghost use Rattle.ulfm_base.specs.declared.context.TheConstants.{PAST_CONTEXTS};
 ghost use Rattle.ulfm_match.specs.inside.Key.{key_number, key_of, key_from, key_at, IsWild};
 
 use ulfm_base::{Envelope, MOST_RANKS, Pattern, Source, WorldRank};
@@ -10,10 +11,11 @@ const ANY_SOURCE: u8 = MOST_RANKS;
 /// What stands for any tag in a key: no tag has this number.
 const ANY_TAG: u16 = 32768;
 
-fn key(context: u8, source: u8, tag: u16) -> u64
+fn key(context: u64, source: u8, tag: u16) -> u64
+    requires { context < PAST_CONTEXTS }
     ensures { result ≡ key_number context source tag }
 {
-    (u64::from(context) * 9 + u64::from(source)) * 32769 + u64::from(tag)
+    (context * 9 + u64::from(source)) * 32769 + u64::from(tag)
 }
 
 /// The key of a receive. Those from any source have one key, whatever the sources are.

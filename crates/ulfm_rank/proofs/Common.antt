@@ -1,6 +1,6 @@
 -- The names that most proofs of ranks cite, passed on from one place. Declares nothing.
-pub use Rattle.ulfm_base.specs.Context.{shrink_of, dup_of}
-pub use Rattle.ulfm_base.specs.Topic.{agreement_topic, is_agreement, is_topic, shrink_topic}
+pub use Rattle.ulfm_base.specs.Context.{nth_dup, nth_shrink}
+pub use Rattle.ulfm_base.specs.Topic.{agreement_topic, is_agreement, is_round_on, is_topic, round_of, shrink_topic, topic_on}
 pub use Rattle.ulfm_base.specs.declared.topic.Topic.{Topic}
 pub use Rattle.ulfm_base.specs.declared.topic.Purpose.{Purpose}
 pub use Rattle.ulfm_base.specs.declared.topic.Purpose.TheVariants.{Shrink, Agree}
@@ -22,7 +22,7 @@ pub use Rattle.ulfm_rank.specs.Checks.{group_at}
 pub use Rattle.ulfm_log.specs.Communicators.{decided_comm, find_group, group_of, members_of, or_empty, comms_of, copy_of, made_by}
 pub use Rattle.ulfm_log.specs.Facts.{is_stopped, is_revoked, is_gone, is_stop, is_released, is_probed, probes, took, took_by}
 pub use Rattle.ulfm_rank.specs.inside.Fields.{HasFaults, names_known, pends_by, was_revoked_in}
-pub use Rattle.ulfm_log.specs.Communicators.{HasCommunicators}
+pub use Rattle.ulfm_log.specs.Communicators.{CommunicatorsView, HasCommunicators, HasSame, dups_by, dups_of}
 pub use Rattle.ulfm_log.specs.Entrances.{HasEntries}
 pub use Rattle.ulfm_rank.specs.History.{history_of, events_by, end_at, end_numbered, ends_from, ends_of, item_events, names_gone, post_events}
 pub use Rattle.ulfm_rank.specs.inside.Rank.{state_of, Follows, Holds, stop_places}
@@ -30,7 +30,7 @@ pub use Rattle.ulfm_log.specs.Log.{or_else, first_given}
 pub use Rattle.ulfm_log.specs.Outboxes.{Box, for_each, AllGrow, Boxes, HasOutboxes, box_at, empty_box, mark_of, with_first_out, with_item_back, with_notice_out}
 pub use Rattle.ulfm_log.specs.Facts.{Knows, IsSigned, acknowledged_by, acknowledged_from, acknowledged_of, is_gone, is_released, is_revoked, is_stop, is_stopped, item_revokes, known_of, newly_known, releases, revoked_before, revokes, tells_gone, took, took_by}
 pub use Rattle.ulfm_log.specs.Owed.{owed, owed_by, passed_on, announced, is_addressed, owed_by_item}
-pub use Rattle.ulfm_log.specs.Proposal.{brought_to, has_entered, is_foreign, adopts, agreements, deciders, enters_agreement, entry_of, has_adopted, heard_of, listed_of}
+pub use Rattle.ulfm_log.specs.Proposal.{brought_to, has_entered, is_foreign, adopts, agreements, deciders, enters_agreement, enters_round, entry_of, has_adopted, heard_of, listed_of, rounds_of, shrinks}
 pub use Rattle.ulfm_log.specs.State.{RankView, GoesOut, has_way_back, IsState, MayReturn, Mark, State, logged, mark_at, marked, no_mark, notice, outbox, owes, returned, taken_out, unmarked, went_out, with_marks}
 pub use Rattle.ulfm_rank.specs.Standing.{IsOfGroup, Became, IsInStep, IsSourceIn, IsStanding, IsTable, is_found}
 pub use Rattle.ulfm_rank.specs.inside.Answers.{GivesAnswer, HasSender, IsDelivered}

@@ -4,6 +4,7 @@ use Rattle.std.proofs.Crossing.{crosses}
 use Rattle.ulfm_fault.proofs.faults.Faults.TheSendSync as faults
 use Rattle.ulfm_log.proofs.communicators.Communicators.TheSendSync as communicators
 use Rattle.ulfm_log.proofs.outboxes.Outboxes.TheSendSync as outboxes
+use Rattle.ulfm_log.proofs.rounds.Rounds.TheSendSync as rounds
 use Rattle.ulfm_match.proofs.matcher.Matcher.TheSendSync as matcher
 use Rattle.ulfm_log.specs.contracts.held_decision.Block as block
 use Rattle.ulfm_log.specs.contracts.held_decision.HeldDecision as held
@@ -28,4 +29,4 @@ request_send : IsSend request.the_row
 request_send = search (sendable, crosses) depth 60 fits 20000
 
 pub rank_send : IsSend rank.the_row
-rank_send = search (entry_send, row_send, block_send, request_send, matcher.the_send, faults.the_send, communicators.the_send, outboxes.the_send, sendable, crosses) depth 100 fits 20000
+rank_send = search (entry_send, row_send, block_send, request_send, matcher.the_send, faults.the_send, communicators.the_send, outboxes.the_send, rounds.the_send, sendable, crosses) depth 100 fits 20000

@@ -46,20 +46,21 @@ faults_learned {log} {old} new s held k a m = record {
   marks = λ c. ap (λ xs. is_marked xs c) m ∙ (held.marks c ∙ sym (any-push (revokes c) log (Took s Gone) ∙ or-false (is_revoked log c)));
 }
 
+-- what is marked besides
+pub marked_or : (b e : Bool) → cond b true e ≡ e || b
+marked_or true true = refl
+marked_or true false = refl
+marked_or false true = refl
+marked_or false false = refl
+
 -- a revocation, by an entry that gives nothing else
 pub faults_revoked : {log : List Entry} {old : FaultState} (new : FaultState) (x : Entry) (d : ℕ) → HasFaults log old → ((known : List ℕ) → newly_known known x ≡ []) → ((c k : ℕ) → acknowledged_by c k x ≡ k) → ((c : ℕ) → revokes c x ≡ (d == c))
     → ((c : ℕ) → is_revoked_in new c ≡ cond (d == c) true (is_revoked_in old c)) → new.known ≡ old.known → new.acknowledged ≡ old.acknowledged → HasFaults (log ++ x ∷ []) new
 faults_revoked {log} {old} new x d held none same is m k a = record {
   knows = k ∙ (held.knows ∙ sym (known-push log x ∙ (ap (λ ys. known_of log ++ ys) (none (known_of log)) ∙ append-nil (known_of log))));
   acknowledges = λ c. ap (λ xs. count_at xs c) a ∙ (held.acknowledges c ∙ sym (acknowledged-push c log x ∙ same c (acknowledged_of log c)));
-  marks = λ c. m c ∙ (pick (d == c) (is_revoked_in old c) ∙ (ap (λ b. b || (d == c)) (held.marks c) ∙ sym (any-push (revokes c) log x ∙ ap (λ b. is_revoked log c || b) (is c))));
+  marks = λ c. m c ∙ (marked_or (d == c) (is_revoked_in old c) ∙ (ap (λ b. b || (d == c)) (held.marks c) ∙ sym (any-push (revokes c) log x ∙ ap (λ b. is_revoked log c || b) (is c))));
 }
-  where
-    pick : (b e : Bool) → cond b true e ≡ e || b
-    pick true true = refl
-    pick true false = refl
-    pick false true = refl
-    pick false false = refl
 
 -- a rank is known to have failed exactly where a notice came from it
 pub known_gone : (log : List Entry) (s : ℕ) → is_member (known_of log) s ≡ is_gone log s

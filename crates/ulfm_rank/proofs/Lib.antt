@@ -30,3 +30,4 @@ pub mod Crossing
 pub mod Joining
 pub mod Mapped
 pub mod Rooms
+pub mod Making

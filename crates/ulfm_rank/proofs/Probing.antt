@@ -1,6 +1,6 @@
 -- A probe finds a letter, or none.
 use Rattle.std.proofs.Common.{◌≡◌, ℕ, ◌+◌, Bool, false, List, [], ◌∷◌, ◌++◌, length, refl, ap, sym, ◌∙◌, subst, Option, Some, None, inl, inr, arith, Contains}
-use Rattle.ulfm_rank.proofs.Common.{Context, Pattern, Letter, State, IsReceive, FaultState, Box, Follows, FindsNone, names_gone, names_known, Post, Come, Entry, Request, Matching, IsInStep, is_revoked, history_of, get_old, receive_within, one_pairing, WouldGet, WouldWait}
+use Rattle.ulfm_rank.proofs.Common.{CommunicatorsView, Context, Pattern, Letter, State, IsReceive, FaultState, Box, Follows, FindsNone, names_gone, names_known, Post, Come, Entry, Request, Matching, IsInStep, is_revoked, history_of, get_old, receive_within, one_pairing, WouldGet, WouldWait}
 use Rattle.ulfm_base.specs.Pattern.{Admits}
 use Rattle.ulfm_base.specs.declared.error.CallError.TheVariants.{OutOfMemory}
 use Rattle.ulfm_base.specs.declared.tag.Tag.{Tag}
@@ -35,7 +35,7 @@ pub unrevoked : (r : State) (comm : Comm) (source : Option ℕ) (tag : Option Ta
 unrevoked r comm source tag room p passes receive = ap (λ (d : Context). is_revoked r.log d.number) receive.context ∙ (all_pass (receive_checks r comm.context.number source) passes).1.1.0
 
 -- a probe finds none where no kept letter fits
-pub finds_none : {n me : ℕ} {log : List Entry} {stopped : Bool} {m : Matching} {find : ℕ → Option Request} {facts : FaultState} {comms : List (ℕ × List ℕ)} {boxes : List Box} → Follows n me log stopped m find facts comms boxes → (r : State) → log ≡ r.log
+pub finds_none : {n me : ℕ} {log : List Entry} {stopped : Bool} {m : Matching} {find : ℕ → Option Request} {facts : FaultState} {comms : CommunicatorsView} {boxes : List Box} → Follows n me log stopped m find facts comms boxes → (r : State) → log ≡ r.log
     → (comm : Comm) (source : Option ℕ) (tag : Option Tag) (p : Pattern) → Passes (receive_checks r comm.context.number source) → IsReceive r comm source tag 1024 p → ((y : ℕ × Letter) → Contains m.kept y → Admits p y.1.envelope → ⊥) → (gone : Bool) → names_known facts p.source ≡ gone → FindsNone r comm source tag gone
 finds_none {log = log} held r seen comm source tag p passes receive none gone names = record {
   pattern = p;
@@ -63,7 +63,7 @@ gets {log = log} held p l m' tracks =
     }
 
 -- where a kept letter fits, a receive gets the earliest of those that do, so that a probe may be out of memory
-pub may_starve : {n me : ℕ} {log : List Entry} {stopped : Bool} {m : Matching} {find : ℕ → Option Request} {facts : FaultState} {comms : List (ℕ × List ℕ)} {boxes : List Box} → Follows n me log stopped m find facts comms boxes → (r : State) → log ≡ r.log
+pub may_starve : {n me : ℕ} {log : List Entry} {stopped : Bool} {m : Matching} {find : ℕ → Option Request} {facts : FaultState} {comms : CommunicatorsView} {boxes : List Box} → Follows n me log stopped m find facts comms boxes → (r : State) → log ≡ r.log
     → (comm : Comm) (source : Option ℕ) (tag : Option Tag) (p : Pattern) → Passes (receive_checks r comm.context.number source) → IsReceive r comm source tag 1024 p → (y : ℕ × Letter) → Contains m.kept y → Admits p y.1.envelope → IsRefusalAfterChecks r comm source tag OutOfMemory
 may_starve {log = log} {m = m} held r seen comm source tag p passes receive y there fits =
     let fresh = ap (λ (l : List Entry). is_revoked l p.context.number) seen ∙ unrevoked r comm source tag 1024 p passes receive in

@@ -1,6 +1,6 @@
 -- A request that a rank has is answered as its log tells.
 use Rattle.std.proofs.Common.{◌≡◌, ℕ, Bool, true, false, cond, List, refl, ap, sym, subst, ◌∙◌, Some, Option, IsSome}
-use Rattle.ulfm_rank.proofs.Common.{Letter, Pattern, Entry, TestAnswer, Done, Over, Pending, NotYet, Fate, Waiting, Paired, Found, Failed, Cleared, Request, IsDelivered, IsMessageAnswer, is_found, is_waiting, is_receipt, is_release, with_room, find_group, or_empty, Follows, Box, pends_by, Matching, IsTestAnswer, GivesAnswer, HasSender, IsOfGroup, is_some, FaultState}
+use Rattle.ulfm_rank.proofs.Common.{CommunicatorsView, Letter, Pattern, Entry, TestAnswer, Done, Over, Pending, NotYet, Fate, Waiting, Paired, Found, Failed, Cleared, Request, IsDelivered, IsMessageAnswer, is_found, is_waiting, is_receipt, is_release, with_room, find_group, or_empty, Follows, Box, pends_by, Matching, IsTestAnswer, GivesAnswer, HasSender, IsOfGroup, is_some, FaultState}
 use Rattle.ulfm_rank.proofs.Answered.{tested, received, has_sender}
 use Rattle.ulfm_log.proofs.Grouped.{members_found}
 use Rattle.ulfm_rank.proofs.Known.{pends_known}
@@ -40,22 +40,22 @@ waiting (Found l) w = cc
 waiting Failed w = cc
 waiting Cleared w = cc
 
-module _ {n me : ℕ} {log : List Entry} {stopped : Bool} {matcher : Matching} {find : ℕ → Option Request} {facts : FaultState} {comms : List (ℕ × List ℕ)} {boxes : List Box} (held : Follows n me log stopped matcher find facts comms boxes) (id : ℕ) (q : Request) (found : find id ≡ Some q) where
+module _ {n me : ℕ} {log : List Entry} {stopped : Bool} {matcher : Matching} {find : ℕ → Option Request} {facts : FaultState} {comms : CommunicatorsView} {boxes : List Box} (held : Follows n me log stopped matcher find facts comms boxes) (id : ℕ) (q : Request) (found : find id ≡ Some q) where
   of_group : IsOfGroup n log q.pattern
   of_group = held.in_step.table.of_group id q found
 
-  found_here : find_group q.pattern.context.number comms ≡ Some of_group.group
+  found_here : find_group q.pattern.context.number comms.made ≡ Some of_group.group
   found_here = found_group q.pattern.context.number held.communicators ∙ of_group.made
 
-  pub has_group : IsSome (find_group q.pattern.context.number comms)
+  pub has_group : IsSome (find_group q.pattern.context.number comms.made)
   has_group = ap is_some found_here
 
-  pub sender_found : HasSender (or_empty (find_group q.pattern.context.number comms)) q.fate
+  pub sender_found : HasSender (or_empty (find_group q.pattern.context.number comms.made)) q.fate
   sender_found =
       subst (λ g. HasSender g q.fate) (sym (ap or_empty found_here))
       (has_sender held.in_step id q found of_group.group of_group.made)
 
-  pub answered : (a : TestAnswer) → GivesAnswer (or_empty (find_group q.pattern.context.number comms)) (pends_by facts (or_empty (find_group q.pattern.context.number comms)) q.pattern) q.pattern q.fate a → IsTestAnswer n log id a
+  pub answered : (a : TestAnswer) → GivesAnswer (or_empty (find_group q.pattern.context.number comms.made)) (pends_by facts (or_empty (find_group q.pattern.context.number comms.made)) q.pattern) q.pattern q.fate a → IsTestAnswer n log id a
   answered a gives =
       let g = of_group.group in
       let gives' : GivesAnswer g (pends_by facts g q.pattern) q.pattern q.fate a = subst (λ g. GivesAnswer g (pends_by facts g q.pattern) q.pattern q.fate a) (ap or_empty found_here) gives in
@@ -65,13 +65,13 @@ module _ {n me : ℕ} {log : List Entry} {stopped : Bool} {matcher : Matching} {
   -- a test of a receive that waits would say so
   pub unanswered : is_waiting q.fate ≡ true → (a : TestAnswer) × (is_release a ≡ false) × IsTestAnswer n log id a
   unanswered w =
-      let g = or_empty (find_group q.pattern.context.number comms) in
+      let g = or_empty (find_group q.pattern.context.number comms.made) in
       let a : TestAnswer = cond (pends_by facts g q.pattern) Pending NotYet in
       let gives : GivesAnswer g (pends_by facts g q.pattern) q.pattern q.fate a = rw (waiting q.fate w) refl in
       (a, waits g (pends_by facts g q.pattern) q.pattern q.fate a w gives, answered a gives)
 
   -- a message is answered with another room
-  pub answered_message : is_found q.fate ≡ true → (room : ℕ) (pending : Bool) (a : TestAnswer) → GivesAnswer (or_empty (find_group q.pattern.context.number comms)) pending (with_room q.pattern room) q.fate a → IsMessageAnswer n log id room a
+  pub answered_message : is_found q.fate ≡ true → (room : ℕ) (pending : Bool) (a : TestAnswer) → GivesAnswer (or_empty (find_group q.pattern.context.number comms.made)) pending (with_room q.pattern room) q.fate a → IsMessageAnswer n log id room a
   answered_message e room pending a gives =
       let m = letter_of q.fate e in
       let g = of_group.group in

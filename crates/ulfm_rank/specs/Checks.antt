@@ -1,17 +1,17 @@
 -- Why a call is refused: what is checked, in the order of the checks. Out of memory comes last.
-use Rattle.std.specs.Prelude.{◌≡◌, ℕ, Bool, true, false, List, [], ◌∷◌, length, not, ◌||◌, ◌⊎◌, nat_le, nat_lt, Option, Some, None, slice_get, if◌then◌else◌}
+use Rattle.std.specs.Prelude.{◌≡◌, ℕ, Bool, true, false, List, [], ◌∷◌, length, not, ◌||◌, ◌&&◌, ◌⊎◌, nat_le, nat_lt, Option, Some, None, slice_get, if◌then◌else◌}
 use Rattle.ulfm_base.specs.declared.decision.Decision.{Decision}
 use Rattle.ulfm_base.specs.declared.error.CallError.{CallError}
 use Rattle.ulfm_base.specs.declared.error.CallError.TheVariants.{NoComm, BadRank, TooLong, ProcFailed, Revoked, NoRequest, AlreadyMade, NoContext, Stopped, NotMember, OutOfMemory, BadSize, NotEntered}
-use Rattle.ulfm_base.specs.Context.{dup_of, shrink_of}
-use Rattle.ulfm_base.specs.Topic.{shrink_topic}
+use Rattle.ulfm_base.specs.Context.{nth_dup, nth_shrink}
+use Rattle.ulfm_base.specs.declared.context.TheConstants.{PAST_CONTEXTS}
 use Rattle.ulfm_base.specs.declared.context.Context.{Context}
 use Rattle.ulfm_base.specs.declared.topic.Topic.{Topic}
 use Rattle.ulfm_log.specs.declared.entry.Entry.{Entry}
 use Rattle.ulfm_rank.specs.Answer.{IsNoRequest}
 use Rattle.ulfm_log.specs.Facts.{is_gone, is_revoked, is_stopped}
-use Rattle.ulfm_log.specs.Communicators.{is_made, members_of}
-use Rattle.ulfm_log.specs.Proposal.{has_entered, has_adopted, is_agreeing, is_foreign}
+use Rattle.ulfm_log.specs.Communicators.{dups_of, is_made, members_of}
+use Rattle.ulfm_log.specs.Proposal.{has_entered, has_adopted, is_agreeing, is_foreign, is_shrinking, shrinks}
 use Rattle.ulfm_log.specs.State.{State}
 
 -- whether a check refuses, and with which error
@@ -77,13 +77,24 @@ send_checks r c dest size = comm_checks r c ((is_revoked r.log c, Revoked) ∷ (
 abbrev pub receive_checks : State → ℕ → Option ℕ → List Check
 receive_checks r c source = comm_checks r c ((is_revoked r.log c, Revoked) ∷ (is_outside_if_named r c source, BadRank) ∷ [])
 
--- of a duplication
-abbrev pub dup_checks : State → ℕ → List Check
-dup_checks r c = comm_checks r c ((is_revoked r.log c, Revoked) ∷ (is_made r.ranks r.log (dup_of c), AlreadyMade) ∷ (nat_le 63 (dup_of c), NoContext) ∷ [])
+-- a communicator that jobs name by a number has one duplicate and one shrink, unless a further one is asked for
+abbrev pub is_single : Bool → ℕ → Bool
+is_single again c = not again && nat_lt c 63
 
--- of an entry into a shrink
-abbrev pub shrink_checks : State → Context → List Check
-shrink_checks r context = comm_checks r context.number ((has_entered r.log (shrink_topic context), AlreadyMade) ∷ (nat_le 63 (shrink_of context.number), NoContext) ∷ [])
+-- of a communicator that is made of c, of which so many were made so before: one of 0 to 62 has one such, and one past 30 none, unless a
+-- further one is asked for; and its context has to be a number below 2 ^ 45
+abbrev pub making_checks : Bool → ℕ → ℕ → ℕ → List Check
+making_checks again c count child = (is_single again c && nat_lt 0 count, AlreadyMade) ∷ (is_single again c && nat_lt 30 c, NoContext) ∷ (nat_le PAST_CONTEXTS child, NoContext) ∷ []
+
+-- of a duplication, or a further one
+abbrev pub dup_checks : Bool → State → ℕ → List Check
+dup_checks again r c = comm_checks r c ((is_revoked r.log c, Revoked) ∷ making_checks again c (dups_of r.log c) (nth_dup (dups_of r.log c) c))
+
+-- of an entry into the next shrink, which is the first or a further one
+abbrev pub shrink_checks : Bool → State → Context → List Check
+shrink_checks again r context =
+    comm_checks r context.number
+    ((is_shrinking r.log context, AlreadyMade) ∷ making_checks again context.number (shrinks r.log context.number) (nth_shrink (shrinks r.log context.number) context.number))
 
 -- of an entry into the next agreement
 abbrev pub agree_checks : State → Context → List Check

@@ -26,9 +26,9 @@ fn status_of(letter: &Letter, group: &Group) -> Status
 
 /// What is told of a letter of a communicator that was made.
 pub(crate) fn status_in(communicators: &Communicators, context: Context, letter: &Letter) -> Status
-    requires made { IsSome (find_group context.number communicators.now) }
-    requires sender { IsSome (rank_in (or_empty (find_group context.number communicators.now)) letter.now.envelope.source.number) }
-    ensures { TellsOf (or_empty (find_group context.number communicators.now)) letter.now result }
+    requires made { IsSome (find_group context.number communicators.now.made) }
+    requires sender { IsSome (rank_in (or_empty (find_group context.number communicators.now.made)) letter.now.envelope.source.number) }
+    ensures { TellsOf (or_empty (find_group context.number communicators.now.made)) letter.now result }
 {
     status_of(letter, communicators.group_of(context).unwrap())
 }
@@ -70,8 +70,8 @@ pub(crate) fn answer_to_waiting(
     faults: &Faults,
     pattern: &Pattern,
 ) -> TestAnswer
-    requires { IsSome (find_group pattern.now.context.number communicators.now) }
-    ensures { result ≡ (if pends_by faults.now (or_empty (find_group pattern.now.context.number communicators.now)) pattern.now then TestAnswer.Pending else TestAnswer.NotYet) }
+    requires { IsSome (find_group pattern.now.context.number communicators.now.made) }
+    ensures { result ≡ (if pends_by faults.now (or_empty (find_group pattern.now.context.number communicators.now.made)) pattern.now then TestAnswer.Pending else TestAnswer.NotYet) }
 {
     let group = communicators.group_of(pattern.context).unwrap();
     if pends(faults, group, pattern) {
@@ -86,9 +86,9 @@ pub(crate) fn answer_in(
     faults: &Faults,
     request: Request,
 ) -> TestAnswer
-    requires made { IsSome (find_group request.pattern.context.number communicators.now) }
-    requires sender { HasSender (or_empty (find_group request.pattern.context.number communicators.now)) request.fate }
-    ensures { let group = or_empty (find_group request.pattern.context.number communicators.now) in GivesAnswer group (pends_by faults.now group request.pattern) request.pattern request.fate result }
+    requires made { IsSome (find_group request.pattern.context.number communicators.now.made) }
+    requires sender { HasSender (or_empty (find_group request.pattern.context.number communicators.now.made)) request.fate }
+    ensures { let group = or_empty (find_group request.pattern.context.number communicators.now.made) in GivesAnswer group (pends_by faults.now group request.pattern) request.pattern request.fate result }
 {
     let group = communicators.group_of(request.pattern.context).unwrap();
     let pending = pends(faults, group, &request.pattern);

@@ -13,11 +13,11 @@ mod sending;
 mod shrinking;
 mod taking;
 
-ghost use Rattle.std.specs.Prelude.{◌≡◌, [], IfOk, IfErr, IsTrue, OnOk, Some};
-ghost use Rattle.ulfm_rank.specs.Checks.{Passes, Fails, FailsOrStarves, start_checks, comm_checks};
+ghost use Rattle.std.specs.Prelude.{◌≡◌, ◌&&◌, ℕ, nat_lt, [], IfOk, IfErr, IsTrue, OnOk, Some};
+ghost use Rattle.ulfm_rank.specs.Checks.{Passes, Fails, FailsOrStarves, start_checks, comm_checks, is_single, making_checks};
 ghost use Rattle.ulfm_log.specs.Communicators.{group_of};
 ghost use Rattle.ulfm_log.specs.Facts.{is_stopped};
-ghost use Rattle.ulfm_rank.specs.inside.Rank.{stop_places};
+ghost use Rattle.ulfm_rank.specs.inside.Rank.{HasNumber, stop_places};
 ghost use Rattle.ulfm_rank.specs.Paired.{IsPaired};
 ghost use Rattle.ulfm_log.specs.State.{start_state, start_state_with, IsState};
 
@@ -25,7 +25,7 @@ use crate::request::Request;
 use indexmap::IndexMap;
 use std::alloc::Global;
 use std::marker::Model;
-use ulfm_base::{CallError, Context, Group, WorldRank};
+use ulfm_base::{CONTEXTS, CallError, Context, Group, WorldRank};
 use ulfm_fault::Faults;
 use ulfm_log::{Block, Comm, Communicators, Entry, Log, Outboxes, Rounds, Row};
 use ulfm_match::Matcher;
@@ -36,7 +36,7 @@ use ulfm_match::Matcher;
 #[derive(Drop)]
 pub struct Rank {
     log: Log,
-    // What the log tells of shrinks and of the last agreements: at each entry what belongs to earlier ones is let go.
+    // What the log tells of the last shrinks and agreements: at each entry what belongs to earlier ones is let go.
     told: Vec<Row>,
     rounds: Rounds,
     me: WorldRank,
@@ -172,4 +172,48 @@ fn stop_places(stopped: bool) -> usize
     ensures { result ≡ stop_places stopped }
 {
     if stopped { 0 } else { 1 }
+}
+
+/// Whether a communicator has one duplicate and one shrink: one that jobs name by a number, unless a further one is asked for.
+fn is_single(again: bool, context: Context) -> bool
+    ensures { result ≡ is_single again context.number }
+{
+    !again && context.number < CONTEXTS as u64
+}
+
+/// Whether such a communicator has one already.
+fn is_second(again: bool, of: Context, count: u64) -> bool
+    ensures { result ≡ (is_single again of.number && nat_lt 0 count) }
+{
+    is_single(again, of) && 0 < count
+}
+
+/// Whether such a communicator is past 30, and so has none.
+fn is_late(again: bool, of: Context) -> bool
+    ensures { result ≡ (is_single again of.number && nat_lt 30 of.number) }
+{
+    is_single(again, of) && 30 < of.number
+}
+
+/// The context of a communicator that is made of another one, of which so many were made so before.
+fn may_make(
+    again: bool,
+    of: Context,
+    count: u64,
+    child: Option<Context>,
+) -> Result<Context, CallError>
+    ensures accepted { (number : ℕ) → HasNumber child number → OnOk result (Passes (making_checks again of.number count number)) }
+    ensures made { IfOk result (λ context. child ≡ Some context) }
+    ensures refused { (number : ℕ) → HasNumber child number → IfErr result (Fails (making_checks again of.number count number)) }
+{
+    if is_second(again, of, count) {
+        return Err(CallError::AlreadyMade);
+    }
+    if is_late(again, of) {
+        return Err(CallError::NoContext);
+    }
+    match child {
+        Some(context) => Ok(context),
+        None => Err(CallError::NoContext),
+    }
 }

@@ -46,7 +46,7 @@ pub fn comm_in(number: Option<i64>) -> Result<Context, Fault>
 {
     let number = in_range(number.unwrap_or(0), 0, LAST_COMM)?;
     Ok(Context {
-        number: number as u8,
+        number: u64::from(number),
     })
 }
 

@@ -1,7 +1,8 @@
 -- Ranks that adopted one decision on each topic have one group for each communicator that they made.
-use Rattle.std.proofs.Common.{◌≡◌, ℕ, zero, suc, ◌<◌, List, ap, sym, ◌∙◌, arith, inl, inr, Some, All}
+use Rattle.std.proofs.Common.{◌≡◌, ℕ, zero, suc, ◌*◌, ◌<◌, List, ap, sym, ◌∙◌, arith, inl, inr, Some, All}
 use Rattle.ulfm_report_laws.proofs.Common.{at, Decision, Entry, group_of, Report, same_Some, slice_get-get_or, members_found, some_from, AdoptOne, HasOneGroup, same_context}
-use Rattle.ulfm_base.specs.Context.{shrink_of}
+use Rattle.ulfm_base.specs.Context.{nth_shrink}
+use Rattle.ulfm_base.proofs.Children.{greater}
 use Rattle.ulfm_log.proofs.Parents.{HasAdoption, world_group, parent_group, adopted_group, context_cases}
 
 -- decisions of one purpose on contexts of one number are on one topic
@@ -18,20 +19,20 @@ all_stand : (log : List Entry) → All (StandsIn log) log
 all_stand log k d inside = (k, slice_get-get_or log k d inside)
 
 module _ (reports : List Report) (one : AdoptOne reports) (n : ℕ) where
-  adopted_in : (told : Report) (p : ℕ) (g : List ℕ) → group_of n told.rank.log (shrink_of p) ≡ Some g → HasAdoption (StandsIn told.rank.log) p g
-  adopted_in told p g made = adopted_group (StandsIn told.rank.log) n told.rank.log p g (all_stand told.rank.log) made
+  adopted_in : (told : Report) (k p : ℕ) (g : List ℕ) → group_of n told.rank.log (nth_shrink k p) ≡ Some g → HasAdoption (StandsIn told.rank.log) k p g
+  adopted_in told k p g made = adopted_group (StandsIn told.rank.log) n told.rank.log k p g (all_stand told.rank.log) made
 
   group_below : (k r s c : ℕ) {told other : Report} (g h : List ℕ) → at reports r told → at reports s other → c < k → group_of n told.rank.log c ≡ Some g → group_of n other.rank.log c ≡ Some h → g ≡ h
   group_below zero r s c g h here yonder low made theirs = absurd (omega (arith, low))
-  group_below (suc k) r s c {told} {other} g h here yonder low made theirs = elim (context_cases c) [
+  group_below (suc k) r s c {told} {other} g h here yonder low made theirs = elim (context_cases n told.rank.log c g made) [
     | inl world ↦
         same_Some g h (sym (ap (group_of n told.rank.log) (sym world) ∙ made) ∙ world_group n told.rank.log ∙ sym (world_group n other.rank.log) ∙ ap (group_of n other.rank.log) (sym world) ∙ theirs)
     | inr (inl d) ↦
-        let less : d.0 < k = omega (arith, low, d.1) in
-        group_below k r s d.0 g h here yonder less (parent_group n told.rank.log d.0 g (ap (group_of n told.rank.log) (sym d.1) ∙ made)) (parent_group n other.rank.log d.0 h (ap (group_of n other.rank.log) (sym d.1) ∙ theirs))
+        let less : d.1 < k = omega (arith, low, d.2, greater d.1 (3 * d.0)) in
+        group_below k r s d.1 g h here yonder less (parent_group n told.rank.log d.0 d.1 g (ap (group_of n told.rank.log) (sym d.2) ∙ made)) (parent_group n other.rank.log d.0 d.1 h (ap (group_of n other.rank.log) (sym d.2) ∙ theirs))
     | inr (inr d) ↦
-        let mine = adopted_in told d.0 g (ap (group_of n told.rank.log) (sym d.1) ∙ made) in
-        let yours = adopted_in other d.0 h (ap (group_of n other.rank.log) (sym d.1) ∙ theirs) in
+        let mine = adopted_in told d.0 d.1 g (ap (group_of n told.rank.log) (sym d.2) ∙ made) in
+        let yours = adopted_in other d.0 d.1 h (ap (group_of n other.rank.log) (sym d.2) ∙ theirs) in
         let same = one r s told other mine.decision yours.decision here yonder mine.holds yours.holds (same_topic mine.decision yours.decision (mine.shrinks ∙ sym yours.shrinks) (mine.context ∙ sym yours.context)) in
         sym mine.group ∙ ap (λ x. x.fresh) same ∙ yours.group
   ]

@@ -7,14 +7,14 @@ use Rattle.ulfm_base.specs.Topic.{agreement_topic, is_agreement}
 use Rattle.ulfm_base.specs.declared.error.CallError.{CallError}
 use Rattle.ulfm_rank.specs.Checks.{adopt_checks, agree_checks, Passes}
 use Rattle.ulfm_log.specs.Log.{or_else}
-use Rattle.ulfm_log.specs.Proposal.{adopts, agreements, enters_agreement, entry_of, has_adopted, has_entered, is_agreeing, last_agreement, next_agreement}
+use Rattle.ulfm_log.specs.Proposal.{adopts, agreements, enters_agreement, entry_of, has_adopted, has_entered, is_agreeing, last_agreement, last_shrink, next_agreement}
 use Rattle.ulfm_log.specs.declared.entry.Entry.TheVariants.{Adopted, Entered, Took}
-use Rattle.ulfm_log.proofs.Belonging.{own_from}
-use Rattle.ulfm_log.proofs.Entering.{AdoptsEntered, adopts_entered, agreements-more, counts, entry_parts, RoundsCounted, rounds_counted}
+use Rattle.ulfm_log.proofs.Entering.{AdoptsEntered, adopts_entered, counts, entry_parts, RoundsCounted, rounds-more, rounds_counted}
 use Rattle.ulfm_log.proofs.Firsts.{first-push}
 use Rattle.ulfm_script.specs.Answered.{EachAnswerFollows, OnlyTook}
 use Rattle.ulfm_script.specs.Calls.{EntersBy}
 use Rattle.ulfm_script.specs.Deciding.{topic_of}
+use Rattle.ulfm_script.proofs.Adopting.{adopted_about}
 use Rattle.ulfm_script.proofs.Fitting.{fits_apart, fits_entered}
 use Rattle.ulfm_script.proofs.Kept.{fits_adopted}
 use Rattle.ulfm_script.proofs.Once.{entered-here}
@@ -22,7 +22,7 @@ use Rattle.ulfm_script.proofs.Polls.{answers_plain, opens_adds, refused_adoption
 use Rattle.ulfm_script.proofs.Says.{IsApart}
 use Rattle.ulfm_script.proofs.Walked.{KeepsAll, walked_to}
 use Rattle.ulfm_report_laws.specs.Agreement.{ends_round_in, ends_round_by}
-use Rattle.ulfm_report_laws.proofs.Common.{all_pass, any-push, AnswersAdoption, AnswersStep, cases_Bool, cases_eq, Agree, Agreed, Context, Contribution, Decision, Entrance, Entry, eq-eqb, false≢true, first_given, Fits, group_at, is_topic, IsTook, Known, ne_eqb, none-some, not-false, or_none, or_right, OutOfMemory, Refused, same_context, same_Some, Shrink, shrink_topic, Shrunk, Skipped, State, Step, step_report, StepAnswer, StepReport, StoodAt, Topic, Unfinished}
+use Rattle.ulfm_report_laws.proofs.Common.{all_pass, any-push, AnswersAdoption, AnswersStep, cases_Bool, cases_eq, Agree, Agreed, Context, Contribution, Decision, Entrance, Entry, eq-eqb, false≢true, first_given, Fits, is_topic, IsTook, Known, ne_eqb, none-some, not-false, or_none, or_right, OutOfMemory, Refused, same_context, same_Some, Shrink, Shrunk, Skipped, State, Step, step_report, StepAnswer, StepReport, StoodAt, Topic, Unfinished}
 
 -- one while an agreement that was entered isn't adopted, else none
 abbrev open_rounds : Bool → ℕ
@@ -50,13 +50,13 @@ brings_none comm round e none = pick (entry_of (agreement_topic comm round) e) r
     pick None is = refl
     pick (Some brought) is =
         let parts = entry_parts (agreement_topic comm round) e brought is in
-        let one = counts parts.0 comm round parts.2 in
+        let one = counts parts.0 (agreement_topic comm round) parts.2 in
         let zero = ap (λ b. length (cond b (e ∷ []) [])) none in
         absurd (omega (arith, one, zero, ap (λ x. length (filter (enters_agreement comm.number) (x ∷ []))) parts.1))
 
 module _ (log : List Entry) (e : Entry) (comm : Context) (idle : IsIdleOn comm e) where
   same_agreements : agreements (log ++ e ∷ []) comm.number ≡ agreements log comm.number
-  same_agreements = omega (arith, agreements-more log (e ∷ []) comm.number, ap (λ b. length (cond b (e ∷ []) [])) idle.enters_none)
+  same_agreements = omega (arith, rounds-more log (e ∷ []) true comm.number, ap (λ b. length (cond b (e ∷ []) [])) idle.enters_none)
 
   same_entered : (round : ℕ) → has_entered (log ++ e ∷ []) (agreement_topic comm round) ≡ has_entered log (agreement_topic comm round)
   same_entered round =
@@ -88,7 +88,7 @@ told-more comm done x false is = omega (arith, ap length (filter-append (ends_ro
 
 module _ (log : List Entry) (entrance : Entrance) (comm : Context) (is : entrance.topic ≡ next_agreement log comm) where
   one_more : agreements (log ++ Entered entrance ∷ []) comm.number ≡ agreements log comm.number + 1
-  one_more = omega (arith, agreements-more log (Entered entrance ∷ []) comm.number, counts entrance comm (agreements log comm.number) is)
+  one_more = omega (arith, rounds-more log (Entered entrance ∷ []) true comm.number, counts entrance (next_agreement log comm) is)
 
   last_now : last_agreement (log ++ Entered entrance ∷ []) comm ≡ next_agreement log comm
   last_now =
@@ -98,7 +98,7 @@ module _ (log : List Entry) (entrance : Entrance) (comm : Context) (is : entranc
   not_adopted : AdoptsEntered log → RoundsCounted log → has_adopted (log ++ Entered entrance ∷ []) (next_agreement log comm) ≡ false
   not_adopted adopted counted = elim (cases_Bool (has_adopted log (next_agreement log comm))) [
     | inl was ↦
-        let below = counted comm (agreements log comm.number) (adopted (next_agreement log comm) was) in
+        let below = counted (next_agreement log comm) (adopted (next_agreement log comm) was) in
         absurd (omega (arith, below))
     | inr none ↦ any-push (adopts (next_agreement log comm)) log (Entered entrance) ∙ ap (λ b. b || false) none
   ]
@@ -116,7 +116,7 @@ module _ (log : List Entry) (held : Decision) (comm : Context) (is : held.topic 
   was_agreeing entered adopted = ap (λ b. b && not (has_adopted log (last_agreement log comm))) entered ∙ ap not adopted
 
   still : agreements (log ++ Adopted held ∷ []) comm.number ≡ agreements log comm.number
-  still = omega (arith, agreements-more log (Adopted held ∷ []) comm.number)
+  still = omega (arith, rounds-more log (Adopted held ∷ []) true comm.number)
 
   no_longer : is_agreeing (log ++ Adopted held ∷ []) comm ≡ false
   no_longer =
@@ -167,10 +167,6 @@ refused_silent : (comm : Context) (asked : Step) (e : CallError) → ends_round_
 refused_silent comm (Agree flag on) e = refl
 refused_silent comm _ e = refl
 
--- a decision that no check refuses is on the topic
-own_held : (old : State) (topic : Topic) (held : Decision) → Passes (adopt_checks old topic held) → held.topic ≡ topic
-own_held old topic held passes = (own_from old.me (group_at old topic.context.number) old.log topic held ((all_pass (adopt_checks old topic held) passes).1.1.1.1.0)).about
-
 -- a step that was told no value
 keeps_silent : (done : List StepReport) (log : List Entry) (x : StepReport) → ((comm : Context) → ends_round_by comm x.step x.answer ≡ false) → Keeps done log → Keeps (done ++ x ∷ []) log
 keeps_silent done log x silent k = (k.0, k.1, λ comm. omega (arith, k.2 comm, told-more comm done x false (silent comm)))
@@ -214,13 +210,13 @@ module _ (known : Known) (r : State) where
   adopted : (done : List StepReport) (old : State) (asked : Step) (answer : StepAnswer) (topic : Topic) (held : Decision) (new : State) (place polls : ℕ) → topic_of old.log asked ≡ Some topic → AnswersAdoption old asked topic held answer new → Keeps done old.log → Keeps (done ++ step_report asked answer place polls ∷ []) new.log
   adopted done old (Shrink on) (Shrunk child group me) topic held new place polls about a k =
       let x = step_report (Shrink on) (Shrunk child group me) place polls in
-      let is : held.topic ≡ shrink_topic on = (own_held old topic held a.0) ∙ sym (same_Some _ topic about) in
+      let is : held.topic ≡ last_shrink old.log on = (adopted_about old topic held a.0) ∙ sym (same_Some _ topic about) in
       rw a.4 (keeps_idle old.ranks old.me done (done ++ x ∷ []) old.log (Adopted held) (fits_adopted old topic held a.0)
       (λ comm. adoption_idle comm held (λ round. ap (λ t. is_topic t (agreement_topic comm round)) is ∙ and-false (eqb on.number comm.number)))
       (λ comm. omega (arith, told-more comm done x false refl)) k)
   adopted done old (Agree flag on) (Agreed value missing) topic held new place polls about a k =
       let x = step_report (Agree flag on) (Agreed value missing) place polls in
-      let is : held.topic ≡ last_agreement old.log on = (own_held old topic held a.0) ∙ sym (same_Some _ topic about) in
+      let is : held.topic ≡ last_agreement old.log on = (adopted_about old topic held a.0) ∙ sym (same_Some _ topic about) in
       let checks = all_pass (adopt_checks old topic held) a.0 in
       rw a.3 (keeps_by old.ranks old.me done (done ++ x ∷ []) old.log (Adopted held) (fits_adopted old topic held a.0) k (λ comm. elim (cases_eq on.number comm.number) [
         | inl same ↦
@@ -252,7 +248,7 @@ module _ (known : Known) (r : State) where
 -- a step that may enter an agreement enters it in the round of the steps before it
 pub in_turn : (known : Known) (r : State) (done : List StepReport) (from n : ℕ) (old : State) (comm : Context) → EachAnswerFollows known r [] 0 done from → OnlyTook r.log from n → StoodAt r n old → Passes (agree_checks old comm) → agreements old.log comm.number ≡ rounds_told comm done
 in_turn known r done from n old comm answers took stood passes =
-    let start : Keeps [] [] = ((λ t h. absurd (false≢true h)), (λ context round h. absurd (false≢true h)), (λ on. refl)) in
+    let start : Keeps [] [] = ((λ t h. absurd (false≢true h)), (λ topic h. absurd (false≢true h)), (λ on. refl)) in
     let idle : is_agreeing old.log comm ≡ false = (all_pass (agree_checks old comm) passes).1.1.0 in
     let k = walked_to known r Keeps (counted known r) done from n old answers took stood start in
     omega (arith, k.2 comm, ap open_rounds idle)

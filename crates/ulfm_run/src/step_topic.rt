@@ -2,10 +2,10 @@
 ghost use Rattle.std.specs.Prelude.{◌≡◌, ◌↔◌, IsTrue, Some};
 ghost use Rattle.ulfm_script.specs.Deciding.{topic_of};
 
-use ulfm_base::{Purpose, Topic};
+use ulfm_base::Topic;
 use ulfm_job::NotedStep;
 use ulfm_log::Entry;
-use ulfm_script::last_agreement;
+use ulfm_script::last_round;
 
 /// Whether a step of a rank with this log is decided on a topic.
 pub(crate) fn is_decided_on(step: &NotedStep, log: &[Entry], topic: Topic) -> bool
@@ -26,16 +26,10 @@ fn are_same(one: Topic, other: Topic) -> bool
 }
 
 /// On what a step of a rank with this log is decided, if it is a shrink or an agreement.
-#[tactic(auto, using(crate::proofs::Decided::shrink_topic_of, crate::proofs::Decided::agreement_topic_of, crate::proofs::Decided::no_topic_of))]
+#[tactic(auto, using(crate::proofs::Decided::round_topic_of, crate::proofs::Decided::no_topic_of))]
 fn topic_of(step: &NotedStep, log: &[Entry]) -> Option<Topic>
     ensures { result ≡ topic_of log.now step.now }
 {
     let context = step.decides_on()?;
-    if step.is_agreement() {
-        return Some(last_agreement(log, context));
-    }
-    Some(Topic {
-        context,
-        purpose: Purpose::Shrink,
-    })
+    Some(last_round(log, step.is_agreement(), context))
 }

@@ -4,14 +4,14 @@ use Rattle.std.specs.Fmt.{decimal}
 use Rattle.std.specs.List.{list_any}
 use Rattle.std.specs.Option.{option_or}
 use Rattle.ulfm_base.specs.Group.{rank_in}
-use Rattle.ulfm_base.specs.Topic.{is_topic, shrink_topic}
+use Rattle.ulfm_base.specs.Topic.{is_topic}
 use Rattle.ulfm_base.specs.declared.context.Context.{Context}
 use Rattle.ulfm_base.specs.declared.item.Item.{Item}
 use Rattle.ulfm_base.specs.declared.item.Item.TheVariants.{Gone, Enter}
 use Rattle.ulfm_base.specs.declared.tag.Tag.{Tag}
 use Rattle.ulfm_base.specs.declared.topic.Topic.{Topic}
 use Rattle.ulfm_log.specs.Communicators.{members_of}
-use Rattle.ulfm_log.specs.Proposal.{last_agreement}
+use Rattle.ulfm_log.specs.Proposal.{last_agreement, last_shrink}
 use Rattle.ulfm_log.specs.State.{State}
 use Rattle.ulfm_log.specs.declared.entry.Entry.{Entry}
 use Rattle.ulfm_log.specs.declared.entry.Entry.TheVariants.{Took}
@@ -147,7 +147,7 @@ group_in r comm = members_of r.ranks r.log comm.number
 abbrev pub awaited : State → List Entry → Step → List ℕ
 awaited r log (Recv source tag room comm) = senders (group_in r comm) source
 awaited r log (Probe source tag comm) = senders (group_in r comm) source
-awaited r log (Shrink comm) = not_heard r.me log (group_in r comm) (shrink_topic comm)
+awaited r log (Shrink comm) = not_heard r.me log (group_in r comm) (last_shrink log comm)
 awaited r log (Agree flag comm) = not_heard r.me log (group_in r comm) (last_agreement log comm)
 awaited r log _ = []
 

@@ -27,7 +27,7 @@ use Rattle.ulfm_schedule.specs.declared.schedule.Schedule.{Schedule}
 
 -- an entry into the shrink of a communicator, or into an agreement on it
 abbrev pub entry_text : Purpose → ℕ → List ℕ
-entry_text Shrink comm = codes "entry into the shrink of comm " ++ decimal comm
+entry_text (Shrink round) comm = codes "entry into the shrink of comm " ++ decimal comm
 entry_text (Agree round) comm = codes "entry into an agreement on comm " ++ decimal comm
 
 -- an item that goes out from the rank s

@@ -34,7 +34,7 @@ impl Cargo {
             Item::Gone => Cargo::Notice,
             Item::Revoke(context) => Cargo::Revocation(*context),
             Item::Enter(entrance) => match entrance.topic.purpose {
-                Purpose::Shrink => Cargo::Shrink(entrance.topic.context),
+                Purpose::Shrink { .. } => Cargo::Shrink(entrance.topic.context),
                 Purpose::Agree { .. } => Cargo::Agreement(entrance.topic.context),
             },
         }

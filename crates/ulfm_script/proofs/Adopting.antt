@@ -1,6 +1,7 @@
--- A rank that may adopt a decision is in its new group.
+-- A rank that may adopt a decision is in its new group, and the decision is about the topic.
 use Rattle.std.proofs.Common.{◌≡◌, ℕ, Bool, true, false, cond, List, [], ◌∷◌, ◌||◌, Option, Some, None, not, refl, nat_eq}
 use Rattle.ulfm_base.specs.Group.{is_member, one_further, rank_in}
+use Rattle.ulfm_log.proofs.Foreign.{own_affair}
 use Rattle.ulfm_rank.specs.Checks.{Passes, adopt_checks, group_at}
 use Rattle.ulfm_script.proofs.Common.{all_pass, is_topic, Topic, Decision, State, contradicts}
 use lib.Pointwise.{pointwise}
@@ -27,3 +28,6 @@ member_found (m ∷ group) r member none = found_first _ group r (member_found g
 pub adopter_is_member : (r : State) (t : Topic) (d : Decision) → Passes (adopt_checks r t d) → is_member d.fresh r.me ≡ true
 adopter_is_member r t d h =
     third_of_four (is_topic d.topic t) (pointwise nat_eq d.old (group_at r t.context.number)) (is_member d.fresh r.me) (contradicts r.me r.log t d) (all_pass (adopt_checks r t d) h).1.1.1.1.0
+
+pub adopted_about : (r : State) (t : Topic) (d : Decision) → Passes (adopt_checks r t d) → d.topic ≡ t
+adopted_about r t d h = (own_affair r.me (group_at r t.context.number) r.log t d (all_pass (adopt_checks r t d) h).1.1.1.1.0).about

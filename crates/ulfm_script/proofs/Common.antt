@@ -33,7 +33,7 @@ pub use Rattle.std.specs.Prelude.{Some, nat_lt, ⊤, ◌||◌}
 pub use Rattle.ulfm_base.specs.declared.error.CallError.TheVariants.{OutOfMemory}
 pub use Rattle.ulfm_base.specs.declared.rank_set.RankSet.{RankSet}
 pub use Rattle.ulfm_base.specs.declared.request_id.RequestId.{RequestId}
-pub use Rattle.ulfm_log.specs.Proposal.{agreements, contradicts, enters_agreement, entry_of, has_entered, is_foreign, last_agreement, next_agreement}
+pub use Rattle.ulfm_log.specs.Proposal.{agreements, contradicts, enters_agreement, enters_round, entry_of, has_entered, is_foreign, last_agreement, last_shrink, next_agreement, next_round, next_shrink, rounds_of}
 pub use Rattle.ulfm_answer.specs.Trace.{spaced, step_lines, trace_of}
 pub use Rattle.ulfm_script.specs.inside.Underway.{FollowsSoFar, GoesThrough, answer_of, has_stop, polls_left}
 pub use Rattle.ulfm_log.proofs.Entering.{Fits, RoundsCounted}

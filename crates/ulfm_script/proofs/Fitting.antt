@@ -1,7 +1,7 @@
 -- What a poll of a step adds to a log fits it, and is no adoption.
 use Rattle.std.proofs.Common.{◌≡◌, ℕ, Bool, true, false, List, [], ◌∷◌, ◌++◌, arith, refl, ap, sym, subst, inl, inr, ◌⊎◌}
-use Rattle.ulfm_rank.specs.Checks.{Passes, lacks, shrink_checks}
-use Rattle.ulfm_script.proofs.Common.{Adopted, agree_checks, agreements, all_pass, AnswersStep, Agree, Context, EntersBy, Topic, shrink_topic, Entered, Entry, LeavesOpen, logged, next_agreement, none-some, RoundsCounted, same_Some, Shrink, State, Step, StepAnswer, StepReport, not-false, has_entered, ⊤, Knows, Fits}
+use Rattle.ulfm_rank.specs.Checks.{shrink_checks}
+use Rattle.ulfm_script.proofs.Common.{Adopted, agree_checks, all_pass, AnswersStep, Agree, Context, EntersBy, Topic, Entered, Entry, LeavesOpen, logged, next_round, none-some, RoundsCounted, same_Some, Shrink, State, Step, StepAnswer, StepReport, not-false, has_entered, ⊤, Knows, Fits}
 use Rattle.ulfm_log.specs.Communicators.{is_made}
 use Rattle.ulfm_log.proofs.Entering.{IsInTurn}
 use Rattle.ulfm_script.proofs.Polls.{answers_plain, opens_adds}
@@ -41,35 +41,33 @@ answers_add done r asked answer new h = elim (answers_plain done r asked answer 
   | inr one ↦ adds_one r new one.0 (fits_apart r.ranks r.me r.log one.0 one.1.apart) (adopts_none one.0 one.1.apart) one.2
 ]
 
-pub shrink_passed : (r : State) (context : Context) → Passes (shrink_checks r context) → (lacks r context.number ≡ false) × (has_entered r.log (shrink_topic context) ≡ false)
-shrink_passed r context h = let all = all_pass (shrink_checks r context) h in (all.1.0, all.1.1.0)
-
 -- a topic that a rank may enter: its communicator was made, and it is new and in its turn
 abbrev pub IsNew : State → Topic → Type 0
-IsNew r t = (is_made r.ranks r.log t.context.number ≡ true) × (has_entered r.log t ≡ false) × IsInTurn r.log t.context.number t.purpose
+IsNew r t = (is_made r.ranks r.log t.context.number ≡ true) × (has_entered r.log t ≡ false) × IsInTurn r.log t
 
--- the next agreement wasn't entered
-next_is_new : (log : List Entry) (comm : Context) → RoundsCounted log → has_entered log (next_agreement log comm) ≡ false
-next_is_new log comm counted = refused (has_entered log (next_agreement log comm)) (λ is. let below = counted comm (agreements log comm.number) is in omega (arith, below))
-  where
-    refused : (b : Bool) → (b ≡ true → ⊥) → b ≡ false
-    refused true h = absurd (h refl)
-    refused false h = refl
+refused : (b : Bool) → (b ≡ true → ⊥) → b ≡ false
+refused true h = absurd (h refl)
+refused false h = refl
+
+-- the next round of a kind wasn't entered
+next_is_new : (log : List Entry) (g : Bool) (comm : Context) → RoundsCounted log → has_entered log (next_round log g comm) ≡ false
+next_is_new log true comm counted = refused (has_entered log (next_round log true comm)) (λ is. let below = counted (next_round log true comm) is in omega (arith, below))
+next_is_new log false comm counted = refused (has_entered log (next_round log false comm)) (λ is. let below = counted (next_round log false comm) is in omega (arith, below))
 
 -- what a step enters is new
 pub entered_new : (r : State) (asked : Step) (topic : Topic) (new : State) → RoundsCounted r.log → EntersBy r asked topic new → IsNew r topic
 entered_new r (Shrink comm) topic new counted h =
-    let ok = shrink_passed r comm h.accepted in
-    subst (IsNew r) (same_Some _ topic h.about) (not-false _ ok.0, ok.1, tt)
+    let ok = all_pass (shrink_checks false r comm) h.accepted in
+    subst (IsNew r) (same_Some _ topic h.about) (not-false _ ok.1.0, next_is_new r.log false comm counted, refl)
 entered_new r (Agree flag comm) topic new counted h =
     let ok = all_pass (agree_checks r comm) h.accepted in
-    subst (IsNew r) (same_Some _ topic h.about) (not-false _ ok.1.0, next_is_new r.log comm counted, refl)
+    subst (IsNew r) (same_Some _ topic h.about) (not-false _ ok.1.0, next_is_new r.log true comm counted, refl)
 entered_new r _ topic new counted h = absurd (none-some topic h.about)
 
 -- an entrance of a step fits
 pub fits_entered : (r : State) (asked : Step) (topic : Topic) (new : State) → RoundsCounted r.log → (h : EntersBy r asked topic new) → Fits r.ranks r.me r.log (Entered h.enters.entrance)
 fits_entered r asked topic new counted h =
-    let F : Topic → Type 0 = λ t. (is_made r.ranks r.log t.context.number ≡ true) × (has_entered r.log t ≡ false) × Knows r.log h.enters.entrance.contribution.known × IsInTurn r.log t.context.number t.purpose in
+    let F : Topic → Type 0 = λ t. (is_made r.ranks r.log t.context.number ≡ true) × (has_entered r.log t ≡ false) × Knows r.log h.enters.entrance.contribution.known × IsInTurn r.log t in
     let is : IsNew r topic = entered_new r asked topic new counted h in
     subst F (sym h.enters.about) (is.0, is.1, h.enters.knows, is.2)
 

@@ -78,7 +78,7 @@ module _ (known : Known) (r : State) (K : List Entry → Type 0) (step : (log : 
 
 -- what holds at the start, and is kept by each entry that a rank may add, holds of the log of a rank with right answers
 pub each_logged : (known : Known) (told : Report) (K : List Entry → Type 0) → ((log : List Entry) (e : Entry) → MayAdd known told.rank log e → K log → K (log ++ e ∷ [])) → K [] → AnswersFollow known told → K told.rank.log
-each_logged known told K step start h = (reported known told (λ done log. Held known told.rank K step log) (each_entry known told.rank K step) (λ context round was. absurd (false≢true was), start) h).1
+each_logged known told K step start h = (reported known told (λ done log. Held known told.rank K step log) (each_entry known told.rank K step) (λ topic was. absurd (false≢true was), start) h).1
 
 -- a rank with right answers keeps what logs keep of entrances and decisions
 pub keeps_of : (n r : ℕ) (known : Known) (told : Report) → AnswersFollow known told → told.rank.ranks ≡ n → told.rank.me ≡ r → r < n → Keeps n r told.rank.log

@@ -3,6 +3,7 @@ use Rattle.std.proofs.Common.{◌≡◌, ℕ, Bool, true, false, cond, List, ref
 use Rattle.ulfm_base.specs.declared.error.CallError.{CallError}
 use Rattle.ulfm_base.specs.declared.tag.Tag.{Tag}
 use Rattle.ulfm_log.specs.declared.entry.Entry.TheVariants.{Sent as SentEntry, Posted as PostedEntry, Acknowledged, Revoked as RevokedEntry, Duplicated, Entered, Adopted, Stopped as StopEntry, Took, Probed, Released, Received, Cancelled as CancelEntry}
+use Rattle.ulfm_log.specs.Communicators.{dups_of}
 use Rattle.ulfm_log.specs.declared.entry.Status.{Status}
 use Rattle.ulfm_log.specs.declared.entry.TestAnswer.TheVariants.{Done as TestDone, Over as TestOver}
 use Rattle.ulfm_job.specs.declared.step.Step.TheVariants.{Send, Recv, Wait, Probe, Mrecv, Cancel, Failed, Ack, Revoke, Dup, Shrink, Agree, Note, Stop}
@@ -96,7 +97,7 @@ module _ (done : List StepReport) (r new : State) (P : Step → StepAnswer → T
   each_answer (Ack count comm) (Refused e) h = same (Ack count comm) (Refused e) tt refl h.0.1
   each_answer (Revoke comm) Revoked h = idly (Revoke comm) Revoked tt (idle_unless (is_revoked r.log comm.number) r (Revoke comm) (RevokedEntry comm) new (record { idle = tt; apart = tt; stop = refl }) (λ was. inl refl) h.1)
   each_answer (Revoke comm) (Refused e) h = same (Revoke comm) (Refused e) tt refl h.0.1
-  each_answer (Dup comm) (Made made) h = idly (Dup comm) (Made made) tt (inr (Duplicated comm, record { idle = tt; apart = tt; stop = refl }, h.2))
+  each_answer (Dup comm) (Made made) h = idly (Dup comm) (Made made) tt (inr (Duplicated comm (dups_of r.log comm.number), record { idle = tt; apart = tt; stop = refl }, h.2))
   each_answer (Dup comm) (Refused e) h = same (Dup comm) (Refused e) tt refl h.1
   each_answer (Shrink comm) (Refused e) h = same (Shrink comm) (Refused e) tt refl h.1
   each_answer (Agree flag comm) (Refused e) h = same (Agree flag comm) (Refused e) tt refl h.1

@@ -1,13 +1,12 @@
 -- What the answer of a step says of its rank, and what it does to it.
 use Rattle.std.specs.Prelude.{◌≡◌, ℕ, ⊤, false, List, [], ◌<◌, ◌≤◌, length, filter_map, Option, Some, None, slice_get, if◌then◌else◌}
-use Rattle.ulfm_base.specs.Topic.{shrink_topic}
 use Rattle.ulfm_base.specs.declared.topic.Topic.{Topic}
 use Rattle.ulfm_base.specs.declared.context.Context.{Context}
 use Rattle.ulfm_base.specs.declared.tag.Tag.{Tag}
 use Rattle.ulfm_base.specs.declared.pattern.Pattern.{Pattern}
 use Rattle.ulfm_base.specs.declared.error.CallError.{CallError}
 use Rattle.ulfm_base.specs.declared.error.CallError.TheVariants.{NoRequest, OutOfMemory}
-use Rattle.ulfm_base.specs.Context.{dup_of}
+use Rattle.ulfm_base.specs.Context.{nth_dup}
 use Rattle.ulfm_base.specs.Group.{rank_in}
 use Rattle.ulfm_base.specs.declared.request_id.RequestId.{RequestId}
 use Rattle.ulfm_match.specs.History.{count_before}
@@ -24,7 +23,8 @@ use Rattle.ulfm_rank.specs.History.{history_of}
 use Rattle.ulfm_rank.specs.Answer.{IsRequest, IsNoRequest, IsTestAnswer, is_release}
 use Rattle.ulfm_rank.specs.Checks.{Check, Passes, Fails, FailsOrStarves, group_at, comm_checks, send_checks, receive_checks, dup_checks, shrink_checks, agree_checks}
 use Rattle.ulfm_rank.specs.Calls.{Sends, Posts, Enters, acknowledging, revoking, stopping}
-use Rattle.ulfm_log.specs.Proposal.{next_agreement}
+use Rattle.ulfm_log.specs.Communicators.{dups_of}
+use Rattle.ulfm_log.specs.Proposal.{next_agreement, next_shrink}
 use Rattle.ulfm_rank.specs.Messages.{IsMessage, IsNoMessage, IsMessageAnswer, IsProbed, FindsNone, IsProbeRefusal}
 use Rattle.ulfm_job.specs.declared.step.Step.{Step}
 use Rattle.ulfm_job.specs.declared.step.Step.TheVariants.{Send, Recv, Wait, Probe, Mrecv, Cancel, Failed, Ack, Revoke, Dup, Shrink, Agree, Note, Stop}
@@ -200,19 +200,19 @@ AnswersRevoke r comm _ new = ⊥
 -- the duplicate is made, or refused
 abbrev pub AnswersDup : State → Context → StepAnswer → State → Type 0
 AnswersDup r comm (Made child) new =
-    Passes (dup_checks r comm.number) × (child.context.number ≡ dup_of comm.number) × (new ≡ logged r (Duplicated comm))
-AnswersDup r comm (Refused e) new = Refuses (dup_checks r comm.number) e r new
+    Passes (dup_checks false r comm.number) × (child.context.number ≡ nth_dup (dups_of r.log comm.number) comm.number) × (new ≡ logged r (Duplicated comm (dups_of r.log comm.number)))
+AnswersDup r comm (Refused e) new = Refuses (dup_checks false r comm.number) e r new
 AnswersDup r comm _ new = ⊥
 
 -- why the entry of a step is refused that ranks decide together
 abbrev pub entry_checks : State → Step → List Check
-entry_checks r (Shrink comm) = shrink_checks r comm
+entry_checks r (Shrink comm) = shrink_checks false r comm
 entry_checks r (Agree flag comm) = agree_checks r comm
 entry_checks r _ = []
 
--- what a step enters that ranks decide together: the shrink of its communicator, or the next agreement on it
+-- what a step enters that ranks decide together: the next shrink of its communicator, or the next agreement on it
 abbrev pub entered_by : List Entry → Step → Option Topic
-entered_by log (Shrink comm) = Some (shrink_topic comm)
+entered_by log (Shrink comm) = Some (next_shrink log comm)
 entered_by log (Agree flag comm) = Some (next_agreement log comm)
 entered_by log _ = None
 

@@ -1,11 +1,11 @@
 -- How the decision of a shrink or an agreement is asked for and adopted.
 use Rattle.std.specs.Prelude.{◌≡◌, ℕ, true, List, ◌⊎◌, filter_map, length, Option, Some, None}
-use Rattle.ulfm_base.specs.Topic.{shrink_topic}
+use Rattle.ulfm_base.specs.Topic.{round_of}
 use Rattle.ulfm_base.specs.declared.context.Context.{Context}
 use Rattle.ulfm_base.specs.declared.decision.Decision.{Decision}
 use Rattle.ulfm_base.specs.declared.error.CallError.TheVariants.{OutOfMemory}
 use Rattle.ulfm_base.specs.declared.topic.Topic.{Topic}
-use Rattle.ulfm_base.specs.Context.{shrink_of}
+use Rattle.ulfm_base.specs.Context.{nth_shrink}
 use Rattle.ulfm_base.specs.Decision.{left_out}
 use Rattle.ulfm_base.specs.Group.{rank_in}
 pub use Rattle.ulfm_board.specs.Known.{Known}
@@ -14,7 +14,7 @@ use Rattle.ulfm_log.specs.declared.entry.Entry.{Entry}
 use Rattle.ulfm_log.specs.declared.entry.Entry.TheVariants.{Adopted}
 use Rattle.ulfm_log.specs.State.{State, logged}
 use Rattle.ulfm_rank.specs.Checks.{Passes, group_at, proposal_checks, adopt_checks}
-use Rattle.ulfm_log.specs.Proposal.{has_proposal, IsProposal, last_agreement}
+use Rattle.ulfm_log.specs.Proposal.{has_proposal, IsProposal, last_agreement, last_shrink}
 use Rattle.ulfm_job.specs.Job.{decides_on}
 use Rattle.ulfm_job.specs.declared.step.Step.{Step}
 use Rattle.ulfm_job.specs.declared.step.Step.TheVariants.{Shrink, Agree}
@@ -25,9 +25,9 @@ use Rattle.ulfm_script.specs.declared.called.Decided.TheVariants.{Answered, NotR
 use Rattle.ulfm_script.specs.Calls.{Refuses}
 use Rattle.ulfm_script.specs.Player.{Player, with_rank, answered}
 
--- what a step that was entered is decided on: the shrink of its communicator, or the agreement on it that the rank entered last
+-- what a step that was entered is decided on: the shrink of its communicator, or the agreement on it, that the rank entered last
 abbrev pub topic_of : List Entry → Step → Option Topic
-topic_of log (Shrink comm) = Some (shrink_topic comm)
+topic_of log (Shrink comm) = Some (last_shrink log comm)
 topic_of log (Agree flag comm) = Some (last_agreement log comm)
 topic_of log _ = None
 
@@ -40,7 +40,7 @@ missing_in d = filter_map (λ member. rank_in d.old member) (left_out d.old d.en
 abbrev pub AnswersAdoption : State → Step → Topic → Decision → StepAnswer → State → Type 0
 AnswersAdoption r (Shrink comm) topic held (Shrunk child group me) new =
     Passes (adopt_checks r topic held)
-    × (child.context.number ≡ shrink_of comm.number)
+    × (child.context.number ≡ nth_shrink (round_of held.topic.purpose) comm.number)
     × (group ≡ held.fresh)
     × (rank_in held.fresh r.me ≡ Some me)
     × (new ≡ logged r (Adopted held))

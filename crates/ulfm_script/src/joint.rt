@@ -1,10 +1,9 @@
 //! The polls of a step that ranks decide together, a shrink or an agreement: it is entered, and then decided (ULFM).
 ghost use Rattle.std.specs.Prelude.{◌≡◌, false, IfSome, IfNone, IsSome, IsTrue};
 ghost use Rattle.std.specs.declared.option.Option.TheVariants.{Some};
-ghost use Rattle.ulfm_base.specs.Topic.{shrink_topic};
 ghost use Rattle.ulfm_base.specs.declared.topic.Topic.{Topic};
 ghost use Rattle.ulfm_job.specs.declared.step.Step.TheVariants.{Shrink, Agree};
-ghost use Rattle.ulfm_log.specs.Proposal.{last_agreement};
+ghost use Rattle.ulfm_log.specs.Proposal.{last_agreement, last_shrink};
 ghost use Rattle.ulfm_script.specs.Calls.{AnswersEntry, EntersSome};
 ghost use Rattle.ulfm_script.specs.Deciding.{AnswersAdoption, AnswersDecision, HasProposal, IsReady, KnowsNone, topic_of};
 ghost use Rattle.ulfm_script.specs.inside.Joint.{Proposed, ProposedOn};
@@ -80,10 +79,10 @@ fn proposal(rank: &Rank, step: &Step) -> Option<Decision>
     }
 }
 
-/// What the rank proposes for the shrink of a communicator, if it has a proposal.
+/// What the rank proposes for the shrink of a communicator that it entered last, if it has a proposal.
 fn shrink_proposal(rank: &Rank, context: Context) -> Option<Decision>
-    ensures proposed { IfSome result (ProposedOn rank.now.state (shrink_topic context)) }
-    ensures none { IfNone result (HasProposal rank.now.state (shrink_topic context) → ⊥) }
+    ensures proposed { IfSome result (ProposedOn rank.now.state (last_shrink rank.now.state.log context)) }
+    ensures none { IfNone result (HasProposal rank.now.state (last_shrink rank.now.state.log context) → ⊥) }
 {
     rank.proposal(Comm { context }).ok()?
 }
@@ -112,7 +111,7 @@ fn adopt(alloc: Global, rank: &mut Rank, step: &Step, held: Decision) -> StepAns
 
 /// The answer of a shrink that adopts this decision.
 fn adopt_shrink(rank: &mut Rank, context: Context, held: Decision) -> StepAnswer
-    ensures answers { AnswersAdoption rank.old.state (Shrink context) (shrink_topic context) held result rank.new.state }
+    ensures answers { AnswersAdoption rank.old.state (Shrink context) (last_shrink rank.old.state.log context) held result rank.new.state }
     ensures room_lacked { result ≡ StepAnswer.Refused CallError.OutOfMemory → rank.old.prepared ≡ false }
     ensures keeps_room { KeepsRoom rank.old rank.new }
 {

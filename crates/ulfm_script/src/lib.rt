@@ -47,5 +47,5 @@ pub use hands::{Hands, turn};
 pub use player::Player;
 pub use receiving::{message_at, request_at};
 pub use report::RankReport;
-pub use topic::{last_agreement, topic_of};
+pub use topic::{last_round, topic_of};
 pub use trace::trace_text;

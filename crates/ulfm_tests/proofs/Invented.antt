@@ -78,8 +78,8 @@ listed_too d one brought value member empty fits is_value = record {
     entries = set d.entries one (Some brought)
 
 -- a member is listed with no failures in the decision of a shrink, and all else is as before
-pub also_listed : (d : Decision) (one : ℕ) (known : RankSet) → is_member d.old one ≡ true → ((r : ℕ) → has known r ≡ false) → d.topic.purpose ≡ Shrink → IsLawfulDecision d.topic d.old (set d.entries one (Some (record { known = known; flag = None }))) d.excluded d.fresh d.value
-also_listed d one known member empty shrinks =
+pub also_listed : (d : Decision) (one round : ℕ) (known : RankSet) → is_member d.old one ≡ true → ((r : ℕ) → has known r ≡ false) → d.topic.purpose ≡ Shrink round → IsLawfulDecision d.topic d.old (set d.entries one (Some (record { known = known; flag = None }))) d.excluded d.fresh d.value
+also_listed d one round known member empty shrinks =
     let none : Contribution = record { known = known; flag = None } in
     let entries : List (Option Contribution) = set d.entries one (Some none) in
     listed_too d one none d.value member empty (sym (ap is_agreement shrinks)) (d.lawful.and_of_flags ∙ ap (λ p. value_of p d.entries) shrinks ∙ ap (λ p. value_of p entries) (sym shrinks))

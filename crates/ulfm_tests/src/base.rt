@@ -1,7 +1,7 @@
 //! Worked examples.
 
 use std::test::Fail;
-use ulfm_base::{CallError, Group, RankSet, WorldRank};
+use ulfm_base::{CallError, Context, Group, RankSet, WorldRank};
 
 // The world of four ranks, and the same without rank 1.
 fn four_and_three(rt: &HostRuntime) -> Result<(Group, Group), CallError> {
@@ -78,5 +78,36 @@ fn refusals_have_numbers_and_names(rt: HostRuntime) -> Result<(), Fail> {
         write!(names, "{error}\n")?;
     }
     assert_eq!(rt; names.as_str(), NAMES);
+    Ok(())
+}
+
+// The contexts of the world's first duplicates, each with that of the shrink of the same number.
+const CHILDREN: [(u64, u64); 5] = [(1, 2), (67, 75), (91, 71), (103, 119), (151, 167)];
+
+// Whether a context is there, and has this number.
+fn has_number(context: Option<Context>, number: u64) -> bool {
+    match context {
+        Some(context) => context.number == number,
+        None => false,
+    }
+}
+
+#[test]
+fn children_are_numbered_by_their_paths(rt: HostRuntime) -> Result<(), Fail> {
+    let mut count = 0_u64;
+    for (dup, shrink) in CHILDREN {
+        let are_numbered = has_number(Context::WORLD.nth_dup(count), dup)
+            && has_number(Context::WORLD.nth_shrink(count), shrink);
+        assert!(rt; are_numbered);
+        count = count.saturating_add(1);
+    }
+    Ok(())
+}
+
+#[test]
+fn the_world_has_no_duplicate_past_the_last_context(rt: HostRuntime) -> Result<(), Fail> {
+    let is_last = Context::WORLD.nth_dup(3_495_252).is_some()
+        && Context::WORLD.nth_dup(3_495_253).is_none();
+    assert!(rt; is_last);
     Ok(())
 }

@@ -1,6 +1,5 @@
 //! Seats of one board, which answer what one of them was handed.
 ghost use Rattle.std.specs.Prelude.{◌<◌};
-ghost use Rattle.ulfm_base.specs.Context.{shrink_of};
 
 use std::alloc::Global;
 use std::test::Fail;
@@ -11,7 +10,7 @@ use ulfm_board::{Decider, Seat, seats};
 
 // The decision to exclude each of n ranks, none of which is listed.
 fn none_left(alloc: Global, context: Context, n: u8) -> Result<Decision, CallError>
-    requires { shrink_of context.number < 63 }
+    requires { context.number < 31 }
 {
     let old = Group::world(alloc, n)?;
     let excluded = old.members();
@@ -19,7 +18,7 @@ fn none_left(alloc: Global, context: Context, n: u8) -> Result<Decision, CallErr
     let decision = Decision {
         topic: Topic {
             context,
-            purpose: Purpose::Shrink,
+            purpose: Purpose::Shrink { round: 0 },
         },
         old,
         entries: [None; 8],
@@ -38,7 +37,7 @@ fn answers(seat: &mut Seat, decision: Decision, by: &Decision) -> Result<bool, F
 // Whether a seat answers the decision of a context that excludes so many ranks by the one that excludes as many as are wanted.
 fn answers_by_size(
     seat: &mut Seat,
-    context: u8,
+    context: u64,
     handed_in: u8,
     wanted: u8,
     alloc: Global,

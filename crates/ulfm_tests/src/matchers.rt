@@ -36,7 +36,7 @@ fn below(draws: &mut Pcg32, bound: u32) -> u32
 /// Draws one of two contexts.
 fn context(draws: &mut Pcg32) -> Context {
     Context {
-        number: below(draws, 2) as u8,
+        number: u64::from(below(draws, 2)),
     }
 }
 

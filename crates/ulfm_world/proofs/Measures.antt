@@ -46,6 +46,5 @@ leaves_weight n {old} {new} d inside k =
     elsewhere : (x : ℕ) → x ≢ d → outbox new x ≡ outbox old x
     elsewhere x other = rw k.marked (rw (get_or-set_other old.marks d x (marked old (mark_at old d)) no_mark other) refl)
 
-pub leaves_fresh : {old new : State} (d : ℕ) {item : Item} → GoesOut old new d item → fresh_of new ≡ fresh_of old
-unfolding fresh_of
-leaves_fresh d k = ap fresh_of k.marked
+pub leaves_fresh : (contexts : List ℕ) {old new : State} (d : ℕ) {item : Item} → GoesOut old new d item → fresh_of contexts new.log ≡ fresh_of contexts old.log
+leaves_fresh contexts d k = ap (λ (s : State). fresh_of contexts s.log) k.marked

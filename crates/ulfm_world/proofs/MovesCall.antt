@@ -9,13 +9,14 @@ use Rattle.ulfm_script.proofs.Advance.{Ready, Advances, advance-called, advance-
 use Rattle.ulfm_script.proofs.Reacting.{goes-called, goes-decided, goes-skipped}
 use Rattle.ulfm_report_laws.proofs.Spent.{goes-spent}
 use Rattle.ulfm_world.proofs.Measures.{measure-player}
+use Rattle.ulfm_world.specs.inside.Rounds.{all_contexts}
 use Rattle.ulfm_world.proofs.Weights.{adds_weight}
 use Rattle.ulfm_world.proofs.Runs.{reaches-one}
 use Rattle.ulfm_world.proofs.Rightly.{rightly-calls, rightly-leaves, rightly-skips, rightly-decides}
 
 -- less is left to a player that goes on, with what it may still send
 pub weight-advances : {script : List Step} {turns n : ℕ} {old : Player} (new : Player) → IsState old.rank → n ≡ old.rank.ranks → is_stopped old.rank.log ≡ false → Advances script turns old new → weight_of script turns n new < weight_of script turns n old
-weight-advances {n} {old} new sound size running a = omega (arith, a.falls, adds_weight n sound size running a.adds)
+weight-advances {n} {old} new sound size running a = omega (arith, a.falls, adds_weight all_contexts n sound size running a.adds)
 
 -- what a player moves, the world moves, whatever is decided then
 pub moves-player : (j : JobView) (w : World) (r : ℕ) {p : Player} (decided : Known) → r < length w.players → IsWorld w → IsRunning w r → Follows j w → Advances (script_at j r) j.turns (player_at w r) p → GoesThrough j r p → (AllAnswersFollowSoFar w → AllAnswersFollowSoFar (with_decided (with_player w r p) decided)) → Reaches w (with_decided (with_player w r p) decided) → Moves j w (with_decided (with_player w r p) decided) true

@@ -2,7 +2,8 @@
 use Rattle.std.proofs.Common.{◌≡◌, ℕ, ◌+◌, ◌<◌, true, List, [], ◌∷◌, ◌++◌, length, set, refl, ap, sym, subst, ◌∙◌, arith, length-append, length-set, inl, inr}
 use Rattle.ulfm_world.proofs.Common.{WorldRank, Item, Took, is_stopped, State, logged, Player, with_rank, JobView, Push, Take, World, player_in, player_at, rank_at, inbox_at, with_player, with_inbox, Pushes, Takes, IsWorld, false≢true, cases_eq, Follows, Moves, GoesThrough, stopped-push, or-false}
 use Rattle.ulfm_script.proofs.Reacting.{goes-rank}
-use Rattle.ulfm_world.proofs.Weights.{out-took}
+use Rattle.ulfm_world.specs.inside.Rounds.{all_contexts}
+use Rattle.ulfm_world.proofs.Weights.{among_all, out-took}
 use Rattle.ulfm_world.proofs.Changed.{player-same, player-other}
 use Rattle.ulfm_world.proofs.Measures.{measure-at, players_part-set, inboxes_part-set, leaves_weight, leaves_fresh}
 use Rattle.ulfm_world.proofs.Runs.{reaches-one}
@@ -31,7 +32,7 @@ moves-push j w s d h t =
     let parts = players_part-set j n w s p refl t.inside_s in
     let boxes = inboxes_part-set n w made d xs (sym h.as_many) t.inside_d refl in
     let lighter = leaves_weight n d t.inside_d t.leaves in
-    let fresh = leaves_fresh d t.leaves in
+    let fresh = leaves_fresh all_contexts d t.leaves in
     let one : length xs ≡ length (inbox_at w d) + 1 = omega (arith, length-append (inbox_at w d) ((t.sender, t.item) ∷ [])) in
     let stop : is_stopped t.after.log ≡ is_stopped (rank_at w s).log = ap (λ (r : State). is_stopped r.log) t.leaves.marked in
     rw t.only (record {
@@ -56,7 +57,7 @@ moves-take j w r w' h t =
     let same_size = length-set w.players r p in
     let parts = players_part-set j n w r p refl t.inside in
     let boxes = inboxes_part-set n w made r t.rest (sym h.as_many) t.inside refl in
-    let lighter = out-took n t.source t.item (h.sound r t.inside) (sym (h.counted r t.inside)) t.running in
+    let lighter = out-took all_contexts n t.source t.item (λ c is. among_all c) (h.sound r t.inside) (sym (h.counted r t.inside)) t.running in
     let one : length (inbox_at w r) ≡ length t.rest + 1 = omega (arith, ap (λ (ys : List (WorldRank × Item)). length ys) t.found) in
     rw t.only (record {
       reaches = reaches-one w (Take r) made (rw t.only at t);

@@ -1,10 +1,13 @@
 -- What one more entry changes of what a rank may still send.
 use Rattle.std.proofs.Common.{◌≡◌, ℕ, ◌+◌, ◌*◌, ◌<◌, ◌≤◌, Bool, true, false, cond, eqb, List, [], ◌∷◌, ◌++◌, length, drop, refl, ap, ◌∙◌, arith, inl, inr, append-nil, length-append, ◌||◌}
-use Rattle.ulfm_world.specs.inside.Rounds.{fresh_of}
+use Rattle.std.proofs.lemmas.Bool.{eqb-true, false≢true, or_cases}
+use Rattle.ulfm_world.specs.inside.Rounds.{all_contexts, fresh_of}
 use Rattle.ulfm_world.proofs.Common.{WorldRank, Context, Item, Entry, Took, cases_Bool, eq-eqb, or_right, Adds, is_stop, is_stopped, is_revoked, revokes, any-push, drop-append-le, out_at, fresh_at, owes-logged, stopped-push, owed_by_few, State, IsState, logged, owes, outbox, mark_at, or-false}
 use Rattle.ulfm_base.specs.declared.item.Item.TheVariants.{Letter as Mail, Gone, Revoke, Enter}
 use Rattle.ulfm_log.specs.Owed.{owed_by}
-use Rattle.ulfm_world.proofs.Sums.{sum-within, sum-le, sum-falls}
+use Rattle.ulfm_base.proofs.Among.{world_member}
+use Rattle.ulfm_base.specs.Group.{is_member}
+use Rattle.ulfm_world.proofs.Sums.{sum-within, sum-le}
 
 after_stop : (a b : Bool) → length (cond a [] (cond b [] (Gone ∷ []))) ≤ 1
 after_stop true b = omega arith
@@ -28,24 +31,29 @@ out-logged : (n : ℕ) (r : State) (e : Entry) → IsState r → n ≡ r.ranks �
 out-logged n r e h size running =
     omega (arith, h.small, size, sum-within n 2 (λ d. 2 * length (outbox (logged r e) d)) (λ d. 2 * length (outbox r d)) (λ d k. outbox_more r e d h (omega (arith, k, size)) running))
 
-fresh_more : (r : State) (e : Entry) (c : ℕ) → fresh_at (logged r e) c ≤ fresh_at r c
-fresh_more r e c = rw (any-push (revokes c) r.log e) (one (is_revoked r.log c) (revokes c e))
+fresh_more : (log : List Entry) (e : Entry) (c : ℕ) → fresh_at (log ++ e ∷ []) c ≤ fresh_at log c
+fresh_more log e c = rw (any-push (revokes c) log e) (one (is_revoked log c) (revokes c e))
   where
     one : (a b : Bool) → cond (a || b) 0 17 ≤ cond a 0 17
     one true b = omega arith
     one false true = omega arith
     one false false = omega arith
 
-fresh-logged : (r : State) (e : Entry) → fresh_of (logged r e) ≤ fresh_of r
-unfolding fresh_of
-fresh-logged r e = sum-le 63 (fresh_at (logged r e)) (fresh_at r) (λ c k. fresh_more r e c)
+fresh-logged : (contexts : List ℕ) (log : List Entry) (e : Entry) → fresh_of contexts (log ++ e ∷ []) ≤ fresh_of contexts log
+fresh-logged [] log e = omega arith
+fresh-logged (c ∷ contexts) log e = omega (arith, fresh_more log e c, fresh-logged contexts log e)
 
 -- a first revocation
-fresh_falls : (r : State) (e : Entry) (c : ℕ) → c < 63 → is_revoked r.log c ≡ false → revokes c e ≡ true → fresh_of (logged r e) + 17 ≤ fresh_of r
-unfolding fresh_of
-fresh_falls r e c inside fresh now =
-    let revoked : is_revoked (r.log ++ e ∷ []) c ≡ true = any-push (revokes c) r.log e ∙ or_right (is_revoked r.log c) (revokes c e) now in
-    sum-falls 63 c 17 (fresh_at (logged r e)) (fresh_at r) inside (λ x k. fresh_more r e x) (rw (revoked, fresh) (omega arith))
+fresh_falls : (contexts : List ℕ) (log : List Entry) (e : Entry) (c : ℕ) → is_member contexts c ≡ true → is_revoked log c ≡ false → revokes c e ≡ true → fresh_of contexts (log ++ e ∷ []) + 17 ≤ fresh_of contexts log
+fresh_falls [] log e c inside fresh now = absurd (false≢true inside)
+fresh_falls (d ∷ contexts) log e c inside fresh now = elim (or_cases (eqb d c) (is_member contexts c) inside) [
+  | inl here ↦
+      let revoked : is_revoked (log ++ e ∷ []) c ≡ true = any-push (revokes c) log e ∙ or_right (is_revoked log c) (revokes c e) now in
+      let after : fresh_at (log ++ e ∷ []) d ≡ 0 = ap (fresh_at (log ++ e ∷ [])) (eqb-true d c here) ∙ ap (λ (b : Bool). cond b 0 17) revoked in
+      let before : fresh_at log d ≡ 17 = ap (fresh_at log) (eqb-true d c here) ∙ ap (λ (b : Bool). cond b 0 17) fresh in
+      omega (arith, after, before, fresh-logged contexts log e)
+  | inr there ↦ omega (arith, fresh_more log e d, fresh_falls contexts log e c there fresh now)
+]
 
 -- an entry that owes nothing
 out_same : (n : ℕ) (r : State) (e : Entry) → is_stop e ≡ false → ((d : ℕ) → owed_by r.ranks r.me d r.log e ≡ []) → out_at n (logged r e) ≤ out_at n r
@@ -56,22 +64,29 @@ out_same n r e go none =
     let same : owes (logged r e) d ≡ owes r d = owes-logged r e d ∙ ap (λ (xs : List Item). owes r d ++ xs) (none d) ∙ append-nil (owes r d) in
     rw (stop, same) (omega arith))
 
-took_light : (n : ℕ) (r : State) (source : WorldRank) (item : Item) → ((d : ℕ) → owed_by r.ranks r.me d r.log (Took source item) ≡ []) → out_at n (logged r (Took source item)) + fresh_of (logged r (Took source item)) ≤ out_at n r + fresh_of r
-took_light n r source item none = omega (arith, out_same n r (Took source item) refl none, fresh-logged r (Took source item))
+took_light : (contexts : List ℕ) (n : ℕ) (r : State) (source : WorldRank) (item : Item) → ((d : ℕ) → owed_by r.ranks r.me d r.log (Took source item) ≡ []) → out_at n (logged r (Took source item)) + fresh_of contexts (logged r (Took source item)).log ≤ out_at n r + fresh_of contexts r.log
+took_light contexts n r source item none = omega (arith, out_same n r (Took source item) refl none, fresh-logged contexts r.log (Took source item))
 
-took_revoke : (b : Bool) (n : ℕ) (r : State) (source : WorldRank) (context : Context) → IsState r → n ≡ r.ranks → is_stopped r.log ≡ false → is_revoked r.log context.number ≡ b → out_at n (logged r (Took source (Revoke context))) + fresh_of (logged r (Took source (Revoke context))) ≤ out_at n r + fresh_of r
-took_revoke true n r source context h size running was = took_light n r source (Revoke context) (λ d. rw was refl)
-took_revoke false n r source context h size running fresh =
-    omega (arith, out-logged n r (Took source (Revoke context)) h size running, fresh_falls r (Took source (Revoke context)) context.number context.in_range fresh (eq-eqb context.number context.number refl))
+took_revoke : (contexts : List ℕ) (b : Bool) (n : ℕ) (r : State) (source : WorldRank) (context : Context) → is_member contexts context.number ≡ true → IsState r → n ≡ r.ranks → is_stopped r.log ≡ false → is_revoked r.log context.number ≡ b
+    → out_at n (logged r (Took source (Revoke context))) + fresh_of contexts (logged r (Took source (Revoke context))).log ≤ out_at n r + fresh_of contexts r.log
+took_revoke contexts true n r source context inside h size running was = took_light contexts n r source (Revoke context) (λ d. rw was refl)
+took_revoke contexts false n r source context inside h size running fresh =
+    omega (arith, out-logged n r (Took source (Revoke context)) h size running, fresh_falls contexts r.log (Took source (Revoke context)) context.number inside fresh (eq-eqb context.number context.number refl))
 
 -- an entry of the rank's own adds little
-pub adds_weight : (n : ℕ) {r : State} {stops : Bool} {new : State} → IsState r → n ≡ r.ranks → is_stopped r.log ≡ false → Adds r stops new → out_at n new + fresh_of new ≤ (out_at n r + fresh_of r) + 16
-adds_weight n h size running (inl same) = rw same.0 (omega arith)
-adds_weight n {r} h size running (inr one) = rw one.only (omega (arith, out-logged n r one.entry h size running, fresh-logged r one.entry))
+pub adds_weight : (contexts : List ℕ) (n : ℕ) {r : State} {stops : Bool} {new : State} → IsState r → n ≡ r.ranks → is_stopped r.log ≡ false → Adds r stops new → out_at n new + fresh_of contexts new.log ≤ (out_at n r + fresh_of contexts r.log) + 16
+adds_weight contexts n h size running (inl same) = rw same.0 (omega arith)
+adds_weight contexts n {r} h size running (inr one) = rw one.only (omega (arith, out-logged n r one.entry h size running, fresh-logged contexts r.log one.entry))
 
--- an item that is taken adds nothing to what the rank may still send
-pub out-took : (n : ℕ) {r : State} (source : WorldRank) (item : Item) → IsState r → n ≡ r.ranks → is_stopped r.log ≡ false → out_at n (logged r (Took source item)) + fresh_of (logged r (Took source item)) ≤ out_at n r + fresh_of r
-out-took n {r} source (Revoke context) h size running = took_revoke (is_revoked r.log context.number) n r source context h size running refl
-out-took n {r} source (Mail letter) h size running = took_light n r source (Mail letter) (λ d. refl)
-out-took n {r} source Gone h size running = took_light n r source Gone (λ d. refl)
-out-took n {r} source (Enter entrance) h size running = took_light n r source (Enter entrance) (λ d. refl)
+-- an item that is taken adds nothing to what the rank may still send, where the context of a revocation is one of these
+pub out-took : (contexts : List ℕ) (n : ℕ) {r : State} (source : WorldRank) (item : Item) → ((c : Context) → item ≡ Revoke c → is_member contexts c.number ≡ true) → IsState r → n ≡ r.ranks → is_stopped r.log ≡ false
+    → out_at n (logged r (Took source item)) + fresh_of contexts (logged r (Took source item)).log ≤ out_at n r + fresh_of contexts r.log
+out-took contexts n {r} source (Revoke context) among h size running = took_revoke contexts (is_revoked r.log context.number) n r source context (among context refl) h size running refl
+out-took contexts n {r} source (Mail letter) among h size running = took_light contexts n r source (Mail letter) (λ d. refl)
+out-took contexts n {r} source Gone among h size running = took_light contexts n r source Gone (λ d. refl)
+out-took contexts n {r} source (Enter entrance) among h size running = took_light contexts n r source (Enter entrance) (λ d. refl)
+
+-- each context is one of all
+pub among_all : (context : Context) → is_member all_contexts context.number ≡ true
+unfolding all_contexts
+among_all context = world_member 0 35184372088832 context.number (omega arith) (omega (arith, context.in_range))

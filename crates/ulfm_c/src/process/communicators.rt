@@ -1,10 +1,10 @@
 //! Communicators and their groups (MPI 4.0, chapter 7).
-ghost use Rattle.std.specs.Prelude.{◌≡◌, Some, None, IfOk, IfErr, OnOk, OnErr};
-ghost use Rattle.ulfm_base.specs.Context.{dup_of};
+ghost use Rattle.std.specs.Prelude.{◌≡◌, false, Some, None, IfOk, IfErr, OnOk, OnErr};
+ghost use Rattle.ulfm_base.specs.Context.{nth_dup};
 ghost use Rattle.ulfm_c.specs.View.{with_rank};
 ghost use Rattle.ulfm_log.specs.declared.entry.Entry.TheVariants.{Duplicated};
 ghost use Rattle.ulfm_rank.specs.Checks.{Passes, FailsOrStarves, dup_checks};
-ghost use Rattle.ulfm_log.specs.Communicators.{group_of};
+ghost use Rattle.ulfm_log.specs.Communicators.{dups_of, group_of};
 ghost use Rattle.ulfm_log.specs.State.{logged};
 
 use super::Process;
@@ -33,10 +33,10 @@ impl Process {
     /// is revoked, else `AlreadyMade` where it was duplicated before, else `NoContext` where there is no context left
     /// for the duplicate, else `OutOfMemory` where a growth was refused. Then nothing changed.
     pub fn dup(&mut self, comm: Comm) -> Result<Comm, CallError>
-        ensures accepted { OnOk result (Passes (dup_checks self.old.view.rank comm.context.number)) }
-        ensures made { IfOk result (λ made. made.context.number ≡ dup_of comm.context.number) }
-        ensures only { OnOk result (self.new.view ≡ with_rank self.old.view (logged self.old.view.rank (Duplicated comm.context))) }
-        ensures refused { IfErr result (FailsOrStarves (dup_checks self.old.view.rank comm.context.number)) }
+        ensures accepted { OnOk result (Passes (dup_checks false self.old.view.rank comm.context.number)) }
+        ensures made { IfOk result (λ made. made.context.number ≡ nth_dup (dups_of self.old.view.rank.log comm.context.number) comm.context.number) }
+        ensures only { OnOk result (self.new.view ≡ with_rank self.old.view (logged self.old.view.rank (Duplicated comm.context (dups_of self.old.view.rank.log comm.context.number)))) }
+        ensures refused { IfErr result (FailsOrStarves (dup_checks false self.old.view.rank comm.context.number)) }
         ensures unchanged { OnErr result (self.new.view ≡ self.old.view) }
     {
         self.rank.dup(comm)

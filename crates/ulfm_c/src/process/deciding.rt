@@ -1,15 +1,14 @@
 //! The decisions of shrinks and agreements (ULFM, shrink and agree).
 //!
 //! No program needs `same`: it changes nothing. It is there so that a promise says that two processes of one board know no two decisions.
-ghost use Rattle.std.specs.Prelude.{◌≡◌, None, Some, IfOk, IfErr, IfSome};
-ghost use Rattle.ulfm_base.specs.Context.{shrink_of};
+ghost use Rattle.std.specs.Prelude.{◌≡◌, ◌-◌, None, Some, IfOk, IfErr, IfSome};
+ghost use Rattle.ulfm_base.specs.Context.{nth_shrink};
 ghost use Rattle.ulfm_base.specs.Decision.{left_out};
-ghost use Rattle.ulfm_base.specs.Topic.{shrink_topic};
 ghost use Rattle.ulfm_base.specs.declared.decision.Decision.{Decision as Decided};
 ghost use Rattle.ulfm_base.specs.declared.topic.Topic.{Topic};
 ghost use Rattle.ulfm_board.specs.Known.{BothAgree, known_at};
 ghost use Rattle.ulfm_c.specs.Adopting.{Adopts, IsPollRefusal, Waits};
-ghost use Rattle.ulfm_log.specs.Proposal.{last_agreement};
+ghost use Rattle.ulfm_log.specs.Proposal.{last_agreement, last_shrink, shrinks};
 
 use super::Process;
 use ulfm_base::{CallError, Group};
@@ -17,7 +16,7 @@ use ulfm_board::Decider;
 use ulfm_log::Comm;
 
 impl Process {
-    /// Asks for the decision of the shrink that was entered: where the rank has a proposal, it is handed in at the board, and
+    /// Asks for the decision of the shrink that was entered last: where the rank has a proposal, it is handed in at the board, and
     /// what the board holds is adopted. Answers the communicator of the new group, or nothing yet (ULFM, `MPI_Comm_shrink`).
     ///
     /// # Errors
@@ -27,9 +26,9 @@ impl Process {
     /// there is a decision, `AlreadyMade` where one of this shrink was adopted before, else `NotMember` where it isn't this
     /// rank's to adopt, else `OutOfMemory` where a growth was refused: then the rank is as it was.
     pub fn poll_shrink(&mut self, comm: Comm) -> Result<Option<Comm>, CallError>
-        ensures waits { IfOk result (λ found. found ≡ None → Waits self.old.view self.new.view (shrink_topic comm.context)) }
-        ensures adopts { IfOk result (λ found. IfSome found (λ made. (held : Decided) × Adopts self.old.view self.new.view (shrink_topic comm.context) held × (made.context.number ≡ shrink_of comm.context.number))) }
-        ensures refused { IfErr result (IsPollRefusal self.old.view self.new.view (shrink_topic comm.context)) }
+        ensures waits { IfOk result (λ found. found ≡ None → Waits self.old.view self.new.view (last_shrink self.old.view.rank.log comm.context)) }
+        ensures adopts { IfOk result (λ found. IfSome found (λ made. (held : Decided) × Adopts self.old.view self.new.view (last_shrink self.old.view.rank.log comm.context) held × (made.context.number ≡ nth_shrink (shrinks self.old.view.rank.log comm.context.number - 1) comm.context.number))) }
+        ensures refused { IfErr result (IsPollRefusal self.old.view self.new.view (last_shrink self.old.view.rank.log comm.context)) }
     {
         let Some(proposal) = self.rank.proposal(comm)? else {
             return Ok(None);

@@ -1,11 +1,10 @@
 //! Failures, revocations, the rank's own stop, and entries into shrinks and agreements (ULFM).
-ghost use Rattle.std.specs.Prelude.{◌≡◌, [], Some, None, IfOk, IfErr, OnOk, OnErr};
-ghost use Rattle.ulfm_base.specs.Topic.{shrink_topic};
+ghost use Rattle.std.specs.Prelude.{◌≡◌, [], false, Some, None, IfOk, IfErr, OnOk, OnErr};
 ghost use Rattle.ulfm_c.specs.View.{with_rank};
 ghost use Rattle.ulfm_rank.specs.Calls.{Enters, acknowledging, revoking, stopping};
 ghost use Rattle.ulfm_rank.specs.Checks.{Passes, Fails, FailsOrStarves, agree_checks, comm_checks, group_at, shrink_checks};
 ghost use Rattle.ulfm_log.specs.Facts.{ack_answer, is_revoked, known_in};
-ghost use Rattle.ulfm_log.specs.Proposal.{next_agreement};
+ghost use Rattle.ulfm_log.specs.Proposal.{next_agreement, next_shrink};
 
 use super::Process;
 use ulfm_base::{CallError, Group};
@@ -87,10 +86,10 @@ impl Process {
     /// its shrink was entered before, else `NoContext` where there is no context left for the new communicator, else
     /// `OutOfMemory` where a growth was refused. Then nothing changed.
     pub fn enter_shrink(&mut self, comm: Comm) -> Result<(), CallError>
-        ensures accepted { OnOk result (Passes (shrink_checks self.old.view.rank comm.context)) }
-        ensures enters { OnOk result (Enters self.old.view.rank (shrink_topic comm.context) None self.new.view.rank) }
+        ensures accepted { OnOk result (Passes (shrink_checks false self.old.view.rank comm.context)) }
+        ensures enters { OnOk result (Enters self.old.view.rank (next_shrink self.old.view.rank.log comm.context) None self.new.view.rank) }
         ensures only_rank { self.new.view ≡ with_rank self.old.view self.new.view.rank }
-        ensures refused { IfErr result (FailsOrStarves (shrink_checks self.old.view.rank comm.context)) }
+        ensures refused { IfErr result (FailsOrStarves (shrink_checks false self.old.view.rank comm.context)) }
         ensures unchanged { OnErr result (self.new.view ≡ self.old.view) }
     {
         self.rank.enter_shrink(comm)

@@ -6,7 +6,7 @@ use Rattle.ulfm_match.specs.declared.glance.Glance.TheVariants.{Named, From, Tag
 
 -- a context, a source and a tag, in one word
 abbrev pub word_of : ℕ → ℕ → ℕ → ℕ
-word_of context source tag = context + source * 256 + tag * 65536
+word_of context source tag = context * 262144 + source * 32768 + tag
 
 -- the envelope has what is looked for
 abbrev pub Suits : Glance → Envelope → Type 0

@@ -3,11 +3,11 @@ ghost use Rattle.std.specs.Prelude.{◌≡◌, false, IsTrue, Some, IfOk, IfErr,
 ghost use Rattle.ulfm_rank.specs.Calls.{Enters};
 ghost use Rattle.ulfm_log.specs.Proposal.{Proposes};
 ghost use Rattle.ulfm_rank.specs.Checks.{Passes, Fails, FailsOrStarves, agree_checks, proposal_checks, adopt_checks};
-ghost use Rattle.ulfm_log.specs.Proposal.{is_agreeing, next_agreement, last_agreement};
+ghost use Rattle.ulfm_log.specs.Proposal.{next_agreement, last_agreement};
 ghost use Rattle.ulfm_log.specs.State.{logged};
 
 use super::Rank;
-use ulfm_base::{CallError, Context, Decision, Purpose, Topic};
+use ulfm_base::{CallError, Decision};
 use ulfm_log::{Comm, Entry};
 
 impl Rank {
@@ -30,10 +30,10 @@ impl Rank {
         ensures place { self.new.has_place ≡ self.old.has_place }
     {
         let members = self.running_group(comm)?.members();
-        if self.is_agreeing(comm.context) {
+        if self.is_in_round(true, comm.context) {
             return Err(CallError::AlreadyMade);
         }
-        self.enter(self.next_agreement(comm.context), Some(flag), members)?;
+        self.enter(self.next_round(true, comm.context), Some(flag), members)?;
         Ok(())
     }
 
@@ -50,7 +50,7 @@ impl Rank {
         ensures verdict { IfOk result (Proposes self.now.state (last_agreement self.now.state.log comm.context)) }
         ensures refused { IfErr result (Fails (proposal_checks self.now.state (last_agreement self.now.state.log comm.context))) }
     {
-        self.proposal_on(self.last_agreement(comm.context))
+        self.proposal_on(self.last_round(true, comm.context))
     }
 
     /// Adopts the decision of the agreement on a communicator that the rank entered last, and answers its value, the AND
@@ -74,42 +74,10 @@ impl Rank {
         ensures place { self.new.has_place ≡ self.old.has_place }
     {
         let value = decision.value;
-        self.adopt_on(self.last_agreement(comm.context), decision)?;
+        self.adopt_on(self.last_round(true, comm.context), decision)?;
         match value {
             Some(value) => Ok(value),
             None => unreachable!(),
-        }
-    }
-
-    /// Whether the rank entered an agreement on a communicator whose decision it didn't adopt yet.
-    fn is_agreeing(&self, context: Context) -> bool
-        ensures { result ≡ is_agreeing self.now.state.log context }
-    {
-        let topic = self.last_agreement(context);
-        self.has_entered(topic) && !self.has_adopted(topic)
-    }
-
-    /// The agreement on a communicator that the rank enters next.
-    fn next_agreement(&self, context: Context) -> Topic
-        ensures { result ≡ next_agreement self.now.state.log context }
-    {
-        Topic {
-            context,
-            purpose: Purpose::Agree {
-                round: self.rounds.on(context),
-            },
-        }
-    }
-
-    /// The agreement on a communicator that the rank entered last, or that of number 0 where it entered none.
-    fn last_agreement(&self, context: Context) -> Topic
-        ensures { result ≡ last_agreement self.now.state.log context }
-    {
-        Topic {
-            context,
-            purpose: Purpose::Agree {
-                round: self.rounds.on(context).saturating_sub(1),
-            },
         }
     }
 }

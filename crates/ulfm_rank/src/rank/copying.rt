@@ -1,6 +1,7 @@
 //! A rank once more.
 ghost use Rattle.std.specs.Prelude.{◌≡◌, ◌+◌, ◌≤◌, ◌<◌, ◌^◌, length, IfOk};
 ghost use Rattle.ulfm_fault.specs.Facts.{KnowsSame};
+ghost use Rattle.ulfm_log.specs.Communicators.{HasSame};
 ghost use Rattle.ulfm_match.specs.State.{unprepared};
 
 use super::{Rank, stop_places};
@@ -29,11 +30,11 @@ fn copy_known(
     outboxes: &Outboxes,
 ) -> Result<(Faults, Communicators, Outboxes), OutOfMemory>
     ensures faults { IfOk result (λ copy. KnowsSame faults.now copy.0) }
-    ensures communicators { IfOk result (λ copy. copy.1 ≡ communicators.now) }
+    ensures communicators { IfOk result (λ copy. HasSame communicators.now copy.1) }
     ensures boxes { IfOk result (λ copy. copy.2.boxes ≡ outboxes.now.boxes) }
 {
     let faults = faults.copy()?;
-    let communicators = communicators.clone()?;
+    let communicators = communicators.copy()?;
     let outboxes = outboxes.copy()?;
     Ok((faults, communicators, outboxes))
 }

@@ -1,12 +1,12 @@
 //! Sends and communicators (MPI 4.0, chapters 3 and 7).
-ghost use Rattle.std.specs.Prelude.{◌≡◌, ◌<◌, ◌≤◌, false, length, slice_get, IfOk, IfErr, IsTrue, OnOk, OnErr, Some, None};
-ghost use Rattle.ulfm_base.specs.Context.{dup_of};
+ghost use Rattle.std.specs.Prelude.{◌≡◌, ◌<◌, ◌≤◌, true, false, length, slice_get, IfOk, IfErr, IsTrue, OnOk, OnErr, Some, None};
+ghost use Rattle.ulfm_base.specs.Context.{nth_dup};
 ghost use Rattle.ulfm_rank.specs.Calls.{Sends};
 ghost use Rattle.ulfm_rank.specs.Checks.{Passes, Fails, FailsOrStarves, group_at, send_checks, dup_checks};
-ghost use Rattle.ulfm_log.specs.Communicators.{group_of};
+ghost use Rattle.ulfm_log.specs.Communicators.{dups_of, group_of};
 ghost use Rattle.ulfm_log.specs.State.{logged};
 
-use super::Rank;
+use super::{Rank, may_make};
 use ulfm_base::{
     Body, CallError, Context, Envelope, Group, Item, Letter, NotedLetter, Tag, WorldRank,
 };
@@ -89,40 +89,78 @@ impl Rank {
     /// # Errors
     ///
     /// `Stopped` where the rank has stopped, else `NoComm` where the communicator wasn't made, else `Revoked` where it
-    /// is revoked, else `AlreadyMade` where it was duplicated before, else `NoContext` where there is no context left
-    /// for the duplicate, else `OutOfMemory` where a growth was refused. Then nothing changed.
+    /// is revoked, else, of contexts 0 to 62, `AlreadyMade` where it was duplicated before, and `NoContext` past 30, else
+    /// `NoContext` where the duplicate's context would be past the last one, else `OutOfMemory` where a growth was refused.
+    /// Then nothing changed.
     pub fn dup(&mut self, comm: Comm) -> Result<Comm, CallError>
-        ensures accepted { OnOk result (Passes (dup_checks self.old.state comm.context.number)) }
-        ensures made { IfOk result (λ made. made.context.number ≡ dup_of comm.context.number) }
-        ensures state { OnOk result (self.new.state ≡ logged self.old.state (Entry.Duplicated comm.context)) }
-        ensures refused { IfErr result (FailsOrStarves (dup_checks self.old.state comm.context.number)) }
+        ensures accepted { OnOk result (Passes (dup_checks false self.old.state comm.context.number)) }
+        ensures made { IfOk result (λ made. made.context.number ≡ nth_dup (dups_of self.old.state.log comm.context.number) comm.context.number) }
+        ensures state { OnOk result (self.new.state ≡ logged self.old.state (Entry.Duplicated comm.context (dups_of self.old.state.log comm.context.number))) }
+        ensures refused { IfErr result (FailsOrStarves (dup_checks false self.old.state comm.context.number)) }
         ensures unchanged { OnErr result (self.new.state ≡ self.old.state) }
         ensures room_lacked { IfErr result (λ e. e ≡ CallError.OutOfMemory → self.old.prepared ≡ false) }
         ensures stays_prepared { OnErr result (IsTrue self.old.prepared → IsTrue self.new.prepared) }
         ensures place { self.new.has_place ≡ self.old.has_place }
     {
-        let (context, group) = self.duplicate_of(comm)?;
+        self.dup_with(comm, false)
+    }
+
+    /// Duplicates a communicator once more, or for the first time.
+    ///
+    /// # Errors
+    ///
+    /// `Stopped` where the rank has stopped, else `NoComm` where the communicator wasn't made, else `Revoked` where it
+    /// is revoked, else `NoContext` where the duplicate's context would be past the last one, else `OutOfMemory` where a
+    /// growth was refused. Then nothing changed.
+    pub fn dup_again(&mut self, comm: Comm) -> Result<Comm, CallError>
+        ensures accepted { OnOk result (Passes (dup_checks true self.old.state comm.context.number)) }
+        ensures made { IfOk result (λ made. made.context.number ≡ nth_dup (dups_of self.old.state.log comm.context.number) comm.context.number) }
+        ensures state { OnOk result (self.new.state ≡ logged self.old.state (Entry.Duplicated comm.context (dups_of self.old.state.log comm.context.number))) }
+        ensures refused { IfErr result (FailsOrStarves (dup_checks true self.old.state comm.context.number)) }
+        ensures unchanged { OnErr result (self.new.state ≡ self.old.state) }
+        ensures room_lacked { IfErr result (λ e. e ≡ CallError.OutOfMemory → self.old.prepared ≡ false) }
+        ensures stays_prepared { OnErr result (IsTrue self.old.prepared → IsTrue self.new.prepared) }
+        ensures place { self.new.has_place ≡ self.old.has_place }
+    {
+        self.dup_with(comm, true)
+    }
+
+    /// Duplicates a communicator, once more where `again`.
+    fn dup_with(&mut self, comm: Comm, again: bool) -> Result<Comm, CallError>
+        ensures accepted { OnOk result (Passes (dup_checks again self.old.state comm.context.number)) }
+        ensures made { IfOk result (λ made. made.context.number ≡ nth_dup (dups_of self.old.state.log comm.context.number) comm.context.number) }
+        ensures state { OnOk result (self.new.state ≡ logged self.old.state (Entry.Duplicated comm.context (dups_of self.old.state.log comm.context.number))) }
+        ensures refused { IfErr result (FailsOrStarves (dup_checks again self.old.state comm.context.number)) }
+        ensures unchanged { OnErr result (self.new.state ≡ self.old.state) }
+        ensures room_lacked { IfErr result (λ e. e ≡ CallError.OutOfMemory → self.old.prepared ≡ false) }
+        ensures stays_prepared { OnErr result (IsTrue self.old.prepared → IsTrue self.new.prepared) }
+        ensures place { self.new.has_place ≡ self.old.has_place }
+    {
+        let (count, context, group) = self.duplicate_of(comm, again)?;
         self.log.reserve(self.requests.len() + 2)?;
-        self.communicators.add(context, group);
-        self.log.push_reserved(Entry::Duplicated(comm.context));
+        self.communicators.make_place()?;
+        self.communicators
+            .duplicate(comm.context, count, context, group);
+        self.log
+            .push_reserved(Entry::Duplicated(comm.context, count));
         Ok(Comm { context })
     }
 
-    /// The context of the duplicate of a communicator, and its group.
-    fn duplicate_of(&self, comm: Comm) -> Result<(Context, Group), CallError>
-        ensures accepted { OnOk result (Passes (dup_checks self.now.state comm.context.number)) }
-        ensures context { IfOk result (λ made. made.0.number ≡ dup_of comm.context.number) }
-        ensures group { IfOk result (λ made. group_of self.now.state.ranks self.now.state.log comm.context.number ≡ Some made.1) }
-        ensures refused { IfErr result (Fails (dup_checks self.now.state comm.context.number)) }
+    /// The number, the context and the group of the next duplicate of a communicator.
+    fn duplicate_of(&self, comm: Comm, again: bool) -> Result<(u64, Context, Group), CallError>
+        ensures accepted { OnOk result (Passes (dup_checks again self.now.state comm.context.number)) }
+        ensures count { IfOk result (λ made. made.0 ≡ dups_of self.now.state.log comm.context.number) }
+        ensures context { IfOk result (λ made. made.1.number ≡ nth_dup made.0 comm.context.number) }
+        ensures group { IfOk result (λ made. group_of self.now.state.ranks self.now.state.log comm.context.number ≡ Some made.2) }
+        ensures refused { IfErr result (Fails (dup_checks again self.now.state comm.context.number)) }
     {
         let group = self.running_group(comm)?;
         if self.faults.is_revoked(comm.context) {
             return Err(CallError::Revoked);
         }
-        if self.communicators.is_made(comm.context.dup_number()) {
-            return Err(CallError::AlreadyMade);
-        }
-        let context = comm.context.dup_of().ok_or(CallError::NoContext)?;
-        Ok((context, group.copied()))
+        let count = self.communicators.dups(comm.context);
+        let child = comm.context.nth_dup(count);
+        let context = may_make(again, comm.context, count, child)?;
+        Ok((count, context, group.copied()))
     }
 }

@@ -36,6 +36,7 @@ impl Rank {
         self.block.make()?;
         self.faults.make_place()?;
         self.rounds.make_place()?;
+        self.communicators.make_place()?;
         self.outboxes.reserve()
     }
 
@@ -52,6 +53,7 @@ impl Rank {
             && self.block.is_there()
             && self.faults.has_place()
             && self.rounds.has_place()
+            && self.communicators.has_place()
     }
 
     /// Takes an item that came from a rank. A letter is handed to the earliest receive that takes it, or kept, or

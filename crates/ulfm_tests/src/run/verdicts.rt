@@ -108,7 +108,7 @@ fn with_entry(decision: &Decision) -> Decision
     if !decision.old.contains(WorldRank { number: 1 }) {
         return decision.copied();
     }
-    let Purpose::Shrink = decision.topic.purpose else {
+    let Purpose::Shrink { .. } = decision.topic.purpose else {
         return decision.copied();
     };
     let mut entries = decision.entries;

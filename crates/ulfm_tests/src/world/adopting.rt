@@ -27,7 +27,7 @@ fn entry() -> Item {
     Item::Enter(Entrance {
         topic: Topic {
             context: Context::WORLD,
-            purpose: Purpose::Shrink,
+            purpose: Purpose::Shrink { round: 0 },
         },
         contribution: Contribution {
             known: RankSet::new(),

@@ -1,7 +1,9 @@
 -- A replay on its way: where its rounds stand, and what falls with each event.
-use Rattle.std.specs.Prelude.{◌≡◌, ℕ, zero, suc, Bool, true, false, List, [], ◌+◌, ◌*◌, ◌<◌, ◌≤◌, ◌⊎◌, length, Option, Some, None, slice_index_or, if◌then◌else◌}
+use Rattle.std.specs.Prelude.{◌≡◌, ℕ, zero, suc, Bool, true, false, List, [], ◌∷◌, ◌+◌, ◌*◌, ◌<◌, ◌≤◌, ◌⊎◌, length, Option, Some, None, slice_index_or, if◌then◌else◌}
 use Rattle.ulfm_log.specs.Facts.{is_revoked}
 use Rattle.ulfm_log.specs.State.{State, outbox}
+use Rattle.ulfm_log.specs.declared.entry.Entry.{Entry}
+use Rattle.ulfm_base.specs.Group.{numbers_from}
 use Rattle.ulfm_job.specs.declared.step.Step.{Step}
 use Rattle.ulfm_script.specs.Player.{Player}
 use Rattle.ulfm_script.specs.inside.Underway.{GoesThrough, polls_left}
@@ -28,17 +30,22 @@ sum_below (suc n) f = sum_below n f + f n
 abbrev pub out_at : ℕ → State → ℕ
 out_at n r = sum_below n (λ d. 2 * length (outbox r d))
 
--- what the first revocation of a context may still send
-abbrev pub fresh_at : State → ℕ → ℕ
-fresh_at r c = if is_revoked r.log c then 0 else 17
+-- what the first revocation of a context may still send, at a rank with this log
+abbrev pub fresh_at : List Entry → ℕ → ℕ
+fresh_at log c = if is_revoked log c then 0 else 17
 
--- what the first revocations of all contexts may still send
-unfoldable pub fresh_of : State → ℕ
-fresh_of r = sum_below 63 (fresh_at r)
+-- what the first revocations of these contexts may still send
+abbrev pub fresh_of : List ℕ → List Entry → ℕ
+fresh_of [] log = 0
+fresh_of (c ∷ contexts) log = fresh_at log c + fresh_of contexts log
+
+-- all contexts
+unfoldable pub all_contexts : List ℕ
+all_contexts = numbers_from 0 35184372088832
 
 -- what falls with each event: of a player
 abbrev pub weight_of : List Step → ℕ → ℕ → Player → ℕ
-weight_of script turns n p = 17 * polls_left script turns p + (out_at n p.rank + fresh_of p.rank)
+weight_of script turns n p = 17 * polls_left script turns p + (out_at n p.rank + fresh_of all_contexts p.rank.log)
 
 -- what falls with each event, of the player r
 abbrev pub weight_at : JobView → World → ℕ → ℕ

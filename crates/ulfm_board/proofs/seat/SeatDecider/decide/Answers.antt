@@ -10,7 +10,7 @@ reach-requires c = record { one_register = c.args.self.now.tied ∙ sym (ap name
 
 pub returns-in_err-slot-clause-starves : goal.returns-in_err-slot-clause-starves
 returns-in_err-slot-clause-starves c =
-    on_error c.from_residual.result (no_row c.args.self.now.trail c.args.decision.topic (ap (slot_of c.args.self.now.trail.numbers) (sym c.row_of-row.ensures) ∙ c.in_err-slot.ensures.unknown))
+    on_error c.from_residual.result (no_row c.args.self.now.trail c.args.decision.topic (ap (slot_of c.args.self.now.trail.numbers) (sym c.row_of-row.ensures.row) ∙ c.in_err-slot.ensures.unknown))
 
 pub returns-in_err-slot-clause-unchanged : goal.returns-in_err-slot-clause-unchanged
 returns-in_err-slot-clause-unchanged c =
@@ -21,15 +21,15 @@ decide-requires-clause-walked c = slot_inside c.reach.new.self.numbers c.row_of-
 
 pub returns-clause-answers : goal.returns-clause-answers
 returns-clause-answers c =
-    let found : slot_of c.reach.new.self.numbers (row_of c.args.decision.topic) ≡ Some c.in_ok-slot.slot = ap (slot_of c.reach.new.self.numbers) (sym c.row_of-row.ensures) ∙ c.in_ok-slot.ensures.slot in
+    let found : slot_of c.reach.new.self.numbers (row_of c.args.decision.topic) ≡ Some c.in_ok-slot.slot = ap (slot_of c.reach.new.self.numbers) (sym c.row_of-row.ensures.row) ∙ c.in_ok-slot.ensures.slot in
     answers_of c.args.self.now.trail c.reach.new.self c.reach.ensures.goes_on.0 c.in_ok-slot.slot c.cell_of-cell.result c.reach.ensures.whole c.reach.ensures.goes_on.1 c.decide.new.self _ c.args.decision found c.cell_of-cell.ensures.place c.decide.result c.decide.ensures.held
 
 pub returns-clause-starves : goal.returns-clause-starves
 returns-clause-starves c =
-    let found : slot_of c.reach.new.self.numbers (row_of c.args.decision.topic) ≡ Some c.in_ok-slot.slot = ap (slot_of c.reach.new.self.numbers) (sym c.row_of-row.ensures) ∙ c.in_ok-slot.ensures.slot in
+    let found : slot_of c.reach.new.self.numbers (row_of c.args.decision.topic) ≡ Some c.in_ok-slot.slot = ap (slot_of c.reach.new.self.numbers) (sym c.row_of-row.ensures.row) ∙ c.in_ok-slot.ensures.slot in
     starves_of c.args.self.now.trail c.reach.new.self c.reach.ensures.goes_on.0 c.in_ok-slot.slot c.cell_of-cell.result c.reach.ensures.whole c.reach.ensures.goes_on.1 c.decide.new.self [] c.args.decision found c.cell_of-cell.ensures.place c.decide.result c.decide.ensures.starves
 
 pub returns-clause-unchanged : goal.returns-clause-unchanged
 returns-clause-unchanged c =
-    let found : slot_of c.reach.new.self.numbers (row_of c.args.decision.topic) ≡ Some c.in_ok-slot.slot = ap (slot_of c.reach.new.self.numbers) (sym c.row_of-row.ensures) ∙ c.in_ok-slot.ensures.slot in
+    let found : slot_of c.reach.new.self.numbers (row_of c.args.decision.topic) ≡ Some c.in_ok-slot.slot = ap (slot_of c.reach.new.self.numbers) (sym c.row_of-row.ensures.row) ∙ c.in_ok-slot.ensures.slot in
     unchanged_of c.args.self.now.trail c.reach.new.self c.reach.ensures.goes_on.0 c.in_ok-slot.slot c.cell_of-cell.result c.reach.ensures.whole c.reach.ensures.goes_on.1 c.decide.new.self [] c.args.decision found c.cell_of-cell.ensures.place c.decide.result c.decide.ensures.starves

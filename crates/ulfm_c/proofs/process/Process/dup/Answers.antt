@@ -1,4 +1,5 @@
 use Rattle.std.proofs.Common.{refl}
+use Rattle.ulfm_log.specs.Communicators.{dups_of}
 use Rattle.ulfm_log.specs.declared.entry.Entry.TheVariants.{Duplicated}
 use Rattle.ulfm_c.proofs.Keeping.{kept-ok, quiet-one}
 use Rattle.ulfm_c.proofs.process.Process.dup.Goals as goal
@@ -6,4 +7,4 @@ use Rattle.ulfm_c.proofs.process.Process.dup.Goals as goal
 pub invariant_of-self : goal.invariant_of-self
 invariant_of-self c =
     let h = c.self.invariant in let new = c.dup.new.self.state in
-    kept-ok new h c.dup.result c.dup.ensures.state c.dup.ensures.unchanged (λ s. quiet-one new (Duplicated c.args.comm.context) h.sound (record { signed = tt; takes_none = λ x. refl }) s)
+    kept-ok new h c.dup.result c.dup.ensures.state c.dup.ensures.unchanged (λ s. quiet-one new (Duplicated c.args.comm.context (dups_of c.self.inside.rank.state.log c.args.comm.context.number)) h.sound (record { signed = tt; takes_none = λ x. refl }) s)

@@ -1,9 +1,15 @@
 use Rattle.std.proofs.Common.{refl, sym, inl, inr}
+use Rattle.std.proofs.lemmas.Result.{err_from_is_err_and}
 use Rattle.ulfm_board.specs.contracts.seat.SeatDecider.TheImpl.{ghosts}
 use Rattle.ulfm_rank.proofs.Joining.{joined-quiet}
 use Rattle.ulfm_log.specs.declared.entry.Entry.TheVariants.{Adopted}
 use Rattle.ulfm_c.proofs.Keeping.{quiet-none, quiet-one}
 use Rattle.ulfm_c.proofs.process.Process.poll_shrink.Goals as goal
+
+pub returns-in_err-proposal-clause-refused : goal.returns-in_err-proposal-clause-refused
+returns-in_err-proposal-clause-refused c =
+    let e = err_from_is_err_and c.from_residual.result c.from_residual.ensures.1 in
+    rw (e.1, e.2) (rw (sym c.self.view_is) (inl (record { fails = c.in_err-proposal.ensures.refused; only = refl })))
 
 pub returns-in-Err-clause-refused : goal.returns-in-Err-clause-refused
 returns-in-Err-clause-refused c =

@@ -3,7 +3,8 @@ use Rattle.std.proofs.Common.{◌++◌, ◌∷◌, [], refl, ap, ◌∙◌, arit
 use Rattle.ulfm_rank.proofs.Common.{Acknowledged}
 use Rattle.ulfm_rank.proofs.Following.{follows_acknowledged}
 use Rattle.ulfm_rank.proofs.Seen.{stop_places_few}
-use Rattle.ulfm_rank.proofs.Whole.{follows_facts, holds_roomy}
+use Rattle.ulfm_rank.proofs.Whole.{comms_itself, follows_facts, holds_roomy}
+use Rattle.ulfm_log.proofs.Counts.{rounds_itself}
 use Rattle.ulfm_rank.proofs.rank.Rank.ack_failed.Goals as goal
 
 pub invariant_of-self-2 : goal.invariant_of-self-2
@@ -17,4 +18,4 @@ invariant_of-self-2 c =
     }
 
 pub invariant_of-self-in_err-make_place : goal.invariant_of-self-in_err-make_place
-invariant_of-self-in_err-make_place c = holds_roomy c.self.inside c.self.invariant refl refl refl c.make_place.ensures.knows_the_same refl refl refl refl refl refl refl c.reserve.ensures.items refl (λ k. refl) c.reserve.ensures.capacity c.reserve.ensures.countable
+invariant_of-self-in_err-make_place c = holds_roomy c.self.inside c.self.invariant refl refl refl c.make_place.ensures.knows_the_same (comms_itself refl) refl refl refl refl refl refl c.reserve.ensures.items refl (rounds_itself refl) c.reserve.ensures.capacity c.reserve.ensures.countable

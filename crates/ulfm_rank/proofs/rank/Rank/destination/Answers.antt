@@ -29,7 +29,7 @@ returns-clause-inside c =
     let seen = ap (λ (v : RankView). v.state) c.self.view_is in
     let named : slice_get c.in_ok-group.group.now c.args.dest ≡ Some c.in_ok-to.to.number = search rules in
     let comms = c.self.invariant.follows.communicators in
-    let found : find_group c.args.comm.context.number a.communicators ≡ Some c.in_ok-group.group.now =
+    let found : find_group c.args.comm.context.number a.communicators.made ≡ Some c.in_ok-group.group.now =
     found_group c.args.comm.context.number comms ∙ ap (λ (s : State). group_of s.ranks s.log c.args.comm.context.number) seen ∙ c.in_ok-group.ensures.group in
-    let below = member_of_world a.ranks c.args.comm.context.number a.communicators c.in_ok-group.group.now c.args.dest c.in_ok-to.to.number comms.of_world found named in
+    let below = member_of_world a.ranks c.args.comm.context.number a.communicators.made c.in_ok-group.group.now c.args.dest c.in_ok-to.to.number comms.of_world found named in
     omega (arith, below, ap (λ (s : State). s.ranks) seen)

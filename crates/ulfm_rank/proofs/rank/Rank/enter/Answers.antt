@@ -1,6 +1,6 @@
 use Rattle.ulfm_log.proofs.Sifted.{counts_few, told_entered}
 use Rattle.std.proofs.Common.{◌≡◌, ◌++◌, ◌∷◌, [], refl, ap, sym, subst, ◌∙◌, arith, filter}
-use Rattle.ulfm_rank.proofs.Common.{agreements, is_member, Entrance, Entered, state_of, Knows, AllGrow, deciders, State, RankView, announced}
+use Rattle.ulfm_rank.proofs.Common.{is_member, rounds_of, Entrance, Entered, state_of, Knows, AllGrow, deciders, State, RankView, announced}
 use Rattle.ulfm_rank.proofs.Following.{follows_entered}
 use Rattle.ulfm_log.proofs.Held.{marks-grown}
 use Rattle.ulfm_rank.proofs.Known.{knows_gone}
@@ -29,7 +29,7 @@ grows c =
     (c.announce.ensures a.ranks a.log.items (knows c) (λ r. c.requires.members r ∙ ap (λ (s : State). is_member (deciders s.ranks s.log c.args.topic) r) (sym (seen c))))
 
 pub enter-requires : goal.enter-requires
-enter-requires c = omega (arith, counts_few c.self.invariant.tells c.args.topic.context.number, c.self.invariant.places, c.self.invariant.countable)
+enter-requires c = λ agrees. omega (arith, counts_few c.self.invariant.tells agrees c.args.topic.context.number, c.self.invariant.places, c.self.invariant.countable)
 
 pub invariant_of-self-2 : goal.invariant_of-self-2
 invariant_of-self-2 c =
@@ -37,7 +37,7 @@ invariant_of-self-2 c =
     record {
       follows = rw (longer c) (follows_entered c.self.invariant.follows (entrance c) c.announce.new.outboxes.boxes (grows c));
       places = omega (arith, c.in_ok-reserve.ensures.ok, c.push_reserved.ensures.len, c.push_reserved.ensures.capacity, c.len.ensures.len, stop_places_few a.stopped);
-      tells = told_entered _ _ _ _ (entrance c) (longer c) c.self.invariant.tells (ap (λ (s : State). is_next (agreements s.log) c.args.topic) (seen c) ∙ c.requires.next) c.in_ok-enter.ensures.counts
+      tells = told_entered _ _ _ _ (entrance c) (longer c) c.self.invariant.tells (ap (λ (s : State). is_next (rounds_of s.log) c.args.topic) (seen c) ∙ c.requires.next) c.in_ok-enter.ensures.counts
           (c.tell.ensures.items ∙ ap (λ e. c.forget.new.told.items ++ e ∷ []) c.entered.ensures ∙ ap (λ l. l ++ Entered (entrance c) ∷ []) (c.forget.ensures.items ∙ ap (filter (tells (rounds_on c.enter.new.self))) c.make_place.ensures.items));
       countable = omega (arith, c.push_reserved.ensures.capacity, c.reserve.ensures.countable);
     }

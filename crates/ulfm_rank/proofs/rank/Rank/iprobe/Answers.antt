@@ -35,7 +35,7 @@ returns-in-Some-clause-answer c =
     let seen = ap (λ (v : RankView). v.state) c.self.view_is in
     let receive = c.in_ok-pattern.ensures.asks_for in
     let letter = c.in-Some.letter.now in
-    let members : or_empty (find_group p.context.number a.communicators) ≡ group_at c.args.self.now.state c.args.comm.context.number =
+    let members : or_empty (find_group p.context.number a.communicators.made) ≡ group_at c.args.self.now.state c.args.comm.context.number =
     ap or_empty (found_group p.context.number c.self.invariant.follows.communicators) ∙ ap (λ (d : Context). members_of a.ranks a.log.items d.number) receive.context ∙ ap (λ (s : State). group_at s c.args.comm.context.number) seen in
     record {
       pattern = p;

@@ -5,15 +5,16 @@ use Rattle.ulfm_log.proofs.Held.{marks-grown}
 use Rattle.ulfm_rank.proofs.Following.{follows_revoked}
 use Rattle.ulfm_rank.proofs.Seen.{stop_places_few, state_logged}
 use Rattle.ulfm_rank.proofs.Known.{knows_gone}
-use Rattle.ulfm_rank.proofs.Whole.{follows_facts, follows_same, holds_roomy, holds_same}
+use Rattle.ulfm_rank.proofs.Whole.{comms_itself, follows_facts, follows_same, holds_roomy, holds_same}
 use Rattle.ulfm_rank.proofs.rank.Rank.revoke.Goals as goal
+use Rattle.ulfm_log.proofs.Counts.{rounds_itself}
 use Rattle.ulfm_rank.proofs.rank.Rank.revoke.Goals.{After-push_reserved}
 
 pub invariant_of-self-in_err-prepare : goal.invariant_of-self-in_err-prepare
 invariant_of-self-in_err-prepare c = holds_same c.self.inside c.self.invariant refl refl refl refl refl c.prepare.ensures.waiting c.prepare.ensures.kept c.prepare.ensures.count c.prepare.ensures.cleared refl c.in_ok-reserve-2.ensures.boxes c.reserve.ensures.items refl refl c.reserve.ensures.capacity c.reserve.ensures.countable
 
 pub invariant_of-self-in_err-make_place : goal.invariant_of-self-in_err-make_place
-invariant_of-self-in_err-make_place c = holds_roomy c.self.inside c.self.invariant refl refl refl c.make_place.ensures.knows_the_same refl c.prepare.ensures.waiting c.prepare.ensures.kept c.prepare.ensures.count c.prepare.ensures.cleared refl c.in_ok-reserve-2.ensures.boxes c.reserve.ensures.items refl (λ k. refl) c.reserve.ensures.capacity c.reserve.ensures.countable
+invariant_of-self-in_err-make_place c = holds_roomy c.self.inside c.self.invariant refl refl refl c.make_place.ensures.knows_the_same (comms_itself refl) c.prepare.ensures.waiting c.prepare.ensures.kept c.prepare.ensures.count c.prepare.ensures.cleared refl c.in_ok-reserve-2.ensures.boxes c.reserve.ensures.items refl (rounds_itself refl) c.reserve.ensures.capacity c.reserve.ensures.countable
 
 -- the parts follow the log once there is room
 ready : (c : After-push_reserved) → Follows c.self.inside.ranks c.self.inside.me.number c.self.inside.log.items c.self.inside.stopped c.prepare.new.self (get nat_eq c.self.inside.requests) c.make_place.new.self c.self.inside.communicators c.self.inside.outboxes.boxes

@@ -1,5 +1,6 @@
 use Rattle.std.proofs.Common.{◌≡◌, ℕ, [], ◌∷◌, ap, arith, ◌∙◌, None, nat_eq}
 use Rattle.ulfm_rank.proofs.Common.{lookup, get}
+use Rattle.ulfm_log.proofs.Counts.{none_counted}
 use Rattle.ulfm_rank.proofs.Whole.{follows_start, state_start}
 use Rattle.ulfm_rank.proofs.rank.Rank.start_with.Goals as goal
 use Rattle.ulfm_rank.proofs.rank.Rank.start_with.Goals.{After-result-1}
@@ -15,9 +16,9 @@ invariant_of-result-2 c =
       follows = rw (empty c)
           (follows_start c.args.ranks c.args.me c.new-3.result (get nat_eq c.new-5.result) c.new-4.result c.in_ok-communicators.communicators c.in_ok-outboxes.outboxes.boxes
           size.1 c.if-me-ranks.false c.new-3.ensures none c.new-4.ensures.none_known c.new-4.ensures.none_acknowledged c.new-4.ensures.none_revoked
-          (c.in_ok-communicators.ensures ∙ ap (λ g. (0, g) ∷ []) size.2) c.in_ok-outboxes.ensures);
+          (c.in_ok-communicators.ensures.made ∙ ap (λ g. (0, g) ∷ []) size.2) c.in_ok-communicators.ensures.dups c.in_ok-outboxes.ensures);
       places = omega (arith, c.in_ok-reserve.ensures.ok, c.reserve.ensures.len, c.new-log.ensures.len, c.new-5.ensures.len);
-      tells = rw (empty c) (record { rows = c.new-6.ensures.items; counts = c.new-7.ensures });
+      tells = rw (empty c) (record { rows = c.new-6.ensures.items; counts = none_counted c.new-7.result c.new-7.ensures.agreements c.new-7.ensures.shrinks });
       countable = c.reserve.ensures.countable;
     }
 

@@ -13,7 +13,7 @@ use Rattle.ulfm_rank.proofs.rank.Rank.take.Goals.{After-push_reserved}
 pub learn-requires : goal.learn-requires
 learn-requires c =
     let a = c.self.inside in
-    facts_room_of a.matcher.prepared (nat_lt (length a.log.items + (index_map_len a.requests + stop_places a.stopped) + 1) a.log.capacity) a.outboxes.room (nat_lt (vec_len a.told) (vec_capacity a.told)) a.block a.faults.room a.rounds.entered.room
+    facts_room_of a.matcher.prepared (nat_lt (length a.log.items + (index_map_len a.requests + stop_places a.stopped) + 1) a.log.capacity) a.outboxes.room (nat_lt (vec_len a.told) (vec_capacity a.told)) a.block a.faults.room (a.rounds.room && a.communicators.room)
     (subst (λ (v : RankView). IsTrue v.prepared) (sym c.self.view_is) c.requires.prepared)
 
 pub settle-requires-clause-countable : goal.settle-requires-clause-countable
@@ -40,13 +40,13 @@ longer c = c.push_reserved.ensures.items ∙ ap (λ x. c.self.inside.log.items +
 pub invariant_of-self : goal.invariant_of-self
 invariant_of-self c =
     let a = c.self.inside in
-    let room = room_of a.matcher.prepared (length a.log.items + (index_map_len a.requests + stop_places a.stopped)) a.log.capacity (a.outboxes.room && (nat_lt (vec_len a.told) (vec_capacity a.told) && (a.block && (a.faults.room && a.rounds.entered.room)))) (subst (λ (v : RankView). IsTrue v.prepared) (sym c.self.view_is) c.requires.prepared) in
+    let room = room_of a.matcher.prepared (length a.log.items + (index_map_len a.requests + stop_places a.stopped)) a.log.capacity (a.outboxes.room && (nat_lt (vec_len a.told) (vec_capacity a.told) && (a.block && (a.faults.room && (a.rounds.room && a.communicators.room))))) (subst (λ (v : RankView). IsTrue v.prepared) (sym c.self.view_is) c.requires.prepared) in
     let tracks = rw c.was_revoked-revoked.ensures at c.settle.ensures.tracks in
     record {
       follows = rw (longer c)
           (follows_took c.self.invariant.follows c.args.source c.args.item c.settle.new.matcher (get nat_eq c.settle.new.requests) c.learn.new.faults c.pass_on.new.outboxes.boxes tracks (c.learn.ensures a.log.items c.self.invariant.follows.faults) (grows c));
       places = omega (arith, room, c.settle.ensures.len, c.push_reserved.ensures.len, c.push_reserved.ensures.capacity);
-      tells = told_more _ _ _ _ _ (longer c) c.self.invariant.tells (λ k. refl) c.hear.ensures.items;
+      tells = told_more _ _ _ _ _ (longer c) c.self.invariant.tells (λ k c. refl) c.hear.ensures.items;
       countable = omega (arith, c.push_reserved.ensures.capacity, c.self.invariant.countable);
     }
 
