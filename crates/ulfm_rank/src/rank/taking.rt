@@ -28,23 +28,6 @@ impl Rank {
         ensures stays_prepared { IsTrue self.old.prepared → IsTrue self.new.prepared }
         ensures keeps_place { IsTrue self.old.has_place → IsTrue self.new.has_place }
     {
-        // Mostly all of it is there, and a look is less than a try to make each part.
-        if self.is_prepared() {
-            return Ok(());
-        }
-        self.make_room()
-    }
-
-    /// Makes what there isn't of that room.
-    #[inline(never)]
-    fn make_room(&mut self) -> Result<(), OutOfMemory>
-        ensures state { self.new.state ≡ self.old.state }
-        ensures prepared { OnOk result (IsTrue self.new.prepared) }
-        ensures place { OnOk result (IsTrue self.new.has_place) }
-        ensures room_lacked { OnErr result (is_ready self.old ≡ false) }
-        ensures stays_prepared { IsTrue self.old.prepared → IsTrue self.new.prepared }
-        ensures keeps_place { IsTrue self.old.has_place → IsTrue self.new.has_place }
-    {
         let places = self.requests.len() + stop_places(self.stopped) + 2;
         self.log.reserve(places)?;
         self.requests.reserve(1)?;

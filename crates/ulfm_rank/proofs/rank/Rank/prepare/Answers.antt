@@ -1,7 +1,7 @@
 use Rattle.std.proofs.Common.{refl}
 use Rattle.ulfm_rank.proofs.Whole.{comms_itself, holds_roomy, holds_same}
 use Rattle.ulfm_log.proofs.Counts.{rounds_itself}
-use Rattle.ulfm_rank.proofs.rank.Rank.make_room.Goals as goal
+use Rattle.ulfm_rank.proofs.rank.Rank.prepare.Goals as goal
 
 pub invariant_of-self-in_err-reserve-2 : goal.invariant_of-self-in_err-reserve-2
 invariant_of-self-in_err-reserve-2 c = holds_same c.self.inside c.self.invariant refl refl refl refl refl refl refl refl refl c.reserve-2.ensures.entries refl c.reserve.ensures.items refl refl c.reserve.ensures.capacity c.reserve.ensures.countable
