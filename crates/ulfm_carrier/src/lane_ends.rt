@@ -1,5 +1,5 @@
 //! A rank's ends of the rings to and from each rank.
-ghost use Rattle.std.specs.Prelude.{◌≡◌, ◌≢◌, ◌<◌, ◌≤◌, ◌++◌, ◌↔◌, [], ◌∷◌, ℕ, length, map, slice_get, vec_len, IsTrue, MatchOption, IfNone, IfSome};
+ghost use Rattle.std.specs.Prelude.{◌≡◌, ◌≢◌, ◌<◌, ◌≤◌, ◌+◌, ◌%◌, ◌++◌, ◌↔◌, [], ◌∷◌, ℕ, length, map, slice_get, vec_len, IsTrue, MatchOption, IfNone, IfSome};
 ghost use mathlib.Core.List.{IsPrefix};
 
 use crate::carried::Carried;
@@ -81,7 +81,7 @@ impl LaneEnds {
         let count = self.ins.len() as u8;
         let start = self.next;
         for step in 0..count {
-            let peer = ((start as u16 + step as u16) % count as u16) as u8;
+            let peer = place_in_turn(start, step, count);
             if let Some(item) = self.pop_from(peer) {
                 self.next = peer + 1;
                 return Some((WorldRank { number: peer }, item));
@@ -176,6 +176,23 @@ impl LaneEnds {
         let inlet = &mut self.ins[place];
         inlet.has_item_beside(&mut self.outs[place])
     }
+}
+
+/// The place that is come to after so many others, upwards and round.
+fn place_in_turn(start: u8, step: u8, count: u8) -> u8
+    requires { step < count }
+    ensures { result ≡ (start + step) % count }
+{
+    let place = start as u16 + step as u16;
+    let count = count as u16;
+    // A division takes longer than all else of a look. Where the turn began at a place of these, none is made.
+    if place < count {
+        return place as u8;
+    }
+    if place - count < count {
+        return (place - count) as u8;
+    }
+    (place % count) as u8
 }
 
 impl Ends for LaneEnds {
