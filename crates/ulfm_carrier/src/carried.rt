@@ -4,7 +4,7 @@
 ghost use Rattle.std.specs.Prelude.{◌≡◌};
 ghost use Rattle.ulfm_carrier.specs.Carried.{signed_by, carried_of, item_from};
 
-use ulfm_base::{Item, WorldRank};
+use ulfm_base::{Envelope, Item, WorldRank};
 
 /// The source that stands in an item without one.
 const BLANK: WorldRank = WorldRank { number: 0 };
@@ -36,10 +36,17 @@ impl Carried {
 }
 
 /// Gives an item this source, where it has one.
+// The envelope is written whole: where a part of it is, the rest moves in words that overlap, and each waits for the one before.
+#[inline(always)]
 pub(crate) fn sign(item: &mut Item, source: WorldRank)
     ensures { item.new ≡ signed_by source item.old }
 {
     if let Item::Letter(letter) = item {
-        letter.envelope.source = source;
+        let Envelope { context, tag, .. } = letter.envelope;
+        letter.envelope = Envelope {
+            context,
+            source,
+            tag,
+        };
     }
 }
