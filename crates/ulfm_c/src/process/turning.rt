@@ -7,10 +7,11 @@ ghost use Rattle.ulfm_log.specs.Facts.{is_stopped};
 ghost use Rattle.ulfm_c.specs.Progress.{IsFlushed, tells_failed};
 ghost use Rattle.ulfm_c.specs.Turning.{IsTakeRefusal, IsTurn, LeavesRoom, Pushes, Takes, TakesFrom};
 ghost use Rattle.ulfm_c.specs.inside.Pushing.{PushesOne, PushesTo};
-ghost use Rattle.ulfm_log.specs.State.{outbox};
+ghost use Rattle.ulfm_log.specs.State.{has_way_back, outbox, returned, MayReturn};
 
 use super::Process;
-use ulfm_base::{CallError, OutOfMemory, WorldRank};
+use ulfm_base::{CallError, Item, OutOfMemory, WorldRank};
+use ulfm_rank::Rank;
 
 impl Process {
     /// Takes an item that came, if there is one, and pushes what waits to go out, to each rank as far as its end knows of places in
@@ -159,9 +160,23 @@ impl Process {
         match self.end.push_now(dest, item) {
             Ok(()) => true,
             Err(back) => {
-                self.rank.put_back(dest, back);
+                put_back(&mut self.rank, dest, back);
                 false
             }
         }
     }
+}
+
+/// An item that found no place comes back to its rank.
+// Apart: few do, and those that go out are moved whole where none is taken apart.
+#[inline(never)]
+fn put_back(rank: &mut Rank, dest: u8, item: Item)
+    requires inside { dest < rank.old.state.ranks }
+    requires taken { MayReturn rank.old.state dest item }
+    requires way_back { IsTrue (has_way_back rank.old.state rank.old.lent dest) }
+    ensures state { rank.new.state ≡ returned rank.old.state dest }
+    ensures prepared { rank.new.prepared ≡ rank.old.prepared }
+    ensures place { rank.new.has_place ≡ rank.old.has_place }
+{
+    rank.put_back(dest, item);
 }

@@ -45,13 +45,13 @@ returns-in-Ok-clause-pushes c =
 pub invariant_of-self-in-Err : goal.invariant_of-self-in-Err
 invariant_of-self-in-Err c =
     let t = c.in-Err.ensures in let h = c.self.invariant in let end = c.push_now.new.self in
-    let back : c.put_back.new.self.state ≡ c.self.inside.rank.state = c.put_back.ensures.state ∙ comes-back c.self.inside.rank.state c.take_out.new.self.state c.args.dest c.in-Some.item c.in-Some.ensures.leaves in
+    let back : c.put_back.new.rank.state ≡ c.self.inside.rank.state = c.put_back.ensures.state ∙ comes-back c.self.inside.rank.state c.take_out.new.self.state c.args.dest c.in-Some.item c.in-Some.ensures.leaves in
     subst (λ (r : State). IsAtEnd r end) (sym back) (joined-returned end c.args.dest h (ap (λ (r : WorldRank). r.number) t.name.1) t.name.2 t.name.3 t.taken t.others t.pushed.1)
 
 pub returns-in-Err-clause-pushes : goal.returns-in-Err-clause-pushes
 returns-in-Err-clause-pushes c =
     let t = c.in-Err.ensures in
-    let back : c.put_back.new.self.state ≡ c.self.inside.rank.state = c.put_back.ensures.state ∙ comes-back c.self.inside.rank.state c.take_out.new.self.state c.args.dest c.in-Some.item c.in-Some.ensures.leaves in
+    let back : c.put_back.new.rank.state ≡ c.self.inside.rank.state = c.put_back.ensures.state ∙ comes-back c.self.inside.rank.state c.take_out.new.self.state c.args.dest c.in-Some.item c.in-Some.ensures.leaves in
     rw (sym c.self.view_is) (record {
       went = λ e. absurd (false≢true e);
       stays = λ e. back;
@@ -90,7 +90,7 @@ returns-in-Ok-clause-room c = same-room c.self.inside.rank c.take_out.new.self c
 
 pub returns-in-Err-clause-room : goal.returns-in-Err-clause-room
 returns-in-Err-clause-room c =
-    same-room c.self.inside.rank c.put_back.new.self (c.put_back.ensures.prepared ∙ c.take_out.ensures.prepared) (c.put_back.ensures.place ∙ c.take_out.ensures.place)
+    same-room c.self.inside.rank c.put_back.new.rank (c.put_back.ensures.prepared ∙ c.take_out.ensures.prepared) (c.put_back.ensures.place ∙ c.take_out.ensures.place)
     ∙ ap (λ (v : ReadyView). v.ready) c.self.view_is
 
 pub returns-in_default-clause-room : goal.returns-in_default-clause-room
