@@ -108,8 +108,8 @@ uint32_t ulfm_world(ulfm_slot *slots, size_t ranks, uint8_t capacity);
 
 /* Ends a rank and frees what it has; the slot is all zeros then. The other ranks aren't told, and what didn't go out is lost. Nothing is if these
    come before, in this order: `ulfm_turn` until `ulfm_flushed` says 1, so that messages go out; `ulfm_stop`; `ulfm_turn` until it says 1 once
-   more, so that the notices do. A rank that stopped takes nothing any more. To a running rank what waits for it counts no more once its notice came;
-   a rank that stopped takes no notice: end the second loop also when the other ranks have stopped or ended. 16. */
+   more, so that the notices do. A rank that stopped takes nothing any more. What waits for it counts no more once its notice came; a rank that stopped
+   itself takes no notice from then on: end the second loop also when the other ranks have stopped or ended. 16. */
 uint32_t ulfm_end(ulfm_slot *slot);
 
 /* The rank stops, as if it failed there (ULFM: a process failure): what didn't go out of it yet is lost, its messages too, and the others learn
@@ -124,8 +124,8 @@ uint32_t ulfm_stop(ulfm_slot *slot);
    this rank has nothing to do until another one moves, and the next turn, if it is the next call, doesn't answer 12. 16, 12 (of a running rank). */
 uint32_t ulfm_turn(ulfm_slot *slot, uint32_t *moved);
 
-/* *flushed: 1 where nothing waits to go out to a rank that isn't known to have failed; of a rank that stopped, where its notices went out to all.
-   Else 0. 16. */
+/* *flushed: 1 where nothing waits to go out to a rank that isn't known to have failed; a rank that stopped knows what it knew as it stopped. Else
+   0. 16. */
 uint32_t ulfm_flushed(ulfm_slot *slot, uint32_t *flushed);
 
 /* ---- Progress step by step ----

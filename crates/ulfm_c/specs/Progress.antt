@@ -1,11 +1,9 @@
 -- What a turn by C does, and what is told of what goes out.
-use Rattle.std.specs.Prelude.{◌≡◌, ℕ, ◌<◌, ◌⊎◌, ◌&&◌, [], Bool, true, false, not}
+use Rattle.std.specs.Prelude.{◌≡◌, ℕ, ◌<◌, ◌⊎◌, [], Bool, true, false}
 use Rattle.ulfm_c.specs.Turning.{IsTurn, LeavesRoom}
 use Rattle.ulfm_c.specs.View.{ProcessView, ReadyView}
-use Rattle.ulfm_base.specs.Group.{is_member}
-use Rattle.ulfm_log.specs.Facts.{is_stopped, known_in}
-use Rattle.ulfm_log.specs.State.{State, outbox}
-use Rattle.ulfm_rank.specs.Checks.{group_at}
+use Rattle.ulfm_log.specs.Facts.{is_gone, is_stopped}
+use Rattle.ulfm_log.specs.State.{outbox}
 
 -- whether something is so is told by 1 or 0
 abbrev pub TellsWhether : ℕ → (Bool → Type 0) → Type 0
@@ -18,13 +16,9 @@ TurnCall old new before moved code =
     ((code ≡ 0) × TellsWhether moved (IsTurn old.view new.view) × (moved ≡ 0 → LeavesRoom old new))
     ⊎ ((code ≡ 12) × (is_stopped old.view.rank.log ≡ false) × (old.ready ≡ false) × (new.view ≡ old.view) × (moved ≡ before))
 
--- the rank runs, and the rank d is among those of the world that are known to have failed
-abbrev pub tells_failed : State → ℕ → Bool
-tells_failed r d = not (is_stopped r.log) && is_member (known_in r.log (group_at r 0)) d
-
--- nothing waits to go out to a rank that isn't told to have failed; of a rank that stopped, to any
+-- nothing waits to go out to a rank that isn't known to have failed; what is known to a rank that stopped is what it knew then
 abbrev pub IsFlushed : ProcessView → Type 0
-IsFlushed p = (d : ℕ) → d < p.rank.ranks → tells_failed p.rank d ≡ false → outbox p.rank d ≡ []
+IsFlushed p = (d : ℕ) → d < p.rank.ranks → is_gone p.rank.log d ≡ false → outbox p.rank d ≡ []
 
 -- 1 where nothing waits to go out so, else 0
 abbrev pub TellsFlushed : ProcessView → ℕ → Type 0

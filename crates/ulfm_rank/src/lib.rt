@@ -21,8 +21,8 @@
 //!   Messages.antt).
 //! - `cancel` (`answer`): a receive is cancelled if a test would answer that it waits or pends; otherwise the answer is the test's (MPI 4.0, 3.8.4;
 //!   `IsCancelAnswer`, Cancel.antt).
-//! - `get_failed`, `ack_failed` (`failed`, `total`): failures are known in the order of their notices. Acknowledged totals are each communicator's
-//!   own, and never fall (`known_in`, `ack_answer`, Facts.antt of `ulfm_log`).
+//! - `get_failed`, `ack_failed` (`failed`, `total`), `knows_failed`: failures are known in the order of their notices. Acknowledged totals are each
+//!   communicator's own, and never fall (`known_in`, `ack_answer`, `is_gone`, Facts.antt of `ulfm_log`).
 //! - `take_out`, `put_back`, `isend`, `stop`: for each rank the items go out that the log has for it, in order, each once. After a stop the notice
 //!   goes out in place of the rest (`owed`, Owed.antt of `ulfm_log`; `outbox`, State.antt of `ulfm_log`).
 //! - `proposal`, `verdict`, `adopt`, `adopt_verdict`, and the law [`own_affairs_alone`]: a proposal is there exactly where each member is listed or

@@ -3,8 +3,8 @@
 //! A take of a rank that the caller names leaves where the next turn begins. Were it set, such takes could make each turn begin at the same rank, and
 //! pass others over.
 ghost use Rattle.std.specs.Prelude.{◌≡◌, ◌<◌, ◌↔◌, [], false, IsTrue, IfOk, IfErr, OnOk, OnErr};
-ghost use Rattle.ulfm_log.specs.Facts.{is_stopped};
-ghost use Rattle.ulfm_c.specs.Progress.{IsFlushed, tells_failed};
+ghost use Rattle.ulfm_log.specs.Facts.{is_gone, is_stopped};
+ghost use Rattle.ulfm_c.specs.Progress.{IsFlushed};
 ghost use Rattle.ulfm_c.specs.Turning.{IsTakeRefusal, IsTurn, LeavesRoom, Pushes, Takes, TakesFrom};
 ghost use Rattle.ulfm_c.specs.inside.Pushing.{PushesOne, PushesTo};
 ghost use Rattle.ulfm_log.specs.State.{has_way_back, outbox, returned, MayReturn};
@@ -37,8 +37,8 @@ impl Process {
         Ok(went)
     }
 
-    /// Whether nothing waits to go out to a rank that isn't known to have failed: such a one takes nothing any more. Of a rank that
-    /// stopped its notices alone go out, and they count to all ranks.
+    /// Whether nothing waits to go out to a rank that isn't known to have failed: such a one takes nothing any more. A rank that
+    /// stopped knows of failures what it knew as it stopped.
     pub fn has_pushed_all(&self) -> bool
         ensures { IsTrue result ↔ IsFlushed self.now.view }
     {
@@ -50,26 +50,15 @@ impl Process {
         true
     }
 
-    /// Whether nothing waits to go out to a rank, or that is told to have failed.
+    /// Whether nothing waits to go out to a rank, or that is known to have failed.
     fn has_pushed_to(&self, dest: u8) -> bool
         requires { dest < self.now.view.rank.ranks }
-        ensures { IsTrue result ↔ (tells_failed self.now.view.rank dest ≡ false → outbox self.now.view.rank dest ≡ []) }
+        ensures { IsTrue result ↔ (is_gone self.now.view.rank.log dest ≡ false → outbox self.now.view.rank dest ≡ []) }
     {
-        if self.tells_failed(dest) {
+        if self.rank.knows_failed(WorldRank { number: dest }) {
             return true;
         }
         self.rank.is_outbox_empty(dest)
-    }
-
-    /// Whether this rank runs, and another is among those of the world that are known to have failed.
-    fn tells_failed(&self, dest: u8) -> bool
-        requires { dest < self.now.view.rank.ranks }
-        ensures { result ≡ tells_failed self.now.view.rank dest }
-    {
-        match self.get_failed(self.rank.world()) {
-            Ok(failed) => failed.contains(WorldRank { number: dest }),
-            Err(_) => false,
-        }
     }
 
     /// Pushes what waits to go out, to each rank as far as its end knows of places in the ring. Whether anything went.

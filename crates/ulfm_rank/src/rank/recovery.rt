@@ -2,11 +2,11 @@
 ghost use Rattle.std.specs.Prelude.{◌≡◌, ◌<◌, [], true, false, IfOk, IfErr, IsTrue, OnOk, OnErr};
 ghost use Rattle.ulfm_rank.specs.Calls.{acknowledging, revoking, stopping};
 ghost use Rattle.ulfm_rank.specs.Checks.{Passes, Fails, FailsOrStarves, group_at, comm_checks};
-ghost use Rattle.ulfm_log.specs.Facts.{is_revoked, known_in, acknowledged_of, ack_answer};
+ghost use Rattle.ulfm_log.specs.Facts.{is_gone, is_revoked, known_in, acknowledged_of, ack_answer};
 
 use super::Rank;
 use crate::requests::clear;
-use ulfm_base::{CallError, Group};
+use ulfm_base::{CallError, Group, WorldRank};
 use ulfm_log::{Comm, Entry, forward};
 
 impl Rank {
@@ -36,6 +36,13 @@ impl Rank {
     {
         let group = self.running_group(comm)?;
         Ok(self.faults.known_in(group))
+    }
+
+    /// Whether another rank is known to have failed. A rank that stopped knows what it knew as it stopped.
+    pub fn knows_failed(&self, peer: WorldRank) -> bool
+        ensures { result ≡ is_gone self.now.state.log peer.number }
+    {
+        self.faults.is_known(peer)
     }
 
     /// Acknowledges the first `n` failures that are known in a communicator's group, or all of them where fewer are
