@@ -4,7 +4,7 @@
 
 #include "ulfm.h"
 
-/* The types of crates/ulfm_c that stand for these have the same sizes. */
+/* The types of crates/ulfm_c that stand for these assert the same sizes. */
 _Static_assert(sizeof(ulfm_slot) == 16, "a slot is a Handle");
 _Static_assert(sizeof(ulfm_status) == 24, "a status is a CStatus");
 _Static_assert(sizeof(ulfm_group) == 12, "a group is a CGroup");

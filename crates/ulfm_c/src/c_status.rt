@@ -22,6 +22,8 @@ pub struct CStatus {
     pub cancelled: u32,
 }
 
+const _: () = prove!(size_of::<CStatus>() == 24);
+
 /// Members of a communicator, by world rank.
 #[repr(C)]
 #[derive(Clone, Copy)]
@@ -31,6 +33,8 @@ pub struct CGroup {
     /// Their world ranks.
     pub members: [u8; 8],
 }
+
+const _: () = prove!(size_of::<CGroup>() == 12);
 
 /// What is told of a letter that came.
 pub(crate) fn status_of(status: Status) -> CStatus

@@ -31,6 +31,8 @@ pub struct Handle {
     pub ghost told: { holds ≡ holding slot.held },
 }
 
+const _: () = prove!(size_of::<Handle>() == 16);
+
 impl Handle {
     /// Takes the process out, where there is one.
     pub(crate) fn take(&mut self, alloc: Global) -> Option<Box<Process>>

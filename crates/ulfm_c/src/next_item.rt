@@ -21,6 +21,8 @@ pub struct CNextItem {
     pub round: u64,
 }
 
+const _: () = prove!(size_of::<CNextItem>() == 32);
+
 /// An item without a tag, a length and a round.
 fn bare_item(kind: u32, comm: u64) -> CNextItem
     ensures { result ≡ bare_item kind comm }
