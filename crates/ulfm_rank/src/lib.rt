@@ -28,7 +28,7 @@
 //! - `proposal`, `verdict`, `adopt`, `adopt_verdict`, and the law [`own_affairs_alone`]: a proposal is there exactly where each member is listed or
 //!   known to have failed, here or by a listed member. A decision is adopted only if it is this rank's own affair (`IsProposal`, `IsOwnAffair`,
 //!   Proposal.antt of `ulfm_log`).
-//! - `dup`, `enter_shrink`, `dup_again`, `enter_shrink_again`: a rank counts its duplicates and its shrinks of each communicator from 0, and each has
+//! - `dup`, `enter_shrink`, `dup_with`, `enter_shrink_with`: a rank counts its duplicates and its shrinks of each communicator from 0, and each has
 //!   the context of its number (`nth_dup`, `nth_shrink`, Context.antt of `ulfm_base`). The first two make none but the first of contexts 0 to 62
 //!   (`is_single`, Checks.antt).
 //! - each call (`accepted`, `refused`, `unchanged`, `room_lacked`): refusals come in a stated order, each in its stated case alone, and leave the

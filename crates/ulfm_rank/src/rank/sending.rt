@@ -1,5 +1,5 @@
 //! Sends and communicators (MPI 4.0, chapters 3 and 7).
-ghost use Rattle.std.specs.Prelude.{◌≡◌, ◌<◌, ◌≤◌, true, false, length, slice_get, IfOk, IfErr, IsTrue, OnOk, OnErr, Some, None};
+ghost use Rattle.std.specs.Prelude.{◌≡◌, ◌<◌, ◌≤◌, false, length, slice_get, IfOk, IfErr, IsTrue, OnOk, OnErr, Some, None};
 ghost use Rattle.ulfm_base.specs.Context.{nth_dup};
 ghost use Rattle.ulfm_rank.specs.Calls.{Sends};
 ghost use Rattle.ulfm_rank.specs.Checks.{Passes, Fails, FailsOrStarves, group_at, send_checks, dup_checks};
@@ -105,28 +105,16 @@ impl Rank {
         self.dup_with(comm, false)
     }
 
-    /// Duplicates a communicator once more, or for the first time.
+    /// Duplicates a communicator, as `dup` does; where `again`, also one that was duplicated before, or whose duplicate has no
+    /// number among 0 to 62.
     ///
     /// # Errors
     ///
     /// `Stopped` where the rank has stopped, else `NoComm` where the communicator wasn't made, else `Revoked` where it
-    /// is revoked, else `NoContext` where the duplicate's context would be past the last one, else `OutOfMemory` where a
-    /// growth was refused. Then nothing changed.
-    pub fn dup_again(&mut self, comm: Comm) -> Result<Comm, CallError>
-        ensures accepted { OnOk result (Passes (dup_checks true self.old.state comm.context.number)) }
-        ensures made { IfOk result (λ made. made.context.number ≡ nth_dup (dups_of self.old.state.log comm.context.number) comm.context.number) }
-        ensures state { OnOk result (self.new.state ≡ logged self.old.state (Entry.Duplicated comm.context (dups_of self.old.state.log comm.context.number))) }
-        ensures refused { IfErr result (FailsOrStarves (dup_checks true self.old.state comm.context.number)) }
-        ensures unchanged { OnErr result (self.new.state ≡ self.old.state) }
-        ensures room_lacked { IfErr result (λ e. e ≡ CallError.OutOfMemory → self.old.prepared ≡ false) }
-        ensures stays_prepared { OnErr result (IsTrue self.old.prepared → IsTrue self.new.prepared) }
-        ensures place { self.new.has_place ≡ self.old.has_place }
-    {
-        self.dup_with(comm, true)
-    }
-
-    /// Duplicates a communicator, once more where `again`.
-    fn dup_with(&mut self, comm: Comm, again: bool) -> Result<Comm, CallError>
+    /// is revoked, else, of contexts 0 to 62 and without `again`, `AlreadyMade` where it was duplicated before, and
+    /// `NoContext` past 30, else `NoContext` where the duplicate's context would be past the last one, else `OutOfMemory`
+    /// where a growth was refused. Then nothing changed.
+    pub fn dup_with(&mut self, comm: Comm, again: bool) -> Result<Comm, CallError>
         ensures accepted { OnOk result (Passes (dup_checks again self.old.state comm.context.number)) }
         ensures made { IfOk result (λ made. made.context.number ≡ nth_dup (dups_of self.old.state.log comm.context.number) comm.context.number) }
         ensures state { OnOk result (self.new.state ≡ logged self.old.state (Entry.Duplicated comm.context (dups_of self.old.state.log comm.context.number))) }

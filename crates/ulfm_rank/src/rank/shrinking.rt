@@ -1,5 +1,5 @@
 //! Shrinks (ULFM, shrink).
-ghost use Rattle.std.specs.Prelude.{◌≡◌, ◌-◌, ℕ, false, true, IsTrue, None, IfOk, IfErr, OnOk, OnErr};
+ghost use Rattle.std.specs.Prelude.{◌≡◌, ◌-◌, ℕ, false, IsTrue, None, IfOk, IfErr, OnOk, OnErr};
 ghost use Rattle.ulfm_base.specs.Context.{nth_shrink};
 ghost use Rattle.ulfm_base.specs.Group.{is_member};
 ghost use Rattle.ulfm_base.specs.RankSet.{has};
@@ -35,27 +35,16 @@ impl Rank {
         self.enter_shrink_with(comm, false)
     }
 
-    /// Enters a further shrink of a communicator, or its first, as `enter_shrink` does.
+    /// Enters the next shrink of a communicator, as `enter_shrink` does; where `again`, also one that was shrunk before, or whose
+    /// shrink has no number among 0 to 62.
     ///
     /// # Errors
     ///
     /// `Stopped` where the rank has stopped, else `NoComm` where the communicator wasn't made, else `AlreadyMade` where
-    /// it entered a shrink there whose decision it didn't adopt yet, else `NoContext` where the new communicator's context
-    /// would be past the last one, else `OutOfMemory` where a growth was refused. Then nothing changed.
-    pub fn enter_shrink_again(&mut self, comm: Comm) -> Result<(), CallError>
-        ensures accepted { OnOk result (Passes (shrink_checks true self.old.state comm.context)) }
-        ensures enters { OnOk result (Enters self.old.state (next_shrink self.old.state.log comm.context) None self.new.state) }
-        ensures refused { IfErr result (FailsOrStarves (shrink_checks true self.old.state comm.context)) }
-        ensures unchanged { OnErr result (self.new.state ≡ self.old.state) }
-        ensures room_lacked { IfErr result (λ e. e ≡ CallError.OutOfMemory → self.old.prepared ≡ false) }
-        ensures stays_prepared { OnErr result (IsTrue self.old.prepared → IsTrue self.new.prepared) }
-        ensures place { self.new.has_place ≡ self.old.has_place }
-    {
-        self.enter_shrink_with(comm, true)
-    }
-
-    /// Enters the next shrink of a communicator, a further one where `again`.
-    fn enter_shrink_with(&mut self, comm: Comm, again: bool) -> Result<(), CallError>
+    /// it entered a shrink there whose decision it didn't adopt yet, else, of contexts 0 to 62 and without `again`,
+    /// `AlreadyMade` where a shrink was entered before, and `NoContext` past 30, else `NoContext` where the new communicator's
+    /// context would be past the last one, else `OutOfMemory` where a growth was refused. Then nothing changed.
+    pub fn enter_shrink_with(&mut self, comm: Comm, again: bool) -> Result<(), CallError>
         ensures accepted { OnOk result (Passes (shrink_checks again self.old.state comm.context)) }
         ensures enters { OnOk result (Enters self.old.state (next_shrink self.old.state.log comm.context) None self.new.state) }
         ensures refused { IfErr result (FailsOrStarves (shrink_checks again self.old.state comm.context)) }
