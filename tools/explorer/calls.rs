@@ -22,8 +22,8 @@ impl Rank {
         let poll = match step {
             Step::Wait { req } => self.wait(job, req).map_or(Poll::Open, Poll::Answered),
             Step::Probe { .. } => self.probe(job, step).map_or(Poll::Open, Poll::Answered),
-            Step::Shrink { comm } => self.poll_topic(Topic::shrink(comm), None, decisions),
-            Step::Agree { flag, comm } => self.poll_topic(self.agreement_on(comm), Some(flag), decisions),
+            Step::Shrink { comm, again } => self.poll_topic(self.shrink_on(comm), None, again, decisions),
+            Step::Agree { flag, comm } => self.poll_topic(self.agreement_on(comm), Some(flag), false, decisions),
             _ => Poll::Answered(self.call(job, step).unwrap_or_else(Answer::Refused)),
         };
         self.is_open = poll == Poll::Entered;
@@ -34,11 +34,11 @@ impl Rank {
     }
 
     /// One poll of a shrink or an agreement. The first one enters, and the later ones ask for the decision.
-    fn poll_topic(&mut self, topic: Topic, flag: Option<u32>, decisions: &mut Decisions) -> Poll {
+    fn poll_topic(&mut self, topic: Topic, flag: Option<u32>, again: bool, decisions: &mut Decisions) -> Poll {
         if self.is_open {
             return self.decide(topic, decisions).map_or(Poll::Open, Poll::Answered);
         }
-        match self.enter(topic, flag) {
+        match self.enter(topic, flag, again) {
             Ok(()) => Poll::Entered,
             Err(refusal) => Poll::Answered(Answer::Refused(refusal)),
         }
@@ -54,7 +54,7 @@ impl Rank {
             Step::Failed { comm } => self.failed(comm),
             Step::Ack { count, comm } => self.ack(count, comm),
             Step::Revoke { comm } => self.revoke(comm),
-            Step::Dup { comm } => self.dup(comm),
+            Step::Dup { comm, again } => self.dup(comm, again),
             Step::Note { .. } => Ok(Answer::Noted),
             Step::Stop => Ok(self.stop()),
             Step::Wait { .. } | Step::Probe { .. } | Step::Shrink { .. } | Step::Agree { .. } => {

@@ -1,7 +1,7 @@
 //! What shrinks and agreements have in common: entries, proposals, decisions and their adoption (ULFM, MPI_Comm_shrink and
 //! MPI_Comm_agree).
 
-use crate::communicators::shrink_of;
+use crate::communicators::may_make;
 use crate::group::Group;
 use crate::items::{Answer, Item, Refusal};
 use crate::job::Place;
@@ -26,22 +26,22 @@ impl Rank {
         self.entries.contains_key(&(topic, self.me))
     }
 
-    /// The group of a topic that may be entered. It is refused 1, 8 and, for a shrink, 9, in this order.
-    pub fn group_to_enter(&self, topic: Topic) -> Result<Group, Refusal> {
+    /// The group of a topic that may be entered, by whether a further shrink is asked for. It is refused 1, 8 and, for a shrink, 9, in this order.
+    pub fn group_to_enter(&self, topic: Topic, again: bool) -> Result<Group, Refusal> {
         let group = self.group(topic.context)?;
         if self.has_entered(topic) {
             return Err(Refusal::AlreadyMade);
         }
-        if topic.purpose == Purpose::Shrink {
-            shrink_of(topic.context).ok_or(Refusal::NoContext)?;
+        if let Purpose::Shrink(round) = topic.purpose {
+            may_make(again, topic.context, round)?;
         }
         Ok(group)
     }
 
     /// The first poll. It records what the rank brings, the failures that are known with it, and tells each other member that
     /// isn't known to have failed.
-    pub fn enter(&mut self, topic: Topic, flag: Option<u32>) -> Result<(), Refusal> {
-        let group = self.group_to_enter(topic)?;
+    pub fn enter(&mut self, topic: Topic, flag: Option<u32>, again: bool) -> Result<(), Refusal> {
+        let group = self.group_to_enter(topic, again)?;
         let known = self.known_set();
         let brought = Contribution { known, flag };
         self.entries.insert((topic, self.me), brought);
@@ -84,7 +84,7 @@ impl Rank {
         }
         let me = decision.fresh.position_of(self.me).ok_or(Refusal::NotMember)?;
         match topic.purpose {
-            Purpose::Shrink => self.adopt_shrink(topic.context, decision.fresh, me),
+            Purpose::Shrink(round) => Ok(self.adopt_shrink(topic.context, round, decision.fresh, me)),
             Purpose::Agree(round) => Ok(self.adopt_agreement(topic.context, round, decision)),
         }
     }

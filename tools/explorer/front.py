@@ -1,6 +1,6 @@
 """Builds the explorer of all outcomes, and hands jobs over to it in their plain form: `<ranks> <capacity>`, then a line a step. In it
-steps are named by numbers alone, and a step ends with its conditions: `<alternative> <step> <is or not> <words>` for each, the words in
-hexadecimal digits and parted by commas."""
+steps are named by numbers alone, and an op that says `again` ends with `-again`. A step ends with its conditions:
+`<alternative> <step> <is or not> <words>` for each, the words in hexadecimal digits and parted by commas."""
 import collections
 import os
 import pathlib
@@ -65,6 +65,8 @@ def words_of(step, number_of):
         return [op, step["count"], comm]
     if op == "agree":
         return [op, step["flag"], comm]
+    if op in ("dup", "shrink") and step.get("again"):
+        return [f"{op}-again", comm]
     if op == "note":
         return [op, step["text"].encode().hex()]
     return [op] if op == "stop" else [op, comm]
@@ -286,6 +288,11 @@ def plain(text, stops=None):
         lengths[rank] += 1
     lines += [[rank, "stop"] for rank, at in stops.items() if at == lengths[rank]]
     return "\n".join(" ".join(map(str, line)) for line in lines) + "\n"
+
+
+def asks_again(text):
+    """Whether a step of a job asks for a further communicator."""
+    return any(step.get("again") for step in written_out(read(text)))
 
 
 def explore(text, *options, stops=None):

@@ -4,9 +4,9 @@ use crate::reacting::{Alternative, Condition};
 use std::str::SplitWhitespace;
 
 /// The number of a context: 0 is the world's.
-pub type Context = u8;
+pub type Context = u64;
 
-/// Contexts are 0 to 62.
+/// Jobs name the contexts 0 to 62.
 pub const LAST_CONTEXT: Context = 62;
 
 /// A rank of the world, or a position in a group.
@@ -27,8 +27,8 @@ pub enum Step {
     Failed { comm: Context },
     Ack { count: u8, comm: Context },
     Revoke { comm: Context },
-    Dup { comm: Context },
-    Shrink { comm: Context },
+    Dup { comm: Context, again: bool },
+    Shrink { comm: Context, again: bool },
     Agree { flag: u32, comm: Context },
     /// Its text stands among the bodies.
     Note { text: Body },
@@ -106,8 +106,10 @@ impl Job {
             "failed" => Step::Failed { comm: context(words)? },
             "ack" => Step::Ack { count: number(words)?, comm: context(words)? },
             "revoke" => Step::Revoke { comm: context(words)? },
-            "dup" => Step::Dup { comm: context(words)? },
-            "shrink" => Step::Shrink { comm: context(words)? },
+            "dup" => Step::Dup { comm: context(words)?, again: false },
+            "dup-again" => Step::Dup { comm: context(words)?, again: true },
+            "shrink" => Step::Shrink { comm: context(words)?, again: false },
+            "shrink-again" => Step::Shrink { comm: context(words)?, again: true },
             "agree" => Step::Agree { flag: number(words)?, comm: context(words)? },
             "note" => Step::Note { text: self.body(words.next()?) },
             "stop" => Step::Stop,

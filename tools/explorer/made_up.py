@@ -1,5 +1,5 @@
 """Made-up jobs: small ones, with what schedules can turn: stops, full inboxes, revocations, shrinks, agreements, receives and probes
-from any source, cancels, duplicates and acknowledgements."""
+from any source, cancels, duplicates and acknowledgements; some with further duplicates and shrinks of one communicator."""
 
 from . import reacting
 from .toml_text import job_text
@@ -9,10 +9,11 @@ FLAGS = [0, 3, 5, 6, 7, 12, 4294967295]
 
 
 class Maker:
-    """Makes one job, piece by piece, out of a source of chance."""
+    """Makes one job, piece by piece, out of a source of chance. Further duplicates and shrinks are there where they have a source of their own."""
 
-    def __init__(self, chance):
+    def __init__(self, chance, of_more=None):
         self.chance = chance
+        self.of_more = of_more
         self.ranks = chance.choice([2, 3, 3, 3, 4])
         self.capacity = chance.choice([1, 1, 1, 2])
         self.steps = []
@@ -97,12 +98,24 @@ class Maker:
     def wait_again(self):
         self.named("wait", ["recv"])
 
+    def again(self):
+        """The key of a step that asks for a further communicator, now and then."""
+        return {"again": True} if self.of_more and self.of_more.random() < 0.7 else {}
+
+    def further(self):
+        """Duplicates or shrinks of one communicator in a row, by all or by some."""
+        op, comm = self.of_more.choice(["dup", "shrink", "shrink"]), self.comm(self.rank())
+        for _ in range(2):
+            for rank in range(self.ranks):
+                if self.of_more.random() < 0.95:
+                    self.add(rank, op, comm=comm, again=self.of_more.random() < 0.9)
+
     def shrink(self):
         """A shrink by all or by some. Who stopped before takes no part."""
         comm = self.comm(self.rank())
         for rank in range(self.ranks):
             if self.chance.random() < 0.9:
-                self.add(rank, "shrink", comm=comm)
+                self.add(rank, "shrink", comm=comm, **self.again())
                 self.comms[rank].append(2 * comm + 2)
 
     def agree(self):
@@ -126,7 +139,7 @@ class Maker:
         comm = self.comm(self.rank())
         for rank in range(self.ranks):
             if self.chance.random() < 0.6:
-                self.add(rank, "dup", comm=comm)
+                self.add(rank, "dup", comm=comm, **self.again())
                 self.comms[rank].append(2 * comm + 1)
 
     def late_letter(self):
@@ -156,6 +169,8 @@ class Maker:
             (2, lambda: self.of_comm("ack", count=self.chance.randrange(1, 3))), (3, lambda: self.add(self.rank(), "stop")),
             (4, self.late_letter), (4, self.probe), (3, self.cancel), (1, self.note),
         ]
+        if self.of_more:
+            pieces.append((25, self.further))
         self.chance.choices([piece for _, piece in pieces], [weight for weight, _ in pieces])[0]()
 
     def text(self):
@@ -170,7 +185,7 @@ class Maker:
         return job_text(self.ranks, self.capacity, self.steps)
 
 
-def made_up(chance, of_reactions=None):
-    """The text of a made-up job: one that reacts, where there is a source of chance for that."""
-    maker = Maker(chance)
+def made_up(chance, of_reactions=None, of_more=None):
+    """The text of a made-up job: one that reacts, and one with further duplicates and shrinks, where there is a source of chance for that."""
+    maker = Maker(chance, of_more)
     return maker.text_of_reacting(of_reactions) if of_reactions else maker.text()

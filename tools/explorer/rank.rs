@@ -63,6 +63,10 @@ pub struct Rank {
     pub kept: Vec<Letter>,
     /// The entries into shrinks and agreements that are known here, by topic and rank, the rank's own too.
     pub entries: BTreeMap<(Topic, Place), Contribution>,
+    /// How many duplicates of a communicator were made, where some were.
+    pub dups: BTreeMap<Context, u16>,
+    /// How many shrinks of a communicator were adopted, where some were.
+    pub shrunk: BTreeMap<Context, Round>,
     /// How many agreements on a communicator were adopted, where some were.
     pub agreed: BTreeMap<Context, Round>,
     /// What the rank owes to each rank and hasn't pushed.
@@ -90,6 +94,8 @@ impl Rank {
             messages: BTreeMap::new(),
             kept: vec![],
             entries: BTreeMap::new(),
+            dups: BTreeMap::new(),
+            shrunk: BTreeMap::new(),
             agreed: BTreeMap::new(),
             outboxes: vec![VecDeque::new(); ranks],
             log: 0,
@@ -121,6 +127,8 @@ impl Rank {
         self.messages.clear();
         self.kept.clear();
         self.entries.clear();
+        self.dups.clear();
+        self.shrunk.clear();
         self.agreed.clear();
     }
 }

@@ -3,17 +3,17 @@
 use crate::group::Group;
 use crate::job::Context;
 
-/// The number of an agreement among those on its communicator, from 0.
+/// The number of a shrink among those of its communicator, or of an agreement among those on it, from 0.
 pub type Round = u16;
 
 /// What a communicator's members decide.
 #[derive(Clone, Copy, Debug, PartialEq, Eq, PartialOrd, Ord, Hash)]
 pub enum Purpose {
-    Shrink,
+    Shrink(Round),
     Agree(Round),
 }
 
-/// The shrink of a communicator, or one of its agreements.
+/// One of the shrinks of a communicator, or one of its agreements.
 #[derive(Clone, Copy, Debug, PartialEq, Eq, PartialOrd, Ord, Hash)]
 pub struct Topic {
     pub context: Context,
@@ -21,8 +21,8 @@ pub struct Topic {
 }
 
 impl Topic {
-    pub fn shrink(context: Context) -> Topic {
-        Topic { context, purpose: Purpose::Shrink }
+    pub fn shrink(context: Context, round: Round) -> Topic {
+        Topic { context, purpose: Purpose::Shrink(round) }
     }
 
     pub fn agreement(context: Context, round: Round) -> Topic {

@@ -17,12 +17,17 @@ pub fn step_words(job: &Job, step: &Step) -> String {
         Step::Failed { comm } => format!("failed comm {comm}"),
         Step::Ack { count, comm } => format!("ack {count} comm {comm}"),
         Step::Revoke { comm } => format!("revoke comm {comm}"),
-        Step::Dup { comm } => format!("dup comm {comm}"),
-        Step::Shrink { comm } => format!("shrink comm {comm}"),
+        Step::Dup { comm, again } => format!("dup comm {comm}{}", again_words(again)),
+        Step::Shrink { comm, again } => format!("shrink comm {comm}{}", again_words(again)),
         Step::Agree { flag, comm } => format!("agree {flag} comm {comm}"),
         Step::Note { text: label } => format!("note {}", text(&job.bodies[label as usize]).unwrap_or_default()),
         Step::Stop => "stop".to_string(),
     }
+}
+
+/// The word of a step that asks for a further communicator.
+fn again_words(again: bool) -> &'static str {
+    if again { " again" } else { "" }
 }
 
 /// The words of an answer.

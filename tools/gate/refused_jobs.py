@@ -176,6 +176,8 @@ JOBS = [
         f"line 4, column 1: {FIRST}key 'flag' is missing; it has to be",
         f"line 7, column 1: {FIRST}key 'falg' is unknown; did you mean 'flag'? agree has op, rank, flag, comm",
     ]),
+    ("a number for again", step('op = "dup"; again = 1'), "J2 step 0", [f"line 7, column 1: {FIRST}key 'again' is the integer 1, and has to be true or false"]),
+    ("again of a revoke", step('op = "revoke"; again = true'), "J3 step 0", [f"line 7, column 1: {FIRST}key 'again' is unknown; revoke has op, rank, comm, name"]),
     ("a flag of a shrink", step('op = "shrink"; flag = 1'), "J3 step 0", [f"line 7, column 1: {FIRST}key 'flag' is unknown; shrink has op, rank, comm"]),
     ("a flag of a send", step('op = "send"; to = 1; tag = 5; body = ""; flag = 1'), "J3 step 0", [
         f"line 10, column 1: {FIRST}key 'flag' is unknown; did you mean 'tag'? send has op, rank, to, tag, body, comm",

@@ -47,6 +47,9 @@ WARNED = [
         "rank 0 step 2 .. step 1 of its rank is a shrink of communicator 0 too, and one is the most: this step will be refused",
         "rank 0 step 3 .. step 0 of its rank is a dup of communicator 0 too",
     ]),
+    ("further communicators", 'rank = 0, op = "dup"; rank = 0, op = "dup", again = true; rank = 0, op = "shrink", again = true; rank = 0, op = "shrink"', [
+        "rank 0 step 3 .. step 2 of its rank is a shrink of communicator 0 too, and one is the most: this step will be refused",
+    ]),
     ("made between", 'rank = 0, op = "dup", comm = 2; rank = 0, op = "shrink"; rank = 0, op = "dup", comm = 2', ["rank 0 step 0 .. makes communicator 2"]),
     ("revoked before", 'rank = 0, op = "revoke"; rank = 0, op = "recv"; rank = 0, op = "failed"; rank = 0, op = "shrink"', [
         "rank 0 step 1 .. step 0 of its rank revokes communicator 0: this step will be refused",

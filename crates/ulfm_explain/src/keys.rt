@@ -175,6 +175,14 @@ pub fn integer_at(table: &Table, key: Key) -> Option<i64> {
     }
 }
 
+/// Whether a key says so.
+pub fn is_true_at(table: &Table, key: Key) -> bool {
+    match table.get(key.name()) {
+        Some(value) => value.as_bool().unwrap_or(false),
+        None => false,
+    }
+}
+
 /// The text at a key, if there is one.
 pub fn text_at(table: &Table, key: Key) -> Option<&str> {
     match table.get(key.name()) {
@@ -202,6 +210,7 @@ fn is_of_kind(value: &Value, kind: Kind) -> bool {
         | Kind::Ranks(_, _)
         | Kind::Peer(_, _)
         | Kind::PeerOrAny(_, _) => value.is_integer(),
+        Kind::Truth => value.is_bool(),
         Kind::Text | Kind::Name | Kind::Label | Kind::Called => value.is_str(),
         Kind::Reference(_, _) => value.is_integer() || value.is_str(),
         Kind::Conditions | Kind::Expected => value.is_table() || value.is_array(),

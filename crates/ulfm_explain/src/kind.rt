@@ -16,6 +16,8 @@ pub enum Kind {
     Peer(i64, i64),
     /// An integer from the first to the second, or a text that names a rank by the rank of the step; if the key is left out, any.
     PeerOrAny(i64, i64),
+    /// `true` or `false`.
+    Truth,
     /// A text.
     Text,
     /// An array of tables.
@@ -77,6 +79,7 @@ impl Kind {
             Kind::PeerOrAny(_, _) => {
                 ", \"me\", \"left\", \"right\" or \"me+1\" to \"me+7\", or left out for any"
             }
+            Kind::Truth => "true or false",
             Kind::Text => "a text in quotes",
             Kind::Tables => "an array of tables",
             Kind::Reference(_, _) => ", or the name of an earlier step in quotes",

@@ -29,6 +29,8 @@ pub enum Key {
     Count,
     Flag,
     Comm,
+    /// Whether a further communicator is made.
+    Again,
     /// The text of a note.
     Text,
     Name,
@@ -65,6 +67,7 @@ impl Key {
             Key::Count => "count",
             Key::Flag => "flag",
             Key::Comm => "comm",
+            Key::Again => "again",
             Key::Text => "text",
             Key::Name => "name",
             Key::If => "if",
@@ -96,6 +99,7 @@ impl Key {
             Key::Count => Kind::Integer(0, i64::from(MOST_RANKS)),
             Key::Flag => Kind::Integer(0, i64::from(LAST_FLAG)),
             Key::Comm => Kind::Integer(0, i64::from(LAST_COMM)),
+            Key::Again => Kind::Truth,
             Key::Text => Kind::Label,
             Key::Name => Kind::Name,
             Key::If => Kind::Conditions,
@@ -212,6 +216,7 @@ pub fn any_step_rules() -> Rules {
             Key::Count,
             Key::Flag,
             Key::Comm,
+            Key::Again,
             Key::Text,
         ],
         asking: ASKING,
@@ -234,7 +239,7 @@ pub fn step_rules(op: Op) -> Rules {
             Key::Flag,
             Key::Text,
         ],
-        optional: &[Key::From, Key::TagOrAny, Key::Room, Key::Comm],
+        optional: &[Key::From, Key::TagOrAny, Key::Room, Key::Comm, Key::Again],
         asking: ASKING,
         op: Some(op),
     }

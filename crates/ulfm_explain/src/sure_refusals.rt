@@ -1,6 +1,6 @@
 //! Which steps of a job that can be read will surely be refused, and why.
 
-use crate::keys::{integer_at, text_at};
+use crate::keys::{integer_at, is_true_at, text_at};
 use crate::refusal_cause::{Doom, LAST_PARENT};
 use crate::rules::Key;
 use crate::script::{Script, has_condition, op_of};
@@ -27,6 +27,14 @@ fn comm_of(step: &Value) -> i64 {
     match step.as_table() {
         Some(table) => integer_at(table, Key::Comm).unwrap_or(0),
         None => 0,
+    }
+}
+
+/// Whether a step makes a further communicator.
+fn is_further(step: &Value) -> bool {
+    match step.as_table() {
+        Some(table) => is_true_at(table, Key::Again),
+        None => false,
     }
 }
 
@@ -131,6 +139,14 @@ impl<'a> Placed<'a> {
         }
     }
 
+    /// Whether an earlier call leaves it no communicator to make: the op is the same, and it doesn't ask for a further one. Past the last
+    /// communicator of which there is one, only a call that asked for a further one made any.
+    fn is_second_to(&self, earlier: &Value) -> bool {
+        !is_further(self.step)
+            && op_of(earlier) == op_of(self.step)
+            && (comm_of(earlier) <= LAST_PARENT || is_further(earlier))
+    }
+
     /// A communicator that isn't made, is revoked, or has its one duplicate or shrink. Where a step that makes it stands between,
     /// earlier calls on it say nothing, and neither does one that may be skipped.
     fn doom_of_comm(&self, op: Op) -> Option<Doom> {
@@ -151,7 +167,7 @@ impl<'a> Placed<'a> {
                 if other == Some(Op::Revoke) {
                     revoked = Some(Doom::Revoked(comm, number));
                 }
-                if is_making && other == Some(op) {
+                if is_making && self.is_second_to(earlier) {
                     again = Some(Doom::Again(comm, op, number));
                 }
             }
@@ -159,8 +175,8 @@ impl<'a> Placed<'a> {
         if !is_made {
             return Some(Doom::NotMade(comm));
         }
-        if is_making && comm > LAST_PARENT {
-            return Some(Doom::NoContext(comm, op));
+        if is_making && comm > LAST_PARENT && !is_further(self.step) {
+            return again.or(Some(Doom::NoContext(comm, op)));
         }
         if matches!(op, Op::Send | Op::Recv | Op::Probe | Op::Dup) {
             return revoked.or(again);

@@ -1,5 +1,5 @@
 -- What a step asks for.
-use Rattle.std.specs.Prelude.{ℕ, List, [], ◌++◌, Option, Some, None, codes}
+use Rattle.std.specs.Prelude.{ℕ, Bool, true, false, List, [], ◌++◌, Option, Some, None, codes}
 use Rattle.std.specs.Fmt.{decimal}
 use Rattle.ulfm_base.specs.declared.context.Context.{Context}
 use Rattle.ulfm_base.specs.declared.tag.Tag.{Tag}
@@ -21,6 +21,11 @@ tag_json (Some tag) = codes ",\"tag\":" ++ decimal tag.number
 abbrev pub comm_json : Context → List ℕ
 comm_json comm = codes ",\"comm\":" ++ decimal comm.number
 
+-- the key of a step that asks for a further communicator, or nothing
+abbrev pub again_json : Bool → List ℕ
+again_json true = codes ",\"again\":true"
+again_json false = []
+
 -- the keys of what is sought: a source, a tag, and a communicator
 abbrev pub sought_json : Option ℕ → Option Tag → Context → List ℕ
 sought_json source tag comm = from_json source ++ tag_json tag ++ comm_json comm
@@ -40,8 +45,8 @@ keys_json (Cancel req) = req_json req
 keys_json (Failed comm) = comm_json comm
 keys_json (Ack count comm) = codes ",\"count\":" ++ decimal count ++ comm_json comm
 keys_json (Revoke comm) = comm_json comm
-keys_json (Dup comm) = comm_json comm
-keys_json (Shrink comm) = comm_json comm
+keys_json (Dup comm again) = comm_json comm ++ again_json again
+keys_json (Shrink comm again) = comm_json comm ++ again_json again
 keys_json (Agree flag comm) = codes ",\"flag\":" ++ decimal flag ++ comm_json comm
 keys_json (Note text) = codes ",\"text\":\"" ++ text ++ codes "\""
 keys_json Stop = []

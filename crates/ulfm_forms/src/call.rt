@@ -1,6 +1,6 @@
 //! What a step asks for.
 ghost use Rattle.std.specs.Prelude.{◌≡◌, ◌++◌, OnOk, string_bytes};
-ghost use Rattle.ulfm_forms.specs.Call.{call_json, comm_json, from_json, keys_json, sought_json, tag_json};
+ghost use Rattle.ulfm_forms.specs.Call.{again_json, call_json, comm_json, from_json, keys_json, sought_json, tag_json};
 
 use std::alloc::AllocError;
 use ulfm_base::{Context, Tag};
@@ -31,6 +31,17 @@ pub fn push_comm(text: &mut String, comm: Context) -> Result<(), AllocError>
     ensures { OnOk result (string_bytes text.new ≡ string_bytes text.old ++ comm_json comm) }
 {
     write!(text, ",\"comm\":{}", comm.number)
+}
+
+/// The key of a step that asks for a further communicator, or nothing.
+fn push_again(text: &mut String, again: bool) -> Result<(), AllocError>
+    ensures { OnOk result (string_bytes text.new ≡ string_bytes text.old ++ again_json again) }
+{
+    if again {
+        text.push_str(",\"again\":true")
+    } else {
+        Ok(())
+    }
 }
 
 /// The keys of what is sought: a source, a tag, and a communicator.
@@ -74,10 +85,11 @@ fn push_keys(text: &mut String, step: &Step) -> Result<(), AllocError>
             write!(text, ",\"flag\":{flag}")?;
             push_comm(text, *comm)
         }
-        Step::Failed { comm }
-        | Step::Revoke { comm }
-        | Step::Dup { comm }
-        | Step::Shrink { comm } => push_comm(text, *comm),
+        Step::Failed { comm } | Step::Revoke { comm } => push_comm(text, *comm),
+        Step::Dup { comm, again } | Step::Shrink { comm, again } => {
+            push_comm(text, *comm)?;
+            push_again(text, *again)
+        }
         Step::Note { text: label } => {
             let label = label.as_str();
             write!(text, ",\"text\":\"{label}\"")

@@ -125,8 +125,8 @@ pub(crate) fn push_mpi_call(text: &mut String, step: &Step) -> Result<(), AllocE
             push_numbered(text, "MPIX_Comm_ack_failed", *comm, "count", *count as u32)
         }
         Step::Revoke { comm } => push_on_comm(text, "MPIX_Comm_revoke", *comm),
-        Step::Dup { comm } => push_on_comm(text, "MPI_Comm_dup", *comm),
-        Step::Shrink { comm } => push_on_comm(text, "MPIX_Comm_shrink", *comm),
+        Step::Dup { comm, .. } => push_on_comm(text, "MPI_Comm_dup", *comm),
+        Step::Shrink { comm, .. } => push_on_comm(text, "MPIX_Comm_shrink", *comm),
         Step::Agree { flag, comm } => push_numbered(text, "MPIX_Comm_agree", *comm, "flag", *flag),
         Step::Note { .. } | Step::Stop => write!(text, "{step}"),
     }

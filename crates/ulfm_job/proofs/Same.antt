@@ -1,7 +1,8 @@
 -- Steps whose test passes are equal.
-use Rattle.std.proofs.Common.{◌≡◌, ◌==◌, ◌&&◌, ap, refl, rules, subst, sym, Bool, true, true≢false, Option, Some, None}
+use Rattle.std.proofs.Common.{◌≡◌, ◌==◌, ◌&&◌, ap, refl, rules, subst, sym, Bool, true, false, true≢false, Option, Some, None}
 use Rattle.std.specs.Cmp.Lexicographic.{bytes_decides}
 use Rattle.std.specs.Option.{option_eq}
+use mathlib.Core.Bool.{beq}
 use Rattle.std.proofs.lemmas.Bool.{and_parts, eqb-true}
 use Rattle.ulfm_base.specs.declared.context.Context.{Context}
 use Rattle.ulfm_base.specs.declared.tag.Tag.{Tag}
@@ -18,6 +19,11 @@ context x y h = same_context x y (eqb-true x.number y.number h)
 
 tag : (x y : Tag) → (x.number == y.number) ≡ true → x ≡ y
 tag x y h = same_tag x y (eqb-true x.number y.number h)
+
+bool : (x y : Bool) → beq x y ≡ true → x ≡ y
+bool true true h = refl
+bool false false h = refl
+bool _ _ h = absurd (true≢false (sym h))
 
 option : {A : Type 0} {E : A → A → Bool} → ((x y : A) → E x y ≡ true → x ≡ y) → (x y : Option A) → option_eq E x y ≡ true → x ≡ y
 option each None None h = refl
@@ -44,8 +50,8 @@ same (Cancel a) (Cancel b) h = ap Cancel (eqb-true a b h)
 same (Failed a) (Failed b) h = ap Failed (context a b h)
 same (Ack a b) (Ack c d) h = let p = also (eqb-true a c) (context b d) h in λ i. Ack (p.0 i) (p.1 i)
 same (Revoke a) (Revoke b) h = ap Revoke (context a b h)
-same (Dup a) (Dup b) h = ap Dup (context a b h)
-same (Shrink a) (Shrink b) h = ap Shrink (context a b h)
+same (Dup a b) (Dup c d) h = let p = also (context a c) (bool b d) h in λ i. Dup (p.0 i) (p.1 i)
+same (Shrink a b) (Shrink c d) h = let p = also (context a c) (bool b d) h in λ i. Shrink (p.0 i) (p.1 i)
 same (Agree a b) (Agree c d) h = let p = also (eqb-true a c) (context b d) h in λ i. Agree (p.0 i) (p.1 i)
 same (Note a) (Note b) h = ap Note ((bytes_decides a b).0 h)
 same Stop Stop h = refl

@@ -124,7 +124,7 @@ bodiless step = Some step
 
 -- the communicator about which ranks decide together by a step: they shrink it, or agree on it
 abbrev pub decides_on : Step → Option Context
-decides_on (Shrink comm) = Some comm
+decides_on (Shrink comm again) = Some comm
 decides_on (Agree flag comm) = Some comm
 decides_on _ = None
 

@@ -1,5 +1,5 @@
 -- The words in which steps are printed.
-use Rattle.std.specs.Prelude.{ℕ, List, ◌++◌, Option, Some, None, codes}
+use Rattle.std.specs.Prelude.{ℕ, Bool, true, false, List, [], ◌++◌, Option, Some, None, codes}
 use Rattle.std.specs.Fmt.{decimal}
 use Rattle.ulfm_base.specs.declared.context.Context.{Context}
 use Rattle.ulfm_base.specs.declared.tag.Tag.{Tag}
@@ -20,6 +20,11 @@ tag_text (Some tag) = decimal tag.number
 abbrev pub send_text : ℕ → Tag → Context → List ℕ
 send_text to tag comm = codes "send " ++ decimal to ++ codes " tag " ++ decimal tag.number ++ codes " comm " ++ decimal comm.number
 
+-- the word of a step that asks for a further communicator, or nothing
+abbrev pub again_text : Bool → List ℕ
+again_text true = codes " again"
+again_text false = []
+
 -- the words of a step
 abbrev pub step_text : Step → List ℕ
 step_text (Send to tag body comm) = send_text to tag comm
@@ -31,8 +36,8 @@ step_text (Cancel req) = codes "cancel " ++ decimal req
 step_text (Failed comm) = codes "failed comm " ++ decimal comm.number
 step_text (Ack count comm) = codes "ack " ++ decimal count ++ codes " comm " ++ decimal comm.number
 step_text (Revoke comm) = codes "revoke comm " ++ decimal comm.number
-step_text (Dup comm) = codes "dup comm " ++ decimal comm.number
-step_text (Shrink comm) = codes "shrink comm " ++ decimal comm.number
+step_text (Dup comm again) = codes "dup comm " ++ decimal comm.number ++ again_text again
+step_text (Shrink comm again) = codes "shrink comm " ++ decimal comm.number ++ again_text again
 step_text (Agree flag comm) = codes "agree " ++ decimal flag ++ codes " comm " ++ decimal comm.number
 step_text (Note text) = codes "note " ++ text
 step_text Stop = codes "stop"

@@ -41,8 +41,14 @@ impl Step {
                 comm: *comm,
             }),
             Step::Revoke { comm } => Some(Step::Revoke { comm: *comm }),
-            Step::Dup { comm } => Some(Step::Dup { comm: *comm }),
-            Step::Shrink { comm } => Some(Step::Shrink { comm: *comm }),
+            Step::Dup { comm, again } => Some(Step::Dup {
+                comm: *comm,
+                again: *again,
+            }),
+            Step::Shrink { comm, again } => Some(Step::Shrink {
+                comm: *comm,
+                again: *again,
+            }),
             Step::Agree { flag, comm } => Some(Step::Agree {
                 flag: *flag,
                 comm: *comm,

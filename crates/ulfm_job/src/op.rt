@@ -100,9 +100,8 @@ impl Op {
             Op::Wait | Op::Cancel => &["op", "rank", "name", "if", "expect", "req"],
             Op::Probe => &["op", "rank", "name", "if", "expect", "from", "tag", "comm"],
             Op::Mrecv => &["op", "rank", "name", "if", "expect", "req", "room"],
-            Op::Failed | Op::Revoke | Op::Dup | Op::Shrink => {
-                &["op", "rank", "name", "if", "expect", "comm"]
-            }
+            Op::Failed | Op::Revoke => &["op", "rank", "name", "if", "expect", "comm"],
+            Op::Dup | Op::Shrink => &["op", "rank", "name", "if", "expect", "comm", "again"],
             Op::Ack => &["op", "rank", "name", "if", "expect", "count", "comm"],
             Op::Agree => &["op", "rank", "name", "if", "expect", "flag", "comm"],
             Op::Note => &["op", "rank", "name", "if", "expect", "text"],

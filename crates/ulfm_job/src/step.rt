@@ -58,13 +58,15 @@ pub enum Step {
     Revoke {
         comm: Context,
     },
-    /// Duplicates a communicator.
+    /// Duplicates a communicator; where `again`, also where it has a duplicate, or none by a number.
     Dup {
         comm: Context,
+        again: bool,
     },
-    /// Shrinks a communicator.
+    /// Shrinks a communicator; where `again`, also where it was shrunk, or has no shrink by a number.
     Shrink {
         comm: Context,
+        again: bool,
     },
     /// Agrees on a value, by the AND of flags, with the members of a communicator.
     Agree {
@@ -112,7 +114,7 @@ impl Step {
         ensures { result ≡ decides_on self.now }
     {
         match self {
-            Step::Shrink { comm } | Step::Agree { comm, .. } => Some(*comm),
+            Step::Shrink { comm, .. } | Step::Agree { comm, .. } => Some(*comm),
             _ => None,
         }
     }

@@ -1,6 +1,6 @@
 //! The words in which steps are printed.
 ghost use Rattle.std.specs.Prelude.{Some};
-ghost use Rattle.ulfm_job.specs.Words.{send_text, source_text, step_text, tag_text};
+ghost use Rattle.ulfm_job.specs.Words.{again_text, send_text, source_text, step_text, tag_text};
 
 use crate::step::Step;
 use std::fmt;
@@ -32,6 +32,22 @@ impl fmt::Display for AnyTag {
         match self.0 {
             Some(tag) => write!(f, "{}", tag.number),
             None => f.write_str("any"),
+        }
+    }
+}
+
+/// The word of a step that asks for a further communicator, or nothing.
+#[derive(Clone, Copy)]
+struct Again(bool);
+
+impl fmt::Display for Again {
+    ghost output = { λ again. Some (again_text again.0) };
+
+    fn fmt<W: fmt::Write>(&self, f: &mut fmt::Formatter<W>) -> fmt::Result {
+        if self.0 {
+            f.write_str(" again")
+        } else {
+            Ok(())
         }
     }
 }
@@ -85,8 +101,10 @@ impl fmt::Display for Step {
             Step::Failed { comm } => write!(f, "failed comm {}", comm.number),
             Step::Ack { count, comm } => write!(f, "ack {count} comm {}", comm.number),
             Step::Revoke { comm } => write!(f, "revoke comm {}", comm.number),
-            Step::Dup { comm } => write!(f, "dup comm {}", comm.number),
-            Step::Shrink { comm } => write!(f, "shrink comm {}", comm.number),
+            Step::Dup { comm, again } => write!(f, "dup comm {}{}", comm.number, Again(*again)),
+            Step::Shrink { comm, again } => {
+                write!(f, "shrink comm {}{}", comm.number, Again(*again))
+            }
             Step::Agree { flag, comm } => write!(f, "agree {flag} comm {}", comm.number),
             Step::Note { text } => {
                 let text = text.as_str();

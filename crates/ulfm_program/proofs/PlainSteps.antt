@@ -1,14 +1,14 @@
 -- A step of each op that is read names one rank, and has no key of a block.
-use Rattle.std.proofs.Common.{◌≡◌, ℕ, List, Ok, refl}
+use Rattle.std.proofs.Common.{◌≡◌, ℕ, Bool, List, Ok, refl}
 use Rattle.std.specs.Prelude.{codes}
 use Rattle.toml.specs.Data.{Members, get_member}
 use Rattle.ulfm_job.specs.Ops.{op_keys, op_named}
 use Rattle.ulfm_job.specs.declared.op.Op.{Op}
 use Rattle.ulfm_job.specs.declared.op.Op.TheVariants as op
-use Rattle.ulfm_reader.specs.Keys.{only_keys, optional_number, required_number, required_text}
+use Rattle.ulfm_reader.specs.Keys.{only_keys, optional_bool, optional_number, required_number, required_text}
 use Rattle.ulfm_reader.specs.Plan.{Order, PlannedStep}
 use Rattle.ulfm_reader.specs.Reacting.{required_reference}
-use Rattle.ulfm_reader.specs.StepText.{ack_step, agree_step, known, mrecv_step, note_step, probe_step, recv_step, send_step, step_of, step_of_op, step_on_comm, step_on_req, stop_step}
+use Rattle.ulfm_reader.specs.StepText.{ack_step, agree_step, known, making_step, mrecv_step, note_step, probe_step, recv_step, send_step, step_of, step_of_op, step_on_comm, step_on_req, stop_step}
 use Rattle.ulfm_reader.specs.declared.name.Name.{Name}
 use Rattle.ulfm_program.proofs.Plain.{HasNoSuch, IsPlain, gone_text, no_text, number_no_text, ok_first, other_plain, plain}
 
@@ -61,6 +61,15 @@ comm_plain o order_on ranks ms s lacks is =
     let rank = ok_first (required_number (codes "rank") ms) _ s is in
     let comm = ok_first (optional_number (codes "comm") ms) _ s rank.2 in
     let keys = ok_first (only_keys (op_keys o) ms) _ s comm.2 in
+    other_plain ms rank.0 (op_keys o) keys.0 rank.1 keys.1 lacks.0 lacks.1 lacks.2 lacks.3
+
+making_plain : (o : Op) (order_on : ℕ → Bool → Order) (ranks : ℕ) (ms : Members) (s : PlannedStep) → HasNoSuch o → making_step o order_on ranks ms ≡ Ok s → IsPlain ms
+unfolding making_step
+making_plain o order_on ranks ms s lacks is =
+    let rank = ok_first (required_number (codes "rank") ms) _ s is in
+    let comm = ok_first (optional_number (codes "comm") ms) _ s rank.2 in
+    let again = ok_first (optional_bool (codes "again") ms) _ s comm.2 in
+    let keys = ok_first (only_keys (op_keys o) ms) _ s again.2 in
     other_plain ms rank.0 (op_keys o) keys.0 rank.1 keys.1 lacks.0 lacks.1 lacks.2 lacks.3
 
 mrecv_plain : (ranks : ℕ) (names : List Name) (ms : Members) (s : PlannedStep) → mrecv_step ranks names ms ≡ Ok s → IsPlain ms
@@ -116,8 +125,8 @@ by_op ranks names op.Cancel ms s is = req_plain op.Cancel _ ranks names ms s (re
 by_op ranks names op.Failed ms s is = comm_plain op.Failed _ ranks ms s (refl, refl, refl, refl) is
 by_op ranks names op.Ack ms s is = ack_plain ranks ms s is
 by_op ranks names op.Revoke ms s is = comm_plain op.Revoke _ ranks ms s (refl, refl, refl, refl) is
-by_op ranks names op.Dup ms s is = comm_plain op.Dup _ ranks ms s (refl, refl, refl, refl) is
-by_op ranks names op.Shrink ms s is = comm_plain op.Shrink _ ranks ms s (refl, refl, refl, refl) is
+by_op ranks names op.Dup ms s is = making_plain op.Dup _ ranks ms s (refl, refl, refl, refl) is
+by_op ranks names op.Shrink ms s is = making_plain op.Shrink _ ranks ms s (refl, refl, refl, refl) is
 by_op ranks names op.Agree ms s is = agree_plain ranks ms s is
 by_op ranks names op.Note ms s is = note_plain ranks ms s is
 by_op ranks names op.Stop ms s is = stop_plain ranks ms s is

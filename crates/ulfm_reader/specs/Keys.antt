@@ -3,7 +3,7 @@ use Rattle.std.specs.Prelude.{ℕ, ◌+◌, ℤ, pos, negsuc, List, [], ◌∷�
 use Rattle.std.specs.List.{list_any, list_all}
 use Rattle.std.specs.Option.{ok_or}
 use Rattle.std.specs.Str.{bytes_eq}
-use Rattle.toml.specs.Data.{Data, Items, no_items, item, Members, no_members, member, get_member, as_integer, as_str}
+use Rattle.toml.specs.Data.{Data, Items, no_items, item, Members, no_members, member, get_member, as_bool, as_integer, as_str}
 use Rattle.ulfm_job.specs.Label.{label_of}
 use Rattle.ulfm_job.specs.declared.fault.Fault.{Fault}
 use Rattle.ulfm_job.specs.declared.fault.Fault.TheVariants.{BadKey, UnknownKey, OutOfRange}
@@ -37,6 +37,10 @@ required_number key ms = required as_integer (get_member key ms)
 -- the number of a key, where it is there
 abbrev pub optional_number : List ℕ → Members → Result (Option ℤ) Fault
 optional_number key ms = optional as_integer (get_member key ms)
+
+-- whether a key says so, where it is there
+abbrev pub optional_bool : List ℕ → Members → Result (Option Bool) Fault
+optional_bool key ms = optional as_bool (get_member key ms)
 
 -- the text of a key that must be there
 abbrev pub required_text : List ℕ → Members → Result (List ℕ) Fault

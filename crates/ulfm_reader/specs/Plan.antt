@@ -1,5 +1,5 @@
 -- What the text of a job asks for, without the form that a job has in memory.
-use Rattle.std.specs.Prelude.{ℕ, List, Option, map, option_map}
+use Rattle.std.specs.Prelude.{ℕ, Bool, List, Option, map, option_map}
 use Rattle.ulfm_job.specs.declared.clause.Clause.{Clause}
 use Rattle.ulfm_job.specs.declared.condition.Condition.{Condition}
 use Rattle.ulfm_job.specs.declared.left_step.LeftStep.{LeftStep}
@@ -20,8 +20,8 @@ pub data Order : Type 0 where
   failed : ℕ → Order
   ack : ℕ → ℕ → Order
   revoke : ℕ → Order
-  dup : ℕ → Order
-  shrink : ℕ → Order
+  dup : ℕ → Bool → Order
+  shrink : ℕ → Bool → Order
   agree : ℕ → ℕ → Order
   note : List ℕ → Order
   stop : Order
@@ -37,8 +37,8 @@ op_in (cancel req) = op.Cancel
 op_in (failed comm) = op.Failed
 op_in (ack count comm) = op.Ack
 op_in (revoke comm) = op.Revoke
-op_in (dup comm) = op.Dup
-op_in (shrink comm) = op.Shrink
+op_in (dup comm again) = op.Dup
+op_in (shrink comm again) = op.Shrink
 op_in (agree flag comm) = op.Agree
 op_in (note text) = op.Note
 op_in stop = op.Stop
@@ -69,8 +69,8 @@ order_of (Cancel req) = cancel req
 order_of (Failed comm) = failed comm.number
 order_of (Ack count comm) = ack count comm.number
 order_of (Revoke comm) = revoke comm.number
-order_of (Dup comm) = dup comm.number
-order_of (Shrink comm) = shrink comm.number
+order_of (Dup comm again) = dup comm.number again
+order_of (Shrink comm again) = shrink comm.number again
 order_of (Agree flag comm) = agree flag comm.number
 order_of (Note text) = note text
 order_of Stop = stop

@@ -1,12 +1,12 @@
 -- The step of a table, for each op, by cases in the order of the checks: keys and their kinds, unknown keys, ranges.
-use Rattle.std.specs.Prelude.{ℕ, pos, ◌-◌, List, Option, Some, None, Result, Ok, Err, unwrap_or, codes}
+use Rattle.std.specs.Prelude.{ℕ, pos, ◌-◌, Bool, false, List, Option, Some, None, Result, Ok, Err, unwrap_or, codes}
 use Rattle.ulfm_job.specs.Ops.{op_keys, op_named}
 use Rattle.ulfm_job.specs.declared.op.Op.{Op}
 use Rattle.ulfm_job.specs.declared.op.Op.TheVariants as op
 use Rattle.toml.specs.Data.{Members}
 use Rattle.ulfm_job.specs.declared.fault.Fault.{Fault}
 use Rattle.ulfm_job.specs.declared.fault.Fault.TheVariants.{UnknownOp}
-use Rattle.ulfm_reader.specs.Keys.{◌>>=◌, label_in, required_number, optional_number, required_text, only_keys, in_range, in_range_if_some}
+use Rattle.ulfm_reader.specs.Keys.{◌>>=◌, label_in, required_number, optional_number, optional_bool, required_text, only_keys, in_range, in_range_if_some}
 use Rattle.ulfm_reader.specs.declared.name.Name.{Name}
 use Rattle.ulfm_reader.specs.Reacting.{required_reference, req_in}
 use Rattle.ulfm_reader.specs.Plan.{Order, PlannedStep, send, recv, wait, probe, mrecv, cancel, failed, ack, revoke, dup, shrink, agree, note, stop}
@@ -88,6 +88,17 @@ step_on_comm op order_on ranks ms = do
   comm ← in_range 0 62 (unwrap_or comm_key (pos 0))
   Ok (record { rank = rank; order = order_on comm })
 
+-- the step of an op that makes a communicator of one that it names, or of the world: a further one where it says `again`
+unfoldable pub making_step : Op → (ℕ → Bool → Order) → ℕ → Members → Result PlannedStep Fault
+making_step op order_on ranks ms = do
+  rank_key ← required_number (codes "rank") ms
+  comm_key ← optional_number (codes "comm") ms
+  again_key ← optional_bool (codes "again") ms
+  keys ← only_keys (op_keys op) ms
+  rank ← in_range 0 (ranks - 1) rank_key
+  comm ← in_range 0 62 (unwrap_or comm_key (pos 0))
+  Ok (record { rank = rank; order = order_on comm (unwrap_or again_key false) })
+
 -- the step of an `ack`
 unfoldable pub ack_step : ℕ → Members → Result PlannedStep Fault
 ack_step ranks ms = do
@@ -146,8 +157,8 @@ step_of_op ranks names op.Cancel ms = step_on_req op.Cancel cancel ranks names m
 step_of_op ranks names op.Failed ms = step_on_comm op.Failed failed ranks ms
 step_of_op ranks names op.Ack ms = ack_step ranks ms
 step_of_op ranks names op.Revoke ms = step_on_comm op.Revoke revoke ranks ms
-step_of_op ranks names op.Dup ms = step_on_comm op.Dup dup ranks ms
-step_of_op ranks names op.Shrink ms = step_on_comm op.Shrink shrink ranks ms
+step_of_op ranks names op.Dup ms = making_step op.Dup dup ranks ms
+step_of_op ranks names op.Shrink ms = making_step op.Shrink shrink ranks ms
 step_of_op ranks names op.Agree ms = agree_step ranks ms
 step_of_op ranks names op.Note ms = note_step ranks ms
 step_of_op ranks names op.Stop ms = stop_step ranks ms

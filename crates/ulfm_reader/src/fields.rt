@@ -6,7 +6,7 @@ ghost use Rattle.std.specs.Str.{bytes_eq};
 ghost use Rattle.toml.specs.Data.{as_array, get_member};
 ghost use Rattle.toml.specs.View.{view, table_view, items_view};
 ghost use Rattle.ulfm_reader.specs.inside.Reading.{map_ok, reference_view};
-ghost use Rattle.ulfm_reader.specs.Keys.{required, required_number, optional_number, required_text, only_keys, in_range, in_range_if_some};
+ghost use Rattle.ulfm_reader.specs.Keys.{required, required_number, optional_number, optional_bool, required_text, only_keys, in_range, in_range_if_some};
 ghost use Rattle.ulfm_reader.specs.Reacting.{reference_in, required_reference};
 
 use crate::reference::Reference;
@@ -37,6 +37,19 @@ pub fn optional_number(table: &Table, key: &str) -> Result<Option<i64>, Fault>
     match value_at(table, key) {
         Some(value) => match value.as_integer() {
             Some(number) => Ok(Some(number)),
+            None => Err(Fault::BadKey),
+        },
+        None => Ok(None),
+    }
+}
+
+/// The truth value at a key that may be left out.
+pub fn optional_bool(table: &Table, key: &str) -> Result<Option<bool>, Fault>
+    ensures { result ≡ optional_bool key.now (table_view table.now) }
+{
+    match value_at(table, key) {
+        Some(value) => match value.as_bool() {
+            Some(is) => Ok(Some(is)),
             None => Err(Fault::BadKey),
         },
         None => Ok(None),

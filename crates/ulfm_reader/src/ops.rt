@@ -1,13 +1,15 @@
 //! The step of a table, for each op.
-ghost use Rattle.std.specs.Prelude.{◌≡◌, ◌<◌, ℕ, IfOk};
+ghost use Rattle.std.specs.Prelude.{◌≡◌, ◌<◌, ℕ, Bool, IfOk};
 ghost use Rattle.toml.specs.View.{table_view};
 ghost use Rattle.ulfm_base.specs.declared.context.Context.{Context as SeenContext};
 ghost use Rattle.ulfm_job.specs.declared.step.Step.{Step as SeenStep};
 ghost use Rattle.ulfm_reader.specs.inside.Reading.{map_ok, planned};
 ghost use Rattle.ulfm_reader.specs.Plan.{Order, order_of};
-ghost use Rattle.ulfm_reader.specs.StepText.{step_on_comm, ack_step, agree_step, note_step, stop_step, known, step_of_op, step_of};
+ghost use Rattle.ulfm_reader.specs.StepText.{step_on_comm, making_step, ack_step, agree_step, note_step, stop_step, known, step_of_op, step_of};
 
-use crate::fields::{in_range, only_keys, optional_number, required_number, required_text};
+use crate::fields::{
+    in_range, only_keys, optional_bool, optional_number, required_number, required_text,
+};
 use crate::letters::{mrecv_of, on_req, probe_of, recv_of, send_of};
 use crate::name::Name;
 use crate::placed::{Placed, ReadStep};
@@ -38,6 +40,31 @@ fn on_comm<F: FnOnce(Context) -> Step>(
     Ok(Placed {
         rank,
         step: ReadStep::Other(step_on(comm)),
+    })
+}
+
+/// The step of an op that makes a communicator of the one that it names: a further one where it says `again`.
+#[tactic(auto, unfolding(crate::specs::StepText::making_step))]
+fn making<F: FnOnce(Context, bool) -> Step>(
+    ranks: u8,
+    op: Op,
+    table: &Table,
+    step_on: F,
+) -> Result<Placed<'_>, Fault>
+    requires some { 0 < ranks }
+    requires callable { F.IsAlwaysCallable step_on }
+    ensures exact { (order_on : ℕ → Bool → Order) → ((c : SeenContext) (again : Bool) (s : SeenStep) → F.post step_on c again s → order_of s ≡ order_on c.number again) → map_ok planned result ≡ making_step op order_on ranks (table_view table.now) }
+    ensures below { IfOk result (λ placed. placed.rank < ranks) }
+{
+    let rank = required_number(table, "rank")?;
+    let comm = optional_number(table, "comm")?;
+    let again = optional_bool(table, "again")?;
+    only_keys(table, op.keys())?;
+    let rank = rank_in(ranks, rank)?;
+    let comm = comm_in(comm)?;
+    Ok(Placed {
+        rank,
+        step: ReadStep::Other(step_on(comm, again.unwrap_or(false))),
     })
 }
 
@@ -138,8 +165,8 @@ fn step_of_op<'a>(ranks: u8, names: &[Name], op: Op, table: &'a Table) -> Result
         Op::Failed => on_comm(ranks, op, table, |comm| Step::Failed { comm }),
         Op::Ack => ack_of(ranks, table),
         Op::Revoke => on_comm(ranks, op, table, |comm| Step::Revoke { comm }),
-        Op::Dup => on_comm(ranks, op, table, |comm| Step::Dup { comm }),
-        Op::Shrink => on_comm(ranks, op, table, |comm| Step::Shrink { comm }),
+        Op::Dup => making(ranks, op, table, |comm, again| Step::Dup { comm, again }),
+        Op::Shrink => making(ranks, op, table, |comm, again| Step::Shrink { comm, again }),
         Op::Agree => agree_of(ranks, table),
         Op::Note => note_of(ranks, table),
         Op::Stop => stop_of(ranks, table),

@@ -84,7 +84,7 @@ record AsksFor (old : State) (asked : Step) (comm : Context) (round bits : ℕ) 
   turn : agreements old.log comm.number ≡ round
 
 asks_for : (old : State) (asked : Step) (topic : Topic) (new : State) (comm : Context) (round bits : ℕ) (h : EntersBy old asked topic new) → topic ≡ agreement_topic comm round → h.enters.entrance.contribution.flag ≡ Some bits → AsksFor old asked comm round bits
-asks_for old (Shrink on) topic new comm round bits h is flagged = absurd (false≢true (ap (λ (t : Topic). is_agreement t.purpose) (same_Some _ topic h.about ∙ is)))
+asks_for old (Shrink on again) topic new comm round bits h is flagged = absurd (false≢true (ap (λ (t : Topic). is_agreement t.purpose) (same_Some _ topic h.about ∙ is)))
 asks_for old (Agree flag on) topic new comm round bits h is flagged =
     let same : next_agreement old.log on ≡ agreement_topic comm round = same_Some _ topic h.about ∙ is in
     let there_is : on ≡ comm = ap (λ (t : Topic). t.context) same in

@@ -34,16 +34,16 @@ unrevoked : (checks : List Check) (e : CallError) → list_all (λ (check : Chec
 unrevoked checks e all refused is = false≢true (ap is_other (sym is) ∙ refused_or_starved is_other checks e refl all refused)
 
 pub by_entry : (before : List StepReport) (r : State) (asked : Step) (answer : StepAnswer) (new : State) → is_joint asked ≡ true → AnswersStep before r asked answer new → answer ≢ Refused Revoked
-by_entry before r (Shrink comm) (Refused e) new joint a is = let same : e ≡ Revoked = cc in unrevoked (shrink_checks false r comm) e refl a.0 same
+by_entry before r (Shrink comm again) (Refused e) new joint a is = let same : e ≡ Revoked = cc in unrevoked (shrink_checks again r comm) e refl a.0 same
 by_entry before r (Agree flag comm) (Refused e) new joint a is = let same : e ≡ Revoked = cc in unrevoked (agree_checks r comm) e refl a.0 same
-by_entry before r (Shrink comm) _ new joint a is = absurd a
+by_entry before r (Shrink comm again) _ new joint a is = absurd a
 by_entry before r (Agree flag comm) _ new joint a is = absurd a
 by_entry before r _ answer new joint a is = absurd (false≢true joint)
 
 by_adoption : (r : State) (asked : Step) (topic : Topic) (held : Decision) (answer : StepAnswer) (new : State) → is_joint asked ≡ true → AnswersAdoption r asked topic held answer new → answer ≢ Refused Revoked
-by_adoption r (Shrink comm) topic held (Refused e) new joint a is = let same : e ≡ Revoked = cc in unrevoked (adopt_checks r topic held) e refl a.0 same
+by_adoption r (Shrink comm again) topic held (Refused e) new joint a is = let same : e ≡ Revoked = cc in unrevoked (adopt_checks r topic held) e refl a.0 same
 by_adoption r (Agree flag comm) topic held (Refused e) new joint a is = let same : e ≡ Revoked = cc in unrevoked (adopt_checks r topic held) e refl a.0 same
-by_adoption r (Shrink comm) topic held _ new joint a is = let bad : ⊥ = cc in bad
+by_adoption r (Shrink comm again) topic held _ new joint a is = let bad : ⊥ = cc in bad
 by_adoption r (Agree flag comm) topic held _ new joint a is = let bad : ⊥ = cc in bad
 by_adoption r _ topic held answer new joint a is = absurd (false≢true joint)
 

@@ -9,7 +9,7 @@ use Rattle.ulfm_report_laws.proofs.Closing.{IsTrueOf}
 pub true-open : {done : List StepReport} (r : State) (asked : Step) (new : State) → IsTrueOf r done → LeavesOpen done r asked new → IsTrueOf new done
 true-open r (Wait req) new h o = rw o.only h
 true-open r (Probe source tag comm) new h o = rw o.2 h
-true-open {done} r (Shrink comm) new h o = rw o.1.enters.only (true-idle (Entered o.1.enters.entrance) tt h)
+true-open {done} r (Shrink comm again) new h o = rw o.1.enters.only (true-idle (Entered o.1.enters.entrance) tt h)
 true-open {done} r (Agree flag comm) new h o = rw o.1.enters.only (true-idle (Entered o.1.enters.entrance) tt h)
 true-open r _ new h o = absurd o
 
@@ -20,7 +20,7 @@ true-opens false {done} r asked new h o = true-open r asked new h o
 
 module _ (r : State) (done : List StepReport) (h : IsTrueOf r done) (at polls : ℕ) (new : State) where
   pub true-adoption : (asked : Step) (topic : Topic) (held : Decision) (answer : StepAnswer) → AnswersAdoption r asked topic held answer new → IsTrueOf new (done ++ step_report asked answer at polls ∷ [])
-  true-adoption (Shrink comm) topic held (Shrunk child group me) a = true-one r done (Shrink comm) (Shrunk child group me) at polls new (Adopted held) h tt tt a.4
+  true-adoption (Shrink comm again) topic held (Shrunk child group me) a = true-one r done (Shrink comm again) (Shrunk child group me) at polls new (Adopted held) h tt tt a.4
   true-adoption (Agree flag comm) topic held (Agreed value missing) a = true-one r done (Agree flag comm) (Agreed value missing) at polls new (Adopted held) h tt tt a.3
   true-adoption asked topic held (Refused e) a = true-same r done asked (Refused e) at polls new h tt a.1
   true-adoption asked topic held _ a = absurd a

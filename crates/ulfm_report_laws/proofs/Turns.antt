@@ -182,7 +182,7 @@ module _ (known : Known) (r : State) where
 
   -- an entrance opens a round on its communicator alone
   entered : (done : List StepReport) (old : State) (asked : Step) (topic : Topic) (new : State) → EntersBy old asked topic new → Keeps done old.log → (comm : Context) → agreements new.log comm.number ≡ rounds_told comm done + open_rounds (is_agreeing new.log comm)
-  entered done old (Shrink on) topic new h k comm =
+  entered done old (Shrink on again) topic new h k comm =
       let e = h.enters.entrance in
       let idle = entrance_idle comm e (ap (λ (t : Topic). eqb t.context.number comm.number && is_agreement t.purpose) (h.enters.about ∙ sym (same_Some _ topic h.about)) ∙ and-false (eqb on.number comm.number)) in
       rw h.enters.only (counted_idle done done old.log (Entered e) comm idle refl (k.2 comm))
@@ -208,8 +208,8 @@ module _ (known : Known) (r : State) where
 
   -- an adoption closes one
   adopted : (done : List StepReport) (old : State) (asked : Step) (answer : StepAnswer) (topic : Topic) (held : Decision) (new : State) (place polls : ℕ) → topic_of old.log asked ≡ Some topic → AnswersAdoption old asked topic held answer new → Keeps done old.log → Keeps (done ++ step_report asked answer place polls ∷ []) new.log
-  adopted done old (Shrink on) (Shrunk child group me) topic held new place polls about a k =
-      let x = step_report (Shrink on) (Shrunk child group me) place polls in
+  adopted done old (Shrink on again) (Shrunk child group me) topic held new place polls about a k =
+      let x = step_report (Shrink on again) (Shrunk child group me) place polls in
       let is : held.topic ≡ last_shrink old.log on = (adopted_about old topic held a.0) ∙ sym (same_Some _ topic about) in
       rw a.4 (keeps_idle old.ranks old.me done (done ++ x ∷ []) old.log (Adopted held) (fits_adopted old topic held a.0)
       (λ comm. adoption_idle comm held (λ round. ap (λ t. is_topic t (agreement_topic comm round)) is ∙ and-false (eqb on.number comm.number)))

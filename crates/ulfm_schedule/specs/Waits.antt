@@ -46,7 +46,7 @@ is_position (Some position) at = position == at
 abbrev pub would_bring : Step → Option ℕ → Step → Bool
 would_bring (Recv source asked room on) position (Send to tag body comm) = comm.number == on.number && (is_position position to && fits_tag asked tag)
 would_bring (Probe source asked on) position (Send to tag body comm) = comm.number == on.number && (is_position position to && fits_tag asked tag)
-would_bring (Shrink on) position (Shrink comm) = comm.number == on.number
+would_bring (Shrink on earlier) position (Shrink comm again) = comm.number == on.number
 would_bring (Agree own on) position (Agree flag comm) = comm.number == on.number
 would_bring _ _ _ = false
 
@@ -110,7 +110,7 @@ agreeing_text s comm = codes "the entry of " ++ decimal s ++ codes " into an agr
 abbrev pub need_text : Step → ℕ → List ℕ
 need_text (Recv source tag room comm) s = message_text s tag comm
 need_text (Probe source tag comm) s = message_text s tag comm
-need_text (Shrink comm) s = shrinking_text s comm
+need_text (Shrink comm again) s = shrinking_text s comm
 need_text (Agree flag comm) s = agreeing_text s comm
 need_text _ s = []
 
@@ -147,7 +147,7 @@ group_in r comm = members_of r.ranks r.log comm.number
 abbrev pub awaited : State → List Entry → Step → List ℕ
 awaited r log (Recv source tag room comm) = senders (group_in r comm) source
 awaited r log (Probe source tag comm) = senders (group_in r comm) source
-awaited r log (Shrink comm) = not_heard r.me log (group_in r comm) (last_shrink log comm)
+awaited r log (Shrink comm again) = not_heard r.me log (group_in r comm) (last_shrink log comm)
 awaited r log (Agree flag comm) = not_heard r.me log (group_in r comm) (last_agreement log comm)
 awaited r log _ = []
 

@@ -25,7 +25,7 @@ impl Need {
         match step {
             Step::Recv { tag, comm, .. } => Some(Need::Message(*tag, *comm)),
             Step::Probe { tag, comm, .. } => Some(Need::Message(*tag, *comm)),
-            Step::Shrink { comm } => Some(Need::Shrink(*comm)),
+            Step::Shrink { comm, .. } => Some(Need::Shrink(*comm)),
             Step::Agree { comm, .. } => Some(Need::Agreement(*comm)),
             _ => None,
         }

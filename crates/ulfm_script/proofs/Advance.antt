@@ -102,7 +102,7 @@ advance-called script turns old asked new counted h (inr o) few =
 -- a step that may stay open is no stop
 goes_on : (script : List Step) (turns k polls : ℕ) (current : Option Step) (done : List StepReport) (r : State) (asked : Step) (new : State) → MatchOption current (polls ≡ 0) (λ s. (slice_get script k ≡ Some s) × (polls < turns)) → slice_get script k ≡ Some asked → StaysOpen (awaits_decision current) done r asked new → is_stop_step asked ≡ false
 goes_on script turns k polls None done r asked new h next o = opens_go_on done r asked new o
-goes_on script turns k polls (Some (Shrink comm)) done r asked new h next o = ap is_stop_step (same_Some asked (Shrink comm) (sym next ∙ h.0))
+goes_on script turns k polls (Some (Shrink comm again)) done r asked new h next o = ap is_stop_step (same_Some asked (Shrink comm again) (sym next ∙ h.0))
 goes_on script turns k polls (Some (Agree flag comm)) done r asked new h next o = ap is_stop_step (same_Some asked (Agree flag comm) (sym next ∙ h.0))
 goes_on script turns k polls (Some s) done r asked new h next o = opens_go_on done r asked new o
 

@@ -54,7 +54,7 @@ since-entered r s from asked topic took e =
 since-opened : (r s : State) (before : List StepReport) (from : ℕ) (asked : Step) → OnlyTook r.log from (length r.log) → LeavesOpen before r asked s → Since s from asked
 since-opened r s before from (Wait req) took o = rw o.only took
 since-opened r s before from (Probe source tag comm) took o = rw o.2 took
-since-opened r s before from (Shrink comm) took o = (o.0, since-entered r s from (Shrink comm) o.0 took o.1)
+since-opened r s before from (Shrink comm again) took o = (o.0, since-entered r s from (Shrink comm again) o.0 took o.1)
 since-opened r s before from (Agree flag comm) took o = (o.0, since-entered r s from (Agree flag comm) o.0 took o.1)
 since-opened r s before from _ took o = absurd o
 

@@ -26,11 +26,11 @@ given_by_adoption : (r : State) (asked : Step) (topic : Topic) (held : Decision)
 given_by_adoption r asked topic held answer new h = (λ e. left asked (rw e at h), λ e. skips asked (rw e at h))
   where
     left : (s : Step) → AnswersAdoption r s topic held Unfinished new → ⊥
-    left (Shrink comm) h = h
+    left (Shrink comm again) h = h
     left _ h = h
 
     skips : (s : Step) → AnswersAdoption r s topic held Skipped new → ⊥
-    skips (Shrink comm) h = h
+    skips (Shrink comm again) h = h
     skips _ h = h
 
 given_by_starving : (answer : StepAnswer) → answer ≡ Refused OutOfMemory → IsGiven answer
@@ -67,6 +67,6 @@ advance-decided script turns old comm board known later new h d =
     rw d.only (advance-given script turns old d.rank d.asked d.answer ready (joint-adds d.asked comm d.on (decision_adds board known later old.rank d.asked d.answer d.rank d.decision)) (given_by_decision board known later old.rank d.asked d.answer d.rank d.decision))
   where
     joint-adds : (asked : Step) (on : Context) → decides_on asked ≡ Some on → Adds old.rank false d.rank → Adds old.rank (is_stop_step asked) d.rank
-    joint-adds (Shrink comm) on h adds = adds
+    joint-adds (Shrink comm again) on h adds = adds
     joint-adds (Agree flag comm) on h adds = adds
     joint-adds _ on h adds = absurd (none-some on h)

@@ -56,8 +56,8 @@ next_is_new log false comm counted = refused (has_entered log (next_round log fa
 
 -- what a step enters is new
 pub entered_new : (r : State) (asked : Step) (topic : Topic) (new : State) → RoundsCounted r.log → EntersBy r asked topic new → IsNew r topic
-entered_new r (Shrink comm) topic new counted h =
-    let ok = all_pass (shrink_checks false r comm) h.accepted in
+entered_new r (Shrink comm again) topic new counted h =
+    let ok = all_pass (shrink_checks again r comm) h.accepted in
     subst (IsNew r) (same_Some _ topic h.about) (not-false _ ok.1.0, next_is_new r.log false comm counted, refl)
 entered_new r (Agree flag comm) topic new counted h =
     let ok = all_pass (agree_checks r comm) h.accepted in

@@ -52,14 +52,14 @@ anew g h k more of comm entrance grown about both =
 
 -- what a step enters was not entered before
 entered-anew : (h : State) (one : Step) (a : Topic) (new : State) (k : State) (other : Step) (b : Topic) (last : State) (more : List Entry) → EntersBy h one a new → k.log ≡ new.log ++ more → EntersBy k other b last → a ≡ b → ⊥
-entered-anew h (Shrink of) a new k (Shrink comm) b last more e grown f same =
+entered-anew h (Shrink of again) a new k (Shrink comm again) b last more e grown f same =
     anew false h.log k.log more of comm e.enters.entrance (grown ∙ ap (λ (s : State). s.log ++ more) e.enters.only) (e.enters.about ∙ sym (same_Some _ a e.about)) (same_Some _ a e.about ∙ same ∙ sym (same_Some _ b f.about))
-entered-anew h (Agree bit of) a new k (Shrink comm) b last more e grown f same =
+entered-anew h (Agree bit of) a new k (Shrink comm again) b last more e grown f same =
     let both : next_round h.log true of ≡ next_round k.log false comm = same_Some _ a e.about ∙ same ∙ sym (same_Some _ b f.about) in
     let kinds : true ≡ false = ap (λ (t : Topic). is_agreement t.purpose) both in
     false≢true (sym kinds)
-entered-anew h _ a new k (Shrink comm) b last more e grown f same = absurd (none-some a e.about)
-entered-anew h (Shrink of) a new k (Agree flag comm) b last more e grown f same =
+entered-anew h _ a new k (Shrink comm again) b last more e grown f same = absurd (none-some a e.about)
+entered-anew h (Shrink of again) a new k (Agree flag comm) b last more e grown f same =
     let both : next_round h.log false of ≡ next_round k.log true comm = same_Some _ a e.about ∙ same ∙ sym (same_Some _ b f.about) in
     let kinds : false ≡ true = ap (λ (t : Topic). is_agreement t.purpose) both in
     false≢true kinds

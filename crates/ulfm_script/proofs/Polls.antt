@@ -83,7 +83,7 @@ Opens old asked new = (new ≡ old) ⊎ ((topic : Topic) × EntersBy old asked t
 pub opens_adds : (done : List StepReport) (r : State) (asked : Step) (new : State) → LeavesOpen done r asked new → Opens r asked new
 opens_adds done r (Wait req) new h = inl h.only
 opens_adds done r (Probe source tag comm) new h = inl h.2
-opens_adds done r (Shrink comm) new h = inr h
+opens_adds done r (Shrink comm again) new h = inr h
 opens_adds done r (Agree flag comm) new h = inr h
 opens_adds done r _ new h = absurd h
 
@@ -91,7 +91,7 @@ opens_adds done r _ new h = absurd h
 pub opens_go_on : (done : List StepReport) (r : State) (asked : Step) (new : State) → LeavesOpen done r asked new → is_stop_step asked ≡ false
 opens_go_on done r (Wait req) new h = refl
 opens_go_on done r (Probe source tag comm) new h = refl
-opens_go_on done r (Shrink comm) new h = refl
+opens_go_on done r (Shrink comm again) new h = refl
 opens_go_on done r (Agree flag comm) new h = refl
 opens_go_on done r _ new h = absurd h
 
@@ -108,14 +108,14 @@ opens_add false done r asked new h = adds_open done r asked new h
 
 -- an adoption adds nothing where it is refused, else its entry
 pub adoption_adds : (r : State) (asked : Step) (topic : Topic) (held : Decision) (answer : StepAnswer) (new : State) → AnswersAdoption r asked topic held answer new → (new ≡ r) ⊎ (Passes (adopt_checks r topic held) × (new ≡ logged r (Adopted held)))
-adoption_adds r (Shrink comm) topic held (Shrunk child group me) new h = inr (h.0, h.4)
+adoption_adds r (Shrink comm again) topic held (Shrunk child group me) new h = inr (h.0, h.4)
 adoption_adds r (Agree flag comm) topic held (Agreed value missing) new h = inr (h.0, h.3)
 adoption_adds r asked topic held (Refused e) new h = inl h.1
 adoption_adds r asked topic held _ new h = absurd h
 
 -- an adoption is refused by its checks, or by out of memory
 pub refused_adoption : (r : State) (asked : Step) (topic : Topic) (held : Decision) (e : CallError) (new : State) → AnswersAdoption r asked topic held (Refused e) new → Refuses (adopt_checks r topic held) e r new
-refused_adoption r (Shrink comm) topic held e new h = h
+refused_adoption r (Shrink comm again) topic held e new h = h
 refused_adoption r (Agree flag comm) topic held e new h = h
 refused_adoption r _ topic held e new h = h
 

@@ -46,13 +46,13 @@ now_last false comm old new entrance longer about =
 
 -- a step that entered its topic is decided on it
 pub entered-now : (old : State) (asked : Step) (topic : Topic) (new : State) → EntersBy old asked topic new → topic_of new.log asked ≡ Some topic
-entered-now old (Shrink comm) topic new h = ap (λ (t : Topic). Some t) (now_last false comm old.log new.log h.enters.entrance (ap (λ (s : State). s.log) h.enters.only) (h.enters.about ∙ sym (same_Some _ topic h.about))) ∙ h.about
+entered-now old (Shrink comm again) topic new h = ap (λ (t : Topic). Some t) (now_last false comm old.log new.log h.enters.entrance (ap (λ (s : State). s.log) h.enters.only) (h.enters.about ∙ sym (same_Some _ topic h.about))) ∙ h.about
 entered-now old (Agree flag comm) topic new h = ap (λ (t : Topic). Some t) (now_last true comm old.log new.log h.enters.entrance (ap (λ (s : State). s.log) h.enters.only) (h.enters.about ∙ sym (same_Some _ topic h.about))) ∙ h.about
 entered-now old _ topic new h = absurd (none-some topic h.about)
 
 -- a step is decided on the same topic where as many rounds were entered
 pub topic-same : (old new : List Entry) (asked : Step) → ((g : Bool) (c : ℕ) → rounds_of new g c ≡ rounds_of old g c) → topic_of new asked ≡ topic_of old asked
-topic-same old new (Shrink comm) same = ap (λ n. Some (shrink_topic comm (n - 1))) (same false comm.number)
+topic-same old new (Shrink comm again) same = ap (λ n. Some (shrink_topic comm (n - 1))) (same false comm.number)
 topic-same old new (Agree flag comm) same = ap (λ n. Some (agreement_topic comm (n - 1))) (same true comm.number)
 topic-same old new _ same = refl
 
@@ -71,6 +71,6 @@ entered-topic r old asked topic from n stood h =
 
 -- a topic that a step is decided on is about the step's communicator
 pub on_topic : (log : List Entry) (asked : Step) (topic : Topic) → topic_of log asked ≡ Some topic → decides_on asked ≡ Some topic.context
-on_topic log (Shrink comm) topic about = ap (λ (t : Topic). Some t.context) (same_Some _ topic about)
+on_topic log (Shrink comm again) topic about = ap (λ (t : Topic). Some t.context) (same_Some _ topic about)
 on_topic log (Agree flag comm) topic about = ap (λ (t : Topic). Some t.context) (same_Some _ topic about)
 on_topic log _ topic about = absurd (none-some topic about)

@@ -97,9 +97,9 @@ module _ (done : List StepReport) (r new : State) (P : Step → StepAnswer → T
   each_answer (Ack count comm) (Refused e) h = same (Ack count comm) (Refused e) tt refl h.0.1
   each_answer (Revoke comm) Revoked h = idly (Revoke comm) Revoked tt (idle_unless (is_revoked r.log comm.number) r (Revoke comm) (RevokedEntry comm) new (record { idle = tt; apart = tt; stop = refl }) (λ was. inl refl) h.1)
   each_answer (Revoke comm) (Refused e) h = same (Revoke comm) (Refused e) tt refl h.0.1
-  each_answer (Dup comm) (Made made) h = idly (Dup comm) (Made made) tt (inr (Duplicated comm (dups_of r.log comm.number), record { idle = tt; apart = tt; stop = refl }, h.2))
-  each_answer (Dup comm) (Refused e) h = same (Dup comm) (Refused e) tt refl h.1
-  each_answer (Shrink comm) (Refused e) h = same (Shrink comm) (Refused e) tt refl h.1
+  each_answer (Dup comm again) (Made made) h = idly (Dup comm again) (Made made) tt (inr (Duplicated comm (dups_of r.log comm.number), record { idle = tt; apart = tt; stop = refl }, h.2))
+  each_answer (Dup comm again) (Refused e) h = same (Dup comm again) (Refused e) tt refl h.1
+  each_answer (Shrink comm again) (Refused e) h = same (Shrink comm again) (Refused e) tt refl h.1
   each_answer (Agree flag comm) (Refused e) h = same (Agree flag comm) (Refused e) tt refl h.1
   each_answer (Note text) Noted h = same (Note text) Noted tt refl h
   each_answer Stop Stopped h = idly Stop Stopped tt (idle_unless (is_stopped r.log) r Stop StopEntry new (record { idle = tt; apart = tt; stop = refl }) (λ was. inr was) h)

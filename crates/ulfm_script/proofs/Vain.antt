@@ -5,7 +5,7 @@ use Rattle.ulfm_script.proofs.Common.{Agree, awaits_decision, is_joint, IsFree, 
 
 -- a poll that left a step open leaves it so again
 stays_again : (done : List StepReport) (old : State) (asked : Step) (new : State) → LeavesOpen done old asked new → StaysOpen (is_joint asked) done new asked new
-stays_again done old (Shrink comm) new h = refl
+stays_again done old (Shrink comm again) new h = refl
 stays_again done old (Agree flag comm) new h = refl
 stays_again done old (Wait req) new h = subst (λ (s : State). LeavesOpen done s (Wait req) new) (sym h.only) h
 stays_again done old (Probe source tag comm) new h = subst (λ (s : State). LeavesOpen done s (Probe source tag comm) new) (sym h.2) h
@@ -44,7 +44,7 @@ vain-more p asked n h =
 
 -- a further poll that leaves the step open changes nothing at the rank
 same_rank : (done : List StepReport) (old : State) (asked : Step) (new : State) → StaysOpen (is_joint asked) done old asked new → new ≡ old
-same_rank done old (Shrink comm) new h = h
+same_rank done old (Shrink comm again) new h = h
 same_rank done old (Agree flag comm) new h = h
 same_rank done old (Wait req) new h = h.only
 same_rank done old (Probe source tag comm) new h = h.2

@@ -9,7 +9,7 @@ use Rattle.ulfm_script.specs.Answered.{StoodAt, IsTook, OnlyTook, EntersBetween,
 
 -- a step that enters its topic is left open
 opens_by : (done : List StepReport) (old : State) (asked : Step) (topic : Topic) (new : State) → EntersBy old asked topic new → LeavesOpen done old asked new
-opens_by done old (Shrink comm) topic new h = (topic, h)
+opens_by done old (Shrink comm again) topic new h = (topic, h)
 opens_by done old (Agree flag comm) topic new h = (topic, h)
 opens_by done old _ topic new h = absurd (none-some topic h.about)
 

@@ -1,5 +1,5 @@
 -- What the answer of a step says of its rank, and what it does to it.
-use Rattle.std.specs.Prelude.{◌≡◌, ℕ, ⊤, false, List, [], ◌<◌, ◌≤◌, length, filter_map, Option, Some, None, slice_get, if◌then◌else◌}
+use Rattle.std.specs.Prelude.{◌≡◌, ℕ, ⊤, Bool, false, List, [], ◌<◌, ◌≤◌, length, filter_map, Option, Some, None, slice_get, if◌then◌else◌}
 use Rattle.ulfm_base.specs.declared.topic.Topic.{Topic}
 use Rattle.ulfm_base.specs.declared.context.Context.{Context}
 use Rattle.ulfm_base.specs.declared.tag.Tag.{Tag}
@@ -198,21 +198,21 @@ AnswersRevoke r comm (Refused e) new =
 AnswersRevoke r comm _ new = ⊥
 
 -- the duplicate is made, or refused
-abbrev pub AnswersDup : State → Context → StepAnswer → State → Type 0
-AnswersDup r comm (Made child) new =
-    Passes (dup_checks false r comm.number) × (child.context.number ≡ nth_dup (dups_of r.log comm.number) comm.number) × (new ≡ logged r (Duplicated comm (dups_of r.log comm.number)))
-AnswersDup r comm (Refused e) new = Refuses (dup_checks false r comm.number) e r new
-AnswersDup r comm _ new = ⊥
+abbrev pub AnswersDup : State → Context → Bool → StepAnswer → State → Type 0
+AnswersDup r comm again (Made child) new =
+    Passes (dup_checks again r comm.number) × (child.context.number ≡ nth_dup (dups_of r.log comm.number) comm.number) × (new ≡ logged r (Duplicated comm (dups_of r.log comm.number)))
+AnswersDup r comm again (Refused e) new = Refuses (dup_checks again r comm.number) e r new
+AnswersDup r comm again _ new = ⊥
 
 -- why the entry of a step is refused that ranks decide together
 abbrev pub entry_checks : State → Step → List Check
-entry_checks r (Shrink comm) = shrink_checks false r comm
+entry_checks r (Shrink comm again) = shrink_checks again r comm
 entry_checks r (Agree flag comm) = agree_checks r comm
 entry_checks r _ = []
 
 -- what a step enters that ranks decide together: the next shrink of its communicator, or the next agreement on it
 abbrev pub entered_by : List Entry → Step → Option Topic
-entered_by log (Shrink comm) = Some (next_shrink log comm)
+entered_by log (Shrink comm again) = Some (next_shrink log comm)
 entered_by log (Agree flag comm) = Some (next_agreement log comm)
 entered_by log _ = None
 
@@ -257,8 +257,8 @@ AnswersStep before r (Cancel req) answer new = AnswersCancel before r req answer
 AnswersStep before r (Failed comm) answer new = AnswersFailed r comm answer new
 AnswersStep before r (Ack count comm) answer new = AnswersAck r count comm answer new
 AnswersStep before r (Revoke comm) answer new = AnswersRevoke r comm answer new
-AnswersStep before r (Dup comm) answer new = AnswersDup r comm answer new
-AnswersStep before r (Shrink comm) answer new = AnswersEntry r (Shrink comm) answer new
+AnswersStep before r (Dup comm again) answer new = AnswersDup r comm again answer new
+AnswersStep before r (Shrink comm again) answer new = AnswersEntry r (Shrink comm again) answer new
 AnswersStep before r (Agree flag comm) answer new = AnswersEntry r (Agree flag comm) answer new
 AnswersStep before r (Note text) answer new = AnswersNote r answer new
 AnswersStep before r Stop answer new = AnswersStop r answer new
@@ -267,6 +267,6 @@ AnswersStep before r Stop answer new = AnswersStop r answer new
 abbrev pub LeavesOpen : List StepReport → State → Step → State → Type 0
 LeavesOpen before r (Wait req) new = Tests before r req TestNotYet new
 LeavesOpen before r (Probe source tag comm) new = LeavesProbe r source tag comm new
-LeavesOpen before r (Shrink comm) new = EntersSome r (Shrink comm) new
+LeavesOpen before r (Shrink comm again) new = EntersSome r (Shrink comm again) new
 LeavesOpen before r (Agree flag comm) new = EntersSome r (Agree flag comm) new
 LeavesOpen before r _ new = ⊥

@@ -27,7 +27,7 @@ use Rattle.ulfm_script.specs.Player.{Player, with_rank, answered}
 
 -- what a step that was entered is decided on: the shrink of its communicator, or the agreement on it, that the rank entered last
 abbrev pub topic_of : List Entry → Step → Option Topic
-topic_of log (Shrink comm) = Some (last_shrink log comm)
+topic_of log (Shrink comm again) = Some (last_shrink log comm)
 topic_of log (Agree flag comm) = Some (last_agreement log comm)
 topic_of log _ = None
 
@@ -38,7 +38,7 @@ missing_in d = filter_map (λ member. rank_in d.old member) (left_out d.old d.en
 -- The adoption of a decision answers a shrink with the new communicator, its group, and the rank's own position there; and an
 -- agreement with its value and the members that are left out. Or the answer is why it is refused.
 abbrev pub AnswersAdoption : State → Step → Topic → Decision → StepAnswer → State → Type 0
-AnswersAdoption r (Shrink comm) topic held (Shrunk child group me) new =
+AnswersAdoption r (Shrink comm again) topic held (Shrunk child group me) new =
     Passes (adopt_checks r topic held)
     × (child.context.number ≡ nth_shrink (round_of held.topic.purpose) comm.number)
     × (group ≡ held.fresh)

@@ -19,13 +19,13 @@ use ulfm_log::Comm;
 use ulfm_rank::Rank;
 
 /// The first poll of a shrink. It gives why the shrink is refused, or nothing where it was entered.
-pub fn enter_shrink(rank: &mut Rank, context: Context) -> Option<StepAnswer>
-    ensures answers { IfSome result (λ answer. AnswersEntry rank.old.state (Shrink context) answer rank.new.state) }
-    ensures enters { IfNone result (EntersSome rank.old.state (Shrink context) rank.new.state) }
+pub fn enter_shrink(rank: &mut Rank, context: Context, again: bool) -> Option<StepAnswer>
+    ensures answers { IfSome result (λ answer. AnswersEntry rank.old.state (Shrink context again) answer rank.new.state) }
+    ensures enters { IfNone result (EntersSome rank.old.state (Shrink context again) rank.new.state) }
     ensures room_lacked { IfSome result (λ answer. answer ≡ StepAnswer.Refused CallError.OutOfMemory → rank.old.prepared ≡ false) }
     ensures keeps_room { KeepsRoom rank.old rank.new }
 {
-    match rank.enter_shrink(Comm { context }) {
+    match rank.enter_shrink_with(Comm { context }, again) {
         Ok(()) => None,
         Err(error) => Some(StepAnswer::Refused(error)),
     }
@@ -73,7 +73,7 @@ fn proposal(rank: &Rank, step: &Step) -> Option<Decision>
     ensures none { IfNone result (IsReady rank.now.state step.now → ⊥) }
 {
     match step {
-        Step::Shrink { comm } => shrink_proposal(rank, *comm),
+        Step::Shrink { comm, .. } => shrink_proposal(rank, *comm),
         Step::Agree { comm, .. } => verdict(rank, *comm),
         _ => None,
     }
@@ -103,18 +103,20 @@ fn adopt(alloc: Global, rank: &mut Rank, step: &Step, held: Decision) -> StepAns
     ensures keeps_room { KeepsRoom rank.old rank.new }
 {
     match step {
-        Step::Shrink { comm } => adopt_shrink(rank, *comm, held),
+        Step::Shrink { comm, again } => adopt_shrink(rank, *comm, *again, held),
         Step::Agree { flag, comm } => adopt_verdict(alloc, rank, *flag, *comm, held),
         _ => unreachable!(),
     }
 }
 
 /// The answer of a shrink that adopts this decision.
-fn adopt_shrink(rank: &mut Rank, context: Context, held: Decision) -> StepAnswer
-    ensures answers { AnswersAdoption rank.old.state (Shrink context) (last_shrink rank.old.state.log context) held result rank.new.state }
+fn adopt_shrink(rank: &mut Rank, context: Context, again: bool, held: Decision) -> StepAnswer
+    ensures answers { AnswersAdoption rank.old.state (Shrink context again) (last_shrink rank.old.state.log context) held result rank.new.state }
     ensures room_lacked { result ≡ StepAnswer.Refused CallError.OutOfMemory → rank.old.prepared ≡ false }
     ensures keeps_room { KeepsRoom rank.old rank.new }
 {
+    // The word stands in the clause alone.
+    let _ = again;
     let group = held.fresh.copied();
     match rank.adopt(Comm { context }, held) {
         Ok(child) => match group.rank_of(rank.me()) {

@@ -18,7 +18,7 @@ use Rattle.ulfm_world.proofs.Ordered.{GoesOn, IsMade, front_goes_on, made_still}
 
 -- an adoption is refused and changes nothing, or it adds its entry
 adoption_cases : (r : State) (asked : Step) (topic : Topic) (held : Decision) (answer : StepAnswer) (new : State) → AnswersAdoption r asked topic held answer new → ((e : CallError) × (answer ≡ Refused e) × (new ≡ r)) ⊎ (new ≡ logged r (Adopted held))
-adoption_cases r (Shrink on) topic held (Shrunk child group me) new h = inr h.4
+adoption_cases r (Shrink on again) topic held (Shrunk child group me) new h = inr h.4
 adoption_cases r (Agree flag on) topic held (Agreed value missing) new h = inr h.3
 adoption_cases r asked topic held (Refused e) new h = inl (e, refl, h.1)
 adoption_cases r asked topic held _ new h = absurd h

@@ -33,9 +33,9 @@ entered_unadopted r asked topic new entered counted e =
 
 -- a step that is left open
 pub opened_unadopted : (done : List StepReport) (r new : State) (asked : Step) (topic : Topic) → AdoptsEntered r.log → RoundsCounted r.log → LeavesOpen done r asked new → topic_of new.log asked ≡ Some topic → has_adopted new.log topic ≡ false
-opened_unadopted done r new (Shrink comm) topic entered counted h about =
-    let here : has_adopted r.log topic ≡ false = entered_unadopted r (Shrink comm) topic new entered counted (subst (λ t. EntersBy r (Shrink comm) t new) (same_Some _ topic (sym (entered-now r (Shrink comm) h.0 new h.1) ∙ about)) h.1) in
-    adopted-plain r.ranks r.me topic (opens_add done r (Shrink comm) new counted h) here
+opened_unadopted done r new (Shrink comm again) topic entered counted h about =
+    let here : has_adopted r.log topic ≡ false = entered_unadopted r (Shrink comm again) topic new entered counted (subst (λ t. EntersBy r (Shrink comm again) t new) (same_Some _ topic (sym (entered-now r (Shrink comm again) h.0 new h.1) ∙ about)) h.1) in
+    adopted-plain r.ranks r.me topic (opens_add done r (Shrink comm again) new counted h) here
 opened_unadopted done r new (Agree flag comm) topic entered counted h about =
     let here : has_adopted r.log topic ≡ false = entered_unadopted r (Agree flag comm) topic new entered counted (subst (λ t. EntersBy r (Agree flag comm) t new) (same_Some _ topic (sym (entered-now r (Agree flag comm) h.0 new h.1) ∙ about)) h.1) in
     adopted-plain r.ranks r.me topic (opens_add done r (Agree flag comm) new counted h) here
