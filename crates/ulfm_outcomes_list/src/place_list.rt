@@ -12,4 +12,6 @@ pub struct Listed {
     pub states: usize,
     /// The rows of the list, which number steps as the job at the place does.
     pub found: Rows,
+    /// Whether the search for it found that no row of `never` comes that is looked at there, but perhaps of those that ask for a step that never ends.
+    pub rules_out: bool,
 }

@@ -1,5 +1,5 @@
 -- What is found of a job at places.
-use Rattle.std.proofs.Common.{◌≡◌, ℕ, Bool, ap, List, [], ◌∷◌, ◌++◌, Option, None, Some, Ok, sym, subst, ◌∙◌}
+use Rattle.std.proofs.Common.{◌≡◌, ℕ, Bool, true, ap, List, [], ◌∷◌, ◌++◌, Option, None, Some, Ok, sym, subst, ◌∙◌}
 use Rattle.std.proofs.lemmas.List.Elements.{All-cons, All-get_or, All-head, All-nil, All-tail}
 use Rattle.std.proofs.lemmas.Option.{get_or_from_slice_get, slice_get_within}
 use Rattle.std.specs.Prelude.{All}
@@ -26,7 +26,7 @@ use Rattle.ulfm_outcomes_list.specs.Told.{row_in}
 use Rattle.ulfm_outcomes_reply.specs.Chosen.{unknown_part}
 use Rattle.ulfm_outcomes_reply.specs.Outcomes.{goals_asked}
 use Rattle.ulfm_outcomes_reply.specs.ShowEach.{IsFirstPlace, IsShowEachReply, nowhere_at_all, shown_at, told_at_place, too_many_at}
-use Rattle.ulfm_outcomes_reply.specs.Wanted.{HasList, IsToldOf, together, unsearched}
+use Rattle.ulfm_outcomes_reply.specs.Wanted.{AreRuledOut, HasList, IsToldOf, together, unsearched}
 use Rattle.ulfm_outcomes_reply.specs.declared.never_rows.FirstRow.{FirstRow}
 use Rattle.ulfm_outcomes_reply.specs.declared.show_each_place.LookAt.{LookAt}
 use Rattle.ulfm_outcomes_list.specs.declared.search_result.Told.{Told}
@@ -38,8 +38,8 @@ use Rattle.ulfm_outcomes_reply.specs.inside.Looking.{IsFirstRow, IsFirstTold, Is
 -- the list of a place of the job
 listed_of : (asked : Asked) (limit : ℕ) (place : Place) (one : Listed) → IsPlaceOf asked.job place → IsListedAt asked limit place one → IsListedOf asked limit one
 listed_of asked limit place one inside at =
-    subst (λ (p : Place). IsPlaceOf asked.job p × HasList (job_asked_at p asked) limit one.found) (sym at.at)
-    (inside, (at.reached.keys, subst (λ (found : List (List ℕ)). IsList (job_asked_at place asked) limit (reach.All (record { keys = at.reached.keys; found = found }))) (sym at.found) at.whole))
+    subst (λ (p : Place). IsPlaceOf asked.job p × HasList (job_asked_at p asked) limit one.found × (one.rules_out ≡ true → AreRuledOut (job_asked_at p asked) (asked_at p asked).rows)) (sym at.at)
+    (inside, (at.reached.keys, subst (λ (found : List (List ℕ)). IsList (job_asked_at place asked) limit (reach.All (record { keys = at.reached.keys; found = found }))) (sym at.found) at.whole), at.out)
 
 -- those of some of its places
 pub lists_of : (asked : Asked) (limit : ℕ) (places : List Place) (listed : List Listed) (past : List Place) → AreLists asked limit places listed past → All (IsPlaceOf asked.job) places → AreListedOf asked limit listed
@@ -53,6 +53,10 @@ lists_of asked limit places listed past (beyond place left more others many list
 pub list_there : (asked made : Asked) (limit : ℕ) (one : Listed) → IsListedOf asked limit one → made ≡ asked_at one.place asked → HasList made.job limit one.found
 list_there asked made limit one of is =
     subst (λ (j : JobView). HasList j limit one.found) (sym (ap (λ (a : Asked). a.job) is)) of.1
+
+-- and the rows are ruled out there that are by its search
+pub ruled_there : (asked made : Asked) (limit : ℕ) (one : Listed) → IsListedOf asked limit one → made ≡ asked_at one.place asked → one.rules_out ≡ true → AreRuledOut made.job made.rows
+ruled_there asked made limit one of is out = subst (λ (a : Asked). AreRuledOut a.job a.rows) (sym is) (of.2 out)
 
 -- what is told of what is asked for there
 pub unwanted_there : (form : Form) (options : ListOptions) (one : Listed) (asked made : Asked) (told : Option Finding) → IsListedOf asked options.limit one → made ≡ asked_at one.place asked

@@ -1,10 +1,10 @@
 -- What a job doesn't want, and what is told of it: below a list, or at a place.
-use Rattle.std.specs.Prelude.{◌≡◌, ◌⊎◌, ℕ, ◌==◌, ◌&&◌, not, Bool, true, List, Option, Some, None, All as Each, length, slice_get, take}
+use Rattle.std.specs.Prelude.{◌≡◌, ◌⊎◌, ℕ, ◌==◌, ◌&&◌, not, Bool, false, true, List, Option, Some, None, All as Each, length, slice_get, take}
 use Rattle.ulfm_job.specs.declared.clause.Clause.{Clause}
 use Rattle.ulfm_job.specs.Job.{JobView}
 use Rattle.ulfm_reach.specs.declared.reach.Reach.TheVariants.{All}
 use Rattle.ulfm_job.specs.declared.place.Place.{Place}
-use Rattle.ulfm_outcomes_spec.specs.Goals.{IsPossible}
+use Rattle.ulfm_outcomes_spec.specs.Goals.{IsPossible, is_some_open}
 use Rattle.ulfm_outcomes_spec.specs.Outcomes.{IsList}
 use Rattle.ulfm_outcomes_spec.specs.Told.{IsTold}
 use Rattle.ulfm_outcomes_spec.specs.Unmet.{MeetsExpected}
@@ -40,6 +40,14 @@ NeverComes job row = is_looked_at job row ≡ true → (goals : Goals) × AreOfC
 -- none has those of one of these rows
 abbrev pub NoneComes : JobView → List (List Clause) → Type 0
 NoneComes job rows = Each (NeverComes job) rows
+
+-- no schedule has all answers of the row, if it is looked at and asks for no step that never ends
+abbrev pub IsRuledOut : JobView → List Clause → Type 0
+IsRuledOut job row = is_looked_at job row ≡ true → (goals : Goals) → AreOfClauses job row goals → is_some_open goals.left.items ≡ false → ¬ IsPossible job goals
+
+-- none has those of one of these rows
+abbrev pub AreRuledOut : JobView → List (List Clause) → Type 0
+AreRuledOut job rows = Each (IsRuledOut job) rows
 
 -- whether the row comes isn't known: more states than the limit would be looked at for it
 abbrev pub IsUnknown : Bool → ℕ → JobView → List Clause → Type 0

@@ -1,6 +1,7 @@
 //! The reply of `outcomes`: a line for each step, with all that it may be answered, and below it a schedule that shows what the job doesn't
 //! want.
-ghost use Rattle.std.specs.Prelude.{◌≡◌, ◌++◌, ℕ, List, None, IfOk, option_map, string_bytes};
+ghost use Rattle.std.specs.Prelude.{◌≡◌, ◌++◌, ℕ, List, None, IfOk, IsTrue, option_map, string_bytes};
+ghost use Rattle.ulfm_reader.specs.JobText.{rows_of};
 ghost use Rattle.ulfm_forms.specs.declared.form.Form.{Form};
 ghost use Rattle.ulfm_command_line.specs.Body.{body_in};
 ghost use Rattle.ulfm_command_line.specs.Stopped.{IsAskedAt, asked_view};
@@ -14,11 +15,13 @@ ghost use Rattle.ulfm_outcomes_reply.specs.Drawn.{left_drawn};
 ghost use Rattle.ulfm_outcomes_reply.specs.ListReply.{IsListReply};
 ghost use Rattle.ulfm_outcomes_reply.specs.Outcomes.{IsJudged, IsOutcomesReply, list_status};
 ghost use Rattle.ulfm_outcomes_reply.specs.Hangs.{judgement_alone};
+ghost use Rattle.ulfm_outcomes_reply.specs.Wanted.{AreRuledOut};
 
 use crate::drawing::drawn;
 use crate::each_place::each_place_reply;
 use crate::finding::Finding;
 use crate::hang::judgement_alone;
+use crate::never_rows::list_with_rows;
 use crate::onlooker::Onlooker;
 use crate::picked_steps::{chosen, no_name, printed, unknown_part};
 use crate::search::Search;
@@ -95,8 +98,8 @@ fn explored_reply<F: Finder, W: Watch>(
     requires { unknown_part (choice_view search.now.choice) (asked_view asked.now) ≡ None }
     ensures { (bytes : List ℕ) → IsAskedAt search.now.options.place bytes (asked_view asked.now) → IfOk result (λ r. IsOutcomesReply search.now.form (choice_view search.now.choice) search.now.options bytes r.status (body_in search.now.form r.body)) }
 {
-    let reach = search.outcomes(&asked.job, watch)?;
-    reached_reply(search, asked, &reach, watch)
+    let (reach, rules_out) = list_with_rows(search, &asked.job, asked.never.as_slice(), watch)?;
+    reached_reply(search, asked, &reach, rules_out, watch)
 }
 
 /// The reply where this was reached.
@@ -104,14 +107,16 @@ fn reached_reply<F: Finder, W: Watch>(
     search: &Search<'_, F>,
     asked: &Reading,
     reach: &Reach,
+    rules_out: bool,
     watch: &mut W,
 ) -> Result<Reply, AllocError>
     requires named { unknown_part (choice_view search.now.choice) (asked_view asked.now) ≡ None }
     requires list { IsList asked.now.job search.now.options.limit reach.now }
+    requires out { IsTrue rules_out → AreRuledOut asked.now.job (rows_of asked.now.never.items) }
     ensures { (bytes : List ℕ) → IsAskedAt search.now.options.place bytes (asked_view asked.now) → IfOk result (λ r. IsOutcomesReply search.now.form (choice_view search.now.choice) search.now.options bytes r.status (body_in search.now.form r.body)) }
 {
     match reach {
-        Reach::All(reached) => judged(search, asked, reached, watch),
+        Reach::All(reached) => judged(search, asked, reached, rules_out, watch),
         Reach::More => more_reply(search),
     }
 }
@@ -132,14 +137,16 @@ fn judged<F: Finder, W: Watch>(
     search: &Search<'_, F>,
     asked: &Reading,
     reached: &Reached,
+    rules_out: bool,
     watch: &mut W,
 ) -> Result<Reply, AllocError>
-    requires { IsList asked.now.job search.now.options.limit (All reached.now) }
+    requires list { IsList asked.now.job search.now.options.limit (All reached.now) }
+    requires out { IsTrue rules_out → AreRuledOut asked.now.job (rows_of asked.now.never.items) }
     ensures { IfOk result (λ r. IsJudged search.now.form (choice_view search.now.choice) search.now.options (asked_view asked.now) reached.now r.status (body_in search.now.form r.body)) }
 {
     match drawn(search, None, asked, &reached.found, watch)? {
         Some(reply) => Ok(reply),
-        None => undrawn(search, asked, reached, watch),
+        None => undrawn(search, asked, reached, rules_out, watch),
     }
 }
 
@@ -148,13 +155,15 @@ fn undrawn<F: Finder, W: Watch>(
     search: &Search<'_, F>,
     asked: &Reading,
     reached: &Reached,
+    rules_out: bool,
     watch: &mut W,
 ) -> Result<Reply, AllocError>
     requires list { IsList asked.now.job search.now.options.limit (All reached.now) }
+    requires out { IsTrue rules_out → AreRuledOut asked.now.job (rows_of asked.now.never.items) }
     requires none { left_drawn search.now.options.drawn asked.now.job reached.now.found ≡ None }
     ensures { IfOk result (λ r. IsJudged search.now.form (choice_view search.now.choice) search.now.options (asked_view asked.now) reached.now r.status (body_in search.now.form r.body)) }
 {
-    match unwanted(search, None, asked, &reached.found, watch)? {
+    match unwanted(search, None, asked, &reached.found, rules_out, watch)? {
         Some(told) => {
             let list = text_of(search, asked, reached, told.judgement)?;
             below(list, told)

@@ -6,6 +6,7 @@ ghost use Rattle.ulfm_outcomes_reply.specs.inside.Parts.{IsListOf, listed_of, pa
 ghost use Rattle.ulfm_command_line.specs.Stopped.{asked_view};
 
 use crate::lists::Lists;
+use crate::never_rows::list_with_rows;
 use crate::onlooker::{Onlooker, Seen};
 use crate::search::Search;
 use std::alloc::AllocError;
@@ -29,11 +30,13 @@ fn list_place<F: Finder, L: Onlooker>(
 {
     let made = stopped_at(search.alloc, place, asked)?;
     let mut watch = Seen::of(onlooker, place);
-    match search.outcomes(&made.job, &mut watch)? {
+    let (reach, rules_out) = list_with_rows(search, &made.job, made.never.as_slice(), &mut watch)?;
+    match reach {
         Reach::All(reached) => Ok(Some(Listed {
             place,
             states: reached.keys.len(),
             found: reached.found,
+            rules_out,
         })),
         Reach::More => Ok(None),
     }

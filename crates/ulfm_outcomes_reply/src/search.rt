@@ -40,6 +40,25 @@ impl<F: Finder> Search<'_, F> {
         self.finder.outcomes(self.alloc, job, limit, watch)
     }
 
+    /// What the steps of a job may be answered, and whether the search for it found that no schedule of the job shows any of these goals. No says nothing. `watch` is told how far it is.
+    ///
+    /// # Errors
+    ///
+    /// `OutOfMemory` where a growth was refused.
+    pub fn outcomes_with<W: Watch>(
+        &self,
+        job: &Job,
+        rows: &[Goals],
+        watch: &mut W,
+    ) -> Result<(Reach, bool), OutOfMemory>
+        ensures list { IfOk result (λ listed. IsList job.now self.now.options.limit listed.0) }
+        ensures nowhere { IfOk result (λ listed. IsTrue listed.1 → AreNowhere job.now rows.now) }
+    {
+        let limit = self.options.limit as usize;
+        self.finder
+            .outcomes_with(self.alloc, job, rows, limit, watch)
+    }
+
     /// A schedule of a job that shows these goals, if there is one. `watch` is told how far it is.
     ///
     /// # Errors
@@ -59,22 +78,5 @@ impl<F: Finder> Search<'_, F> {
             limit: self.options.limit as usize,
         };
         self.finder.show(self.alloc, job, &query, watch)
-    }
-
-    /// Whether one search finds that no schedule of a job shows any of these goals. No says nothing. `watch` is told how far it is.
-    ///
-    /// # Errors
-    ///
-    /// `OutOfMemory` where a growth was refused.
-    pub fn rules_out<W: Watch>(
-        &self,
-        job: &Job,
-        rows: &[Goals],
-        watch: &mut W,
-    ) -> Result<bool, OutOfMemory>
-        ensures { IfOk result (λ none. IsTrue none → AreNowhere job.now rows.now) }
-    {
-        let limit = self.options.limit as usize;
-        self.finder.rules_out(self.alloc, job, rows, limit, watch)
     }
 }

@@ -1,5 +1,6 @@
 //! What a job doesn't want, and the first place at which it comes.
-ghost use Rattle.std.specs.Prelude.{◌≡◌, ℕ, List, IfOk, Some, string_bytes};
+ghost use Rattle.std.specs.Prelude.{◌≡◌, ℕ, List, IfOk, IsTrue, Some, string_bytes};
+ghost use Rattle.ulfm_reader.specs.JobText.{rows_of};
 ghost use Rattle.std.specs.Option.{option_or};
 ghost use Rattle.ulfm_outcomes_spec.specs.Goals.{IsPossible};
 ghost use Rattle.ulfm_outcomes_spec.specs.Told.{IsTold};
@@ -7,7 +8,7 @@ ghost use Rattle.ulfm_outcomes_spec.specs.Unmet.{Judges};
 ghost use Rattle.ulfm_outcomes_list.specs.Unmet.{first_unmet};
 ghost use Rattle.ulfm_command_line.specs.Stopped.{asked_at, asked_view};
 ghost use Rattle.ulfm_outcomes_reply.specs.EachPlace.{places_in};
-ghost use Rattle.ulfm_outcomes_reply.specs.Wanted.{HasList, IsToldOf, filed};
+ghost use Rattle.ulfm_outcomes_reply.specs.Wanted.{AreRuledOut, HasList, IsToldOf, filed};
 ghost use Rattle.ulfm_outcomes_list.specs.Told.{row_in, unmet_in};
 ghost use Rattle.ulfm_outcomes_reply.specs.inside.Looking.{row_judgement, row_status};
 ghost use Rattle.ulfm_outcomes_reply.specs.inside.Judging.{AreListedOf, IsFirstUnwanted, IsListedOf, IsUnwanted, IsUnwantedAt, is_found};
@@ -78,18 +79,28 @@ fn unwanted_at<F: Finder, L: Onlooker>(
 {
     let watch = &mut Seen::of(onlooker, one.place);
     let made = stopped_at(search.alloc, one.place, asked)?;
-    unwanted(search, Some(one.place), &made, &one.found, watch)
+    unwanted(
+        search,
+        Some(one.place),
+        &made,
+        &one.found,
+        one.rules_out,
+        watch,
+    )
 }
 
-/// What is told of what was asked for, perhaps with the stops of a place, if it isn't as it is wanted, by the rows of a list.
+/// What is told of what was asked for, perhaps with the stops of a place, if it isn't as it is wanted, by the rows of a list, and
+/// by whether the search for it ruled rows of `never` out.
 pub(crate) fn unwanted<F: Finder, W: Watch>(
     search: &Search<'_, F>,
     at: Option<Place>,
     asked: &Reading,
     found: &Rows,
+    rules_out: bool,
     watch: &mut W,
 ) -> Result<Option<Finding>, AllocError>
-    requires { HasList asked.now.job search.now.options.limit found.now }
+    requires list { HasList asked.now.job search.now.options.limit found.now }
+    requires out { IsTrue rules_out → AreRuledOut asked.now.job (rows_of asked.now.never.items) }
     ensures { IfOk result (IsUnwanted search.now.form search.now.options at (asked_view asked.now) found.now) }
 {
     if let Some(unmet) = first_unmet(&asked.job, found) {
@@ -97,7 +108,7 @@ pub(crate) fn unwanted<F: Finder, W: Watch>(
         return Ok(Some(told));
     }
     let rows = asked.never.as_slice();
-    if let Some(first) = first_row(search, &asked.job, found, rows, watch)? {
+    if let Some(first) = first_row(search, &asked.job, found, rows, rules_out, watch)? {
         let told = row_told(search, at, asked, &first)?;
         return Ok(Some(told));
     }

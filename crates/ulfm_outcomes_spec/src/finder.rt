@@ -31,6 +31,23 @@ pub trait Finder {
     ) -> Result<Reach, OutOfMemory>
         ensures { IfOk result (λ reach. IsList job.now limit reach) };
 
+    /// The same list, and whether the search for it found that no schedule of the job shows any of these goals. No says nothing. Of goals by which a
+    /// step is to stand open for ever it says nothing either way.
+    ///
+    /// # Errors
+    ///
+    /// `OutOfMemory` where a growth was refused.
+    fn outcomes_with<W: Watch>(
+        &self,
+        alloc: Global,
+        job: &Job,
+        rows: &[Goals],
+        limit: usize,
+        watch: &mut W,
+    ) -> Result<(Reach, bool), OutOfMemory>
+        ensures list { IfOk result (λ listed. IsList job.now limit listed.0) }
+        ensures nowhere { IfOk result (λ listed. IsTrue listed.1 → AreNowhere job.now rows.now) };
+
     /// A schedule of a job in which all that it is asked for holds: its events, the trace that it leaves, and what steps wait for that are to
     /// stand open for ever. Or that there are more worlds than the limit in which it doesn't hold; nothing where no schedule of the job has
     /// all of it. `watch` is told how far it is.
@@ -46,20 +63,4 @@ pub trait Finder {
         watch: &mut W,
     ) -> Result<Option<Told>, OutOfMemory>
         ensures { IfOk result (IsLook job.now query.now.goals.now query.now.is_brief query.now.limit) };
-
-    /// Whether one search for all of these goals finds that no schedule of a job shows any of them. No says nothing. Of goals by which a step is to
-    /// stand open for ever it says nothing either way. `watch` is told how far it is.
-    ///
-    /// # Errors
-    ///
-    /// `OutOfMemory` where a growth was refused.
-    fn rules_out<W: Watch>(
-        &self,
-        alloc: Global,
-        job: &Job,
-        rows: &[Goals],
-        limit: usize,
-        watch: &mut W,
-    ) -> Result<bool, OutOfMemory>
-        ensures { IfOk result (λ none. IsTrue none → AreNowhere job.now rows.now) };
 }

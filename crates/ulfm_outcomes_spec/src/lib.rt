@@ -25,7 +25,7 @@
 //! - [`Finder`], `show`: a schedule of the job with all the answers that are sought, and its text, or that there are more worlds than the limit
 //!   (`IsTold`, Told.antt), or nothing where no schedule has them all (`IsLook`, Told.antt). Read `IsPossible`, `IsSchedule`, Goals.antt, and
 //!   `IsScheduleText`, Schedule.antt, whose lines are said in `ulfm_replay`.
-//! - [`Finder`], `rules_out`: by one search, that no schedule has all answers of any of several rows (`AreNowhere`, Told.antt).
+//! - [`Finder`], `outcomes_with`: by the same search, that no schedule has all answers of any of several rows (`AreNowhere`, Told.antt).
 //! - [`first_unmet`]: by the list, whether each answer is as its step expects in every schedule (`MeetsExpected`, `Judges`, Unmet.antt).
 //! - [`shared_shows_no_more`]: what no schedule over rings shows, none over shared inboxes does (`SharedShowsNoMore`, Goals.antt).
 //! - [`answers_stay_away`]: of answers that no schedule of a job has together, the reports of one of its schedules don't have all. In such reports no

@@ -1,5 +1,5 @@
 -- What single functions find of a job at places.
-use Rattle.std.specs.Prelude.{◌≡◌, ◌≤◌, ℕ, ⊤, ◌==◌, ◌∷◌, [], ◌++◌, Bool, false, List, Option, Some, None, All, max, option_map, slice_get, string_bytes, take}
+use Rattle.std.specs.Prelude.{◌≡◌, ◌≤◌, ℕ, ⊤, ◌==◌, ◌∷◌, [], ◌++◌, Bool, false, true, List, Option, Some, None, All, max, option_map, slice_get, string_bytes, take}
 use Rattle.ulfm_job.specs.declared.clause.Clause.{Clause}
 use Rattle.ulfm_job.specs.Job.{JobView}
 use Rattle.ulfm_job.specs.Place.{IsPlaceOf, job_at}
@@ -22,7 +22,7 @@ use Rattle.ulfm_outcomes_reply.specs.Hangs.{judgement_of_all}
 use Rattle.ulfm_outcomes_reply.specs.Lists.{job_asked_at}
 use Rattle.ulfm_outcomes_reply.specs.Outcomes.{list_status, nowhere_in}
 use Rattle.ulfm_outcomes_reply.specs.ShowEach.{AreGoalsAt, IsNowhereAt}
-use Rattle.ulfm_outcomes_reply.specs.Wanted.{HasList, IsToldOf, IsWanted}
+use Rattle.ulfm_outcomes_reply.specs.Wanted.{AreRuledOut, HasList, IsToldOf, IsWanted}
 use Rattle.ulfm_outcomes_reply.specs.declared.show_each_place.LookAt.{LookAt}
 use Rattle.ulfm_outcomes_list.specs.declared.search_result.Told.{Told}
 use Rattle.ulfm_outcomes_spec.specs.Told.{IsLook}
@@ -35,9 +35,10 @@ abbrev pub AreSharing : Option ℕ → ℕ → Type 0
 AreSharing (Some asked) threads = threads ≡ max 1 asked
 AreSharing None threads = threads ≤ 64
 
--- the list of one of the job's places
+-- the list of one of the job's places, and whether the search for it ruled rows of `never` out
 abbrev pub IsListedOf : Asked → ℕ → Listed → Type 0
 IsListedOf asked limit one = IsPlaceOf asked.job one.place × HasList (job_asked_at one.place asked) limit one.found
+    × (one.rules_out ≡ true → AreRuledOut (job_asked_at one.place asked) (asked_at one.place asked).rows)
 
 -- the lists of some of them
 abbrev pub AreListedOf : Asked → ℕ → List Listed → Type 0

@@ -1,5 +1,5 @@
 -- What single functions find that look for schedules.
-use Rattle.std.specs.Prelude.{◌≡◌, ◌⊎◌, ◌==◌, ℕ, Bool, false, All as Each, Contains, List, Option, Some, None, slice_get, take}
+use Rattle.std.specs.Prelude.{◌≡◌, ◌==◌, ℕ, Bool, false, true, All as Each, Contains, List, Option, Some, None, slice_get, take}
 use Rattle.ulfm_job.specs.declared.clause.Clause.{Clause}
 use Rattle.ulfm_job.specs.Job.{JobView}
 use Rattle.ulfm_outcomes_spec.specs.Goals.{is_some_open}
@@ -14,6 +14,7 @@ use Rattle.ulfm_forms.specs.declared.form.Form.{Form}
 use Rattle.ulfm_outcomes_list.specs.Told.{told_in}
 use Rattle.ulfm_outcomes_list.specs.declared.search_result.Told.{Told}
 use Rattle.ulfm_outcomes_list.specs.declared.search_result.Told.TheVariants.{Schedule, Many}
+use Rattle.ulfm_command_line.specs.Asking.{is_looked_at}
 use Rattle.ulfm_command_line.specs.Stopped.{Asked}
 use Rattle.ulfm_command_line.specs.declared.command.ListOptions.{ListOptions}
 use Rattle.ulfm_command_line.specs.Body.{body_in}
@@ -29,13 +30,18 @@ abbrev pub IsLookForRow : JobView → List Clause → Bool → ℕ → Option To
 IsLookForRow job row is_brief limit None = NeverComes job row
 IsLookForRow job row is_brief limit (Some told) = (goals : Goals) × AreOfRow job row goals × IsLook job goals is_brief limit (Some told)
 
--- The row never comes together; or these goals are what its answers ask for, among others, and no step is to stand open for ever by them.
+-- what the answers of the row ask for is among these goals, if it is looked at and asks for no step that never ends
 abbrev pub IsAmong : JobView → List Clause → List Goals → Type 0
-IsAmong job row sought = NeverComes job row ⊎ ((goals : Goals) × AreOfClauses job row goals × Contains sought goals × (is_some_open goals.left.items ≡ false))
+IsAmong job row sought = is_looked_at job row ≡ true → (goals : Goals) × AreOfClauses job row goals × (is_some_open goals.left.items ≡ false → Contains sought goals)
 
 -- so it is with each of these rows
 abbrev pub AreAmong : JobView → List (List Clause) → List Goals → Type 0
 AreAmong job rows sought = Each (λ (row : List Clause). IsAmong job row sought) rows
+
+-- what the answers of the row ask for, or none: it isn't looked at, or asks for a step that never ends
+abbrev pub IsClosedRow : JobView → List Clause → Option Goals → Type 0
+IsClosedRow job row None = is_looked_at job row ≡ true → (goals : Goals) × AreOfClauses job row goals × (is_some_open goals.left.items ≡ true)
+IsClosedRow job row (Some goals) = AreOfClauses job row goals
 
 -- what came of a look at a row: nothing to be looked for, or these goals
 abbrev pub IsSoughtRow : JobView → List Clause → Option Goals → Type 0

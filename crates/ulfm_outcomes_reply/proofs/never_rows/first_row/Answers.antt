@@ -6,8 +6,15 @@ use Rattle.ulfm_reader.specs.JobText.{rows_of}
 use Rattle.ulfm_outcomes_reply.specs.inside.Looking.{IsFirstRow, IsUnfoundOf, is_row_found}
 use Rattle.std.specs.Option.{option_or}
 use Rattle.ulfm_outcomes_reply.proofs.Judged.{row_here}
+use Rattle.ulfm_outcomes_reply.proofs.Looked.{ruled_at}
 use Rattle.ulfm_outcomes_reply.proofs.RowsFound.{row-found, row-passed, rows-end}
 use Rattle.ulfm_outcomes_reply.proofs.never_rows.first_row.Goals as goal
+
+pub look_for_row-requires-clause-out : goal.look_for_row-requires-clause-out
+look_for_row-requires-clause-out g c = λ is.
+    let row = c.as_slice.result.now in
+    let here = row_here c.args.rows.now c.loop-number.number c.index-rows-number.result row c.loop-number-test.true c.index-rows-number.is c.as_slice.ensures.value in
+    ruled_at c.args.job.now (rows_of c.args.rows.now) c.loop-number.number row here (c.requires.out is)
 
 pub returns-then-is_found : goal.returns-then-is_found
 returns-then-is_found g c =

@@ -6,7 +6,7 @@ use Rattle.ulfm_outcomes_reply.specs.inside.Looking.{IsDrawnOf}
 use Rattle.ulfm_outcomes_reply.proofs.outcomes_reply.judged.Goals as goal
 
 pub drawn-requires : goal.drawn-requires
-drawn-requires g c = (c.args.reached.now.keys, c.requires)
+drawn-requires g c = (c.args.reached.now.keys, c.requires.list)
 
 pub undrawn-requires-clause-none : goal.undrawn-requires-clause-none
 undrawn-requires-clause-none g c = subst (IsDrawnOf c.args.search.now.form c.args.search.now.options None (asked_view c.args.asked.now) c.args.reached.now.found) c.in-None.is c.in_ok-reply.ensures

@@ -6,8 +6,8 @@ use Rattle.ulfm_outcomes_reply.specs.Outcomes.{IsJudged, good, unwanted}
 use Rattle.ulfm_outcomes_reply.specs.inside.Judging.{IsUnwanted}
 use Rattle.ulfm_outcomes_reply.proofs.outcomes_reply.undrawn.Goals as goal
 
-pub unwanted-requires : goal.unwanted-requires
-unwanted-requires g c = (c.args.reached.now.keys, c.requires.list)
+pub unwanted-requires-clause-list : goal.unwanted-requires-clause-list
+unwanted-requires-clause-list g c = (c.args.reached.now.keys, c.requires.list)
 
 pub returns-in_ok-list-in-Some : goal.returns-in_ok-list-in-Some
 returns-in_ok-list-in-Some g c =
