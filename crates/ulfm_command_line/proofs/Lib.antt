@@ -9,3 +9,4 @@ pub mod AsRead
 pub mod Texts
 pub mod Statuses
 pub mod Documents
+pub mod Nested

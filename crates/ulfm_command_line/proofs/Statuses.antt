@@ -1,9 +1,10 @@
 -- The statuses that replies have.
 use Rattle.std.proofs.Common.{◌≢◌, ◌≤◌, ℕ, List, arith}
+use Rattle.toml.specs.Data.{Members}
 use Rattle.ulfm_job.specs.declared.place.Place.{Place}
 use Rattle.ulfm_forms.specs.declared.form.Form.{Form}
 use Rattle.ulfm_command_line.specs.Expanded as expanded
-use Rattle.ulfm_command_line.specs.Expanded.{IsExpandReply}
+use Rattle.ulfm_command_line.specs.Expanded.{IsExpandReply, IsWritten}
 use Rattle.ulfm_command_line.specs.Named as named
 use Rattle.ulfm_command_line.specs.Named.{IsUnnamed}
 use Rattle.ulfm_command_line.specs.Places as places
@@ -59,8 +60,13 @@ places_known form stops bytes status text (places.crowded job is many) = no_job
 places_known form stops bytes status text places.unheld = no_job
 places_known form stops bytes status text places.starved = run_fails
 
+written_known : (form : Form) (ms : Members) (status : ℕ) (text : List ℕ) → IsWritten form ms status text → IsKnown status
+written_known form ms status text (expanded.written t readable back short) = done
+written_known form ms status text (expanded.too_long t is long) = no_job
+written_known form ms status text (expanded.too_deep deep) = no_job
+
 pub expand_known : (form : Form) (bytes : List ℕ) (status : ℕ) (text : List ℕ) → IsExpandReply form bytes status text → IsKnown status
-expand_known form bytes status text (expanded.expanded plan t is whole) = done
+expand_known form bytes status text (expanded.expanded plan ms s t is document writes) = written_known form ms s t writes
 expand_known form bytes status text (expanded.unexpanded f is) = no_job
 expand_known form bytes status text expanded.full = no_job
 expand_known form bytes status text expanded.starved = run_fails

@@ -17,8 +17,8 @@
 //!   text is refused (`IsNamed`, `IsUnnamed`, Named.antt; `place_named`, Naming.antt).
 //! - [`nowhere_is_as_read`]: this law says that without a stop the job is the one of the text.
 //! - [`check_reply`]: whether the job is good, or the line of its refusal (`IsCheckReply`, `refused_in`, Replies.antt).
-//! - [`expand_reply`]: a text whose TOML document is that of the job with its steps and rows written out, where it isn't nested deeper than TOML is
-//!   read (`IsExpandReply`, Expanded.antt).
+//! - [`expand_reply`]: a text whose TOML document is that of the job with its steps and rows written out, or the refusal of that text, if it is too
+//!   long or nested too deep to be read (`IsExpandReply`, `IsWritten`, Expanded.antt).
 //! - [`places_reply`]: the places of the job, a line each (`IsPlacesReply`, Places.antt; `places_of`, Places.antt of `ulfm_job`).
 //! - [`Body`]: what a reply writes, whose text in a form is `body_in` (Body.antt).
 //! - [`failed`]: the line of a failure, in either form (`failed_in`, `out_of_memory_text`, Failure.antt).
@@ -30,8 +30,8 @@
 //! - what else is said of words: `unmeant.rt`, `tips.rt`, `help.rt`, `version.rt`
 //! - a text at a place: `reading_at_place.rt`, `holding.rt` (what is asked before the steps of a name), `looked_at.rt` (which rows count), `copied.rt` (parts
 //!   of a reading once more), `laws.rt`; places by names: `place_names.rt`, `place_by_names.rt`
-//! - replies: `reply.rt` (`check`, refusals, and the statuses of the program), `expansion.rt`, `place_lines.rt` (`places`), `failure.rt` (no trace),
-//!   `body.rt` (what a reply writes, and its printer), `unknown.rt`
+//! - replies: `reply.rt` (`check`, refusals, and the statuses of the program), `expansion.rt`, `nesting.rt` (how deep its document is), `place_lines.rt`
+//!   (`places`), `failure.rt` (no trace), `body.rt` (what a reply writes, and its printer), `unknown.rt`
 //! - for standard error alone: `remark.rt`, `unmet.rt`, `verdict_line.rt`
 //!
 //! Not here: replies that an engine makes (`ulfm_run_reply`, `ulfm_outcomes_reply`), and the way to the streams (`ulfm_program`). No contract speaks
@@ -49,6 +49,7 @@ mod holding;
 mod laws;
 mod list_options;
 mod looked_at;
+mod nesting;
 mod number;
 mod options;
 mod place_by_names;

@@ -2,11 +2,13 @@
 use Rattle.std.proofs.Common.{◌≡◌, ◌≤◌, ◌+◌, ℕ, suc, List, [], ◌∷◌, All, length, Bool, true, false, ltb, leb, Option, Some, None, Result, Ok, Err, refl, sym, ap, ◌∙◌, arith}
 use Rattle.std.proofs.lemmas.Bool.Decides.{nat_tests}
 use Rattle.std.specs.Prelude.{codes, if◌then◌else◌}
-use Rattle.toml.specs.Data.{Data, Items, Members, string, integer, float, boolean, datetime, array, table, get_member, members_depth}
+use Rattle.toml.specs.Data.{Data, Items, Members, string, integer, float, boolean, datetime, array, table, get_member}
 use Rattle.toml.specs.Parse.{parse_document}
 use Rattle.toml.specs.View.{items_of}
 use Rattle.std.specs.Str.{is_utf8}
-use Rattle.ulfm_command_line.specs.Expanded.{IsTextOf, document_in}
+use Rattle.ulfm_forms.specs.declared.form.Form.{Form}
+use Rattle.ulfm_command_line.specs.Expanded as reply
+use Rattle.ulfm_command_line.specs.Expanded.{IsExpandReply, IsWritten, document_in}
 use Rattle.ulfm_job.specs.declared.clause.Clause.{Clause}
 use Rattle.ulfm_job.specs.declared.fault.Fault.{Fault}
 use Rattle.ulfm_job.specs.declared.fault.Fault.TheVariants.{BadKey}
@@ -141,25 +143,30 @@ jobs_alike ms reading is =
         (in_job-ok (provisos_in draft.0.names draft.0.provisos never.0) provisos.0 provisos.1) (in_job-ok (rows_in draft.0.scripts draft.0.names never.0) rows.0 rows.1) (is ∙ ap Ok (sym same)) in
         (again.0, again.1 ∙ ap (λ (r : Reading). Ok (read_from again.0 r)) same)
 
--- the law, where the document of the bytes is known
-of_documents : (bytes text : List ℕ) (ms : Members) (reading : Reading) → is_utf8 bytes ≡ true → parse_document bytes ≡ Some ms → reading_of ms ≡ Ok reading → IsTextOf (document_in bytes) text → is_utf8 text ≡ true → length text ≤ 1048576
-    → members_depth (written_job ms) ≤ 80 → (filed : List Filed) × (reading_of_bytes text ≡ Ok (read_from filed reading))
-unfolding reading_of_bytes
-of_documents bytes text ms reading good parsed is writes readable short shallow =
-    let document : document_in bytes ≡ Some (table (written_job ms)) = rw (good, parsed) refl in
-    let parsed_again : parse_document text ≡ Some (written_job ms) = writes (written_job ms) document shallow in
-    let again = jobs_alike ms reading is in
-    let test : ltb 1048576 (length text) ≡ false = grind (arith, nat_tests, short) in
-    (again.0, rw (test, readable, parsed_again) again.1)
+same_table : (ms ns : Members) → Some (table ms) ≡ Some (table ns) → ms ≡ ns
+same_table ms ns e = cc
 
--- the law
-pub expands_alike : ExpandsAlike
+-- the law, where the document of the bytes is known
+of_documents : (bytes text : List ℕ) (ms out : Members) (reading : Reading) → is_utf8 bytes ≡ true → parse_document bytes ≡ Some ms → reading_of ms ≡ Ok reading
+    → document_in bytes ≡ Some (table out) → is_utf8 text ≡ true → parse_document text ≡ Some out → length text ≤ 1048576
+    → (filed : List Filed) × (reading_of_bytes text ≡ Ok (read_from filed reading))
 unfolding reading_of_bytes
-expands_alike bytes text reading is writes readable short shallow = by_size (ltb 1048576 (length bytes)) is
+of_documents bytes text ms out reading good parsed is document readable again short =
+    let by_parts : document_in bytes ≡ Some (table (written_job ms)) = rw (good, parsed) refl in
+    let same : parse_document text ≡ Some (written_job ms) = again ∙ ap Some (same_table out (written_job ms) (sym document ∙ by_parts)) in
+    let alike = jobs_alike ms reading is in
+    let test : ltb 1048576 (length text) ≡ false = grind (arith, nat_tests, short) in
+    (alike.0, rw (test, readable, same) alike.1)
+
+-- the law, where the text is known
+of_texts : (bytes text : List ℕ) (out : Members) (reading : Reading) → reading_of_bytes bytes ≡ Ok reading → document_in bytes ≡ Some (table out)
+    → is_utf8 text ≡ true → parse_document text ≡ Some out → length text ≤ 1048576 → (filed : List Filed) × (reading_of_bytes text ≡ Ok (read_from filed reading))
+unfolding reading_of_bytes
+of_texts bytes text out reading is document readable again short = by_size (ltb 1048576 (length bytes)) is
   where
     by_document : (found : Option Members) → parse_document bytes ≡ found → is_utf8 bytes ≡ true → reading_of_document found ≡ Ok reading → (filed : List Filed) × (reading_of_bytes text ≡ Ok (read_from filed reading))
     by_document None none good read = absurd cc
-    by_document (Some ms) found good read = of_documents bytes text ms reading good found read writes readable short (shallow ms found)
+    by_document (Some ms) found good read = of_documents bytes text ms out reading good found read document readable again short
 
     by_text : (b : Bool) → is_utf8 bytes ≡ b → (if b then reading_of_document (parse_document bytes) else Err refused.NotToml) ≡ Ok reading → (filed : List Filed) × (reading_of_bytes text ≡ Ok (read_from filed reading))
     by_text true good read = by_document (parse_document bytes) refl good read
@@ -168,3 +175,18 @@ expands_alike bytes text reading is writes readable short shallow = by_size (ltb
     by_size : (b : Bool) → (if b then Err refused.TooLarge else if is_utf8 bytes then reading_of_document (parse_document bytes) else Err refused.NotToml) ≡ Ok reading → (filed : List Filed) × (reading_of_bytes text ≡ Ok (read_from filed reading))
     by_size true read = absurd cc
     by_size false read = by_text (is_utf8 bytes) refl read
+
+-- the law
+pub expands_alike : ExpandsAlike
+expands_alike form bytes text reading is writes = by 0 text refl writes
+  where
+    of_written : (out : Members) (status : ℕ) (t : List ℕ) → status ≡ 0 → document_in bytes ≡ Some (table out) → IsWritten form out status t → (filed : List Filed) × (reading_of_bytes t ≡ Ok (read_from filed reading))
+    of_written out status t zero document (reply.written s readable again short) = of_texts bytes s out reading is document readable again short
+    of_written out status t zero document (reply.too_long s long_is long) = absurd cc
+    of_written out status t zero document (reply.too_deep deep) = absurd cc
+
+    by : (status : ℕ) (t : List ℕ) → status ≡ 0 → IsExpandReply form bytes status t → (filed : List Filed) × (reading_of_bytes t ≡ Ok (read_from filed reading))
+    by status t zero (reply.expanded plan out s u job document writes) = of_written out s u zero document writes
+    by status t zero (reply.unexpanded f refusal) = absurd cc
+    by status t zero reply.full = absurd cc
+    by status t zero reply.starved = absurd cc

@@ -23,8 +23,8 @@
 //! - [`rows_stay_away`]: if no schedule of a job has all answers of a row of `never`, as status 0 of `outcomes` says, the reports of one of its
 //!   schedules don't have them, whatever its turns (`RowsStayAway`, Laws.antt; `AreOfSchedule`, Scheduled.antt of `ulfm_outcomes_spec`). Those of a run
 //!   and a replay are such by laws of `ulfm_outcomes`.
-//! - [`expands_alike`]: the text that `expand` writes is read as the same job, with the same rows, names and provisos; its steps come from other
-//!   places of the file. It isn't longer than a job's text may be, nor nested deeper than TOML is read (`ExpandsAlike`, Laws.antt).
+//! - [`expands_alike`]: the text that `expand` writes, with 0, is read as the same job, with the same rows, names and provisos; its steps come from
+//!   other places of the file (`ExpandsAlike`, Laws.antt).
 //! - [`without_words`]: if the words can't be had, the line that says so is written, with 4 a beginning of it (`not_text`, `GetsFrontOf`,
 //!   Replies.antt; `out_of_memory_text`, Failure.antt of `ulfm_command_line`).
 //!

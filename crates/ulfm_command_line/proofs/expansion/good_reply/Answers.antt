@@ -1,13 +1,14 @@
-use Rattle.std.proofs.Common.{ap, string_bytes, ◌∙◌}
+use Rattle.std.proofs.Common.{ap, ◌∙◌}
 use Rattle.std.proofs.lemmas.Result.{IfOk-weaker}
 use Rattle.std.specs.Option.{option_and_then}
 use Rattle.toml.specs.Data.{as_table}
 use Rattle.toml.specs.View.{table_view}
 use Rattle.ulfm_command_line.specs.Expanded.{document_in}
-use Rattle.ulfm_command_line.proofs.Texts.{text-of}
-use Rattle.ulfm_command_line.proofs.expansion.written_text.Goals as goal
+use Rattle.ulfm_command_line.proofs.Texts.{of_table}
+use Rattle.ulfm_command_line.proofs.expansion.good_reply.Goals as goal
 
 pub returns-in-Some : goal.returns-in-Some
 returns-in-Some c =
     let found = c.in-Some.ensures ∙ ap (option_and_then as_table) c.in_ok-document.ensures in
-    IfOk-weaker c.text_of.result _ _ (λ text back. text-of (table_view c.in-Some.table.now) (document_in c.args.bytes.now) (string_bytes text) found back) c.text_of.ensures
+    let ms = table_view c.in-Some.table.now in
+    IfOk-weaker c.table_reply.result _ _ (λ r replies. (ms, of_table ms (document_in c.args.bytes.now) found, replies)) c.table_reply.ensures
