@@ -1,10 +1,10 @@
 -- The answer of a file below its head.
-use Rattle.std.proofs.Common.{◌≡◌, ℕ, List, ◌++◌, take, Option, sym, subst, inl, inr}
+use Rattle.std.proofs.Common.{◌≡◌, ℕ, List, [], ◌++◌, take, Option, Some, None, refl, sym, subst, inl, inr}
 use Rattle.std.proofs.KnownBytes.{Appends-trans, Appends-kept}
 use Rattle.std.proofs.lemmas.Bool.{cases_eq}
 use Rattle.std.specs.Io.KnownBytes.{Appends, Keeps}
-use Rattle.ulfm_program.specs.Files.{GetsAnswer, replied, unread, cut_off}
-use Rattle.ulfm_program.specs.Replies.{IsWhole, GetsReply, GetsBeginning, GetsFrontOf}
+use Rattle.ulfm_program.specs.Files.{GetsAnswer, IsReplyOf, replied, unread, cut_off}
+use Rattle.ulfm_program.specs.Replies.{AreRead, IsWhole, GetsReply, GetsBeginning, GetsFrontOf}
 use Rattle.ulfm_program.proofs.Fronts.{front_before, front_behind}
 
 -- the output failed inside the head or below it
@@ -22,18 +22,23 @@ head_cut IsReply head old new bytes status text reply front = answer_cut IsReply
 pub file_unread : (IsReply : List ℕ → ℕ → List ℕ → Type 0) (head : List ℕ) (old new : Option (List ℕ)) → Appends old new head → GetsAnswer IsReply head old new 5
 file_unread IsReply head old new above = record { text = head; answer = unread; written = above }
 
--- what an input is followed by, below the head
-pub file_answered : (IsReply : List ℕ → ℕ → List ℕ → Type 0) (head : List ℕ) (input old mid new : Option (List ℕ)) (status : ℕ) → Appends old mid head
+-- bytes that may have been read of an input
+pub some_read : (input : Option (List ℕ)) → (bytes : List ℕ) × AreRead input bytes
+some_read None = ([], tt)
+some_read (Some all) = (take 1048577 all, refl)
+
+-- what an input with the bytes of a name is followed by, below the head
+pub file_answered : (IsReply : List ℕ → ℕ → List ℕ → Type 0) (head : List ℕ) (input named : Option (List ℕ)) (old mid new : Option (List ℕ)) (status : ℕ) → input ≡ named → Appends old mid head
     → (IsWhole status → GetsReply IsReply input mid new status) → (status ≡ 4 → GetsBeginning IsReply input mid new) → (status ≡ 5 → Keeps mid new)
-    → GetsAnswer IsReply head old new status
-file_answered IsReply head input old mid new status above replies cuts keeps = elim (cases_eq status 4) [
+    → GetsAnswer (IsReplyOf IsReply named) head old new status
+file_answered IsReply head input named old mid new status is above replies cuts keeps = subst (λ i. GetsAnswer (IsReplyOf IsReply i) head old new status) is (elim (cases_eq status 4) [
   | inl four ↦
       let part = cuts four in
-      subst (λ k. GetsAnswer IsReply head old new k) (sym four) (answer_cut IsReply head old new part.bytes part.status part.text part.reply (front_behind old mid new head part.text above part.written))
+      subst (λ k. GetsAnswer (IsReplyOf IsReply input) head old new k) (sym four) (answer_cut (IsReplyOf IsReply input) head old new part.bytes part.status part.text (record { read = part.read; reply = part.reply }) (front_behind old mid new head part.text above part.written))
   | inr whole ↦ elim (cases_eq status 5) [
-    | inl five ↦ subst (λ k. GetsAnswer IsReply head old new k) (sym five) (file_unread IsReply head old new (Appends-kept old mid new head above (keeps five)))
+    | inl five ↦ subst (λ k. GetsAnswer (IsReplyOf IsReply input) head old new k) (sym five) (file_unread (IsReplyOf IsReply input) head old new (Appends-kept old mid new head above (keeps five)))
     | inr read ↦
         let got = replies (whole, read) in
-        record { text = head ++ got.text; answer = replied got.bytes status got.text got.reply; written = Appends-trans old mid new head got.text above got.written }
+        record { text = head ++ got.text; answer = replied got.bytes status got.text (record { read = got.read; reply = got.reply }); written = Appends-trans old mid new head got.text above got.written }
   ]
-]
+])

@@ -1,5 +1,5 @@
 -- The replies where memory runs out.
-use Rattle.std.proofs.Common.{◌≡◌, ◌≢◌, ℕ, List, [], Option, Some, None, take, refl, sym, subst}
+use Rattle.std.proofs.Common.{◌≡◌, ◌≢◌, ℕ, List, Option, Some, None, sym, subst}
 use Rattle.std.specs.Io.KnownBytes.{Appends}
 use Rattle.ulfm_forms.specs.declared.form.Form.{Form}
 use Rattle.ulfm_command_line.specs.declared.command.Wanted.{Wanted}
@@ -11,7 +11,8 @@ use Rattle.ulfm_command_line.specs.Places as places
 use Rattle.ulfm_command_line.specs.Replies.{starved}
 use Rattle.ulfm_command_line.specs.Wish.{WishView}
 use Rattle.ulfm_outcomes_reply.proofs.Statuses.{starved_list}
-use Rattle.ulfm_program.specs.Replies.{AreRead, IsReplyBy, IsReplyIn, IsReplyStopped, IsWhole, GetsReply, GetsBeginning, GetsFrontOf, unsettled}
+use Rattle.ulfm_program.proofs.Answered.{some_read}
+use Rattle.ulfm_program.specs.Replies.{IsReplyBy, IsReplyIn, IsReplyStopped, IsWhole, GetsReply, GetsBeginning, GetsFrontOf, unsettled}
 use Rattle.ulfm_run_reply.specs.Played.{failed, undrawn, fell}
 use Rattle.ulfm_run_reply.specs.Sweep.{unswept}
 
@@ -35,22 +36,17 @@ starved_stopped (Some stop) form wish wanted bytes = unsettled 3 (out_of_memory_
 pub starved_reply : (form : Form) (wish : WishView) (wanted : Wanted) (bytes : List ℕ) → IsReplyIn form wish wanted bytes 3 (out_of_memory_in form)
 starved_reply form wish wanted bytes = starved_stopped wish.stop form wish wanted bytes
 
--- bytes that may have been read
-bytes_of : (input : Option (List ℕ)) → (bytes : List ℕ) × AreRead input bytes
-bytes_of None = ([], tt)
-bytes_of (Some all) = (take 1048577 all, refl)
-
 -- such a line is written whole
 pub starved_gets : (IsReply : List ℕ → ℕ → List ℕ → Type 0) (line : List ℕ) → ((bytes : List ℕ) → IsReply bytes 3 line) → (input old new : Option (List ℕ)) (status : ℕ)
     → (status ≢ 4 → (status ≡ 3) × Appends old new line) → IsWhole status → GetsReply IsReply input old new status
 starved_gets IsReply line is input old new status h whole =
     let w = h whole.0 in
-    let read = bytes_of input in
+    let read = some_read input in
     record { bytes = read.0; text = line; read = read.1; reply = subst (λ (k : ℕ). IsReply read.0 k line) (sym w.0) (is read.0); written = w.1 }
 
 -- or a beginning of it is
 pub starved_begins : (IsReply : List ℕ → ℕ → List ℕ → Type 0) (line : List ℕ) → ((bytes : List ℕ) → IsReply bytes 3 line) → (input old new : Option (List ℕ)) (status : ℕ)
     → (status ≡ 4 → GetsFrontOf old new line) → status ≡ 4 → GetsBeginning IsReply input old new
 starved_begins IsReply line is input old new status h four =
-    let read = bytes_of input in
+    let read = some_read input in
     record { bytes = read.0; status = 3; text = line; read = read.1; reply = is read.0; written = h four }

@@ -1,7 +1,7 @@
 //! Jobs by file.
 ghost use Rattle.std.specs.Prelude.{◌≡◌, ◌≢◌, ◌≤◌, ◌⊎◌, [], map, IsTrue};
 ghost use Rattle.std.specs.Io.KnownBytes.{Keeps, Appends};
-ghost use Rattle.ulfm_program.specs.Files.{GetsAnswer, GetsAnswers, head_of};
+ghost use Rattle.ulfm_program.specs.Files.{GetsAnswer, GetsAnswers, IsReplyOf, head_of};
 ghost use Rattle.ulfm_program.specs.Replies.{IsReplyIn, IsReplyTo, IsWhole, GetsReply, GetsBeginning, GetsFront, GetsFrontOf, GetsStarved};
 ghost use Rattle.ulfm_command_line.specs.declared.command.Wanted.{Wanted};
 ghost use Rattle.ulfm_command_line.specs.CommandLine.{AsksFor, HasRanges, IsWordsStatus, asked, faults, files_in, form_asked};
@@ -9,11 +9,11 @@ ghost use Rattle.ulfm_command_line.specs.Wish.{wish_asked, wish_view};
 
 use crate::app::{follow, run_on, write_starved};
 use crate::engine::Engine;
+use crate::opens::Opens;
 use crate::page_file::write_page;
 use std::alloc::Global;
 use std::convert::AsStr;
 use std::fmt;
-use std::fs::File;
 use std::io::{Read, Write};
 use std::rt::Files;
 use std::sync::Wait;
@@ -36,7 +36,7 @@ pub fn run_each<T, F, S, R, W, E>(
     errors: &mut E,
 ) -> u8
 where
-    T: Files + Threads + Wait + Clock + Sync,
+    T: Files + Opens + Threads + Wait + Clock + Sync,
     F: Finder + Sync,
     S: AsStr,
     R: Read,
@@ -54,7 +54,7 @@ where
     ensures not_followed { faults (map S.text words.now) ≢ [] → (R.remaining input.new ≡ R.remaining input.old) × IsWordsStatus (faults (map S.text words.now)) result }
     ensures untouched { files_in (asked (map S.text words.now)) ≢ [] → R.remaining input.new ≡ R.remaining input.old }
     ensures of_files { files_in (asked (map S.text words.now)) ≢ [] → (wanted : Wanted) → AsksFor wanted (map S.text words.now) → GetsStarved (W.contents output.old) (W.contents output.new) result
-        ⊎ GetsAnswers (IsReplyIn (form_asked (map S.text words.now)) (wish_asked (map S.text words.now)) wanted) (files_in (asked (map S.text words.now))) (W.contents output.old) (W.contents output.new) result }
+        ⊎ GetsAnswers (IsReplyIn (form_asked (map S.text words.now)) (wish_asked (map S.text words.now)) wanted) (T.bytes_of engine.now.rt.now) (files_in (asked (map S.text words.now))) (W.contents output.old) (W.contents output.new) result }
     ensures known { result ≤ 9 }
 {
     match asked_for(engine.alloc, words) {
@@ -78,12 +78,12 @@ fn run_files<T, F, W, E>(
     errors: &mut E,
 ) -> u8
 where
-    T: Files + Threads + Wait + Clock + Sync,
+    T: Files + Opens + Threads + Wait + Clock + Sync,
     F: Finder + Sync,
     W: Write,
     E: Write + Send,
     requires { HasRanges asked.now.wanted }
-    ensures answers { GetsAnswers (IsReplyIn asked.now.form (wish_view asked.now.wish) asked.now.wanted) (map (λ f. f.now) asked.now.files.items) (W.contents output.old) (W.contents output.new) result }
+    ensures answers { GetsAnswers (IsReplyIn asked.now.form (wish_view asked.now.wish) asked.now.wanted) (T.bytes_of engine.now.rt.now) (map (λ f. f.now) asked.now.files.items) (W.contents output.old) (W.contents output.new) result }
     ensures known { result ≤ 9 }
 {
     let files = asked.files.as_slice();
@@ -111,31 +111,53 @@ fn run_file<T, F, W, E>(
     errors: &mut E,
 ) -> u8
 where
-    T: Files + Threads + Wait + Clock + Sync,
+    T: Files + Opens + Threads + Wait + Clock + Sync,
     F: Finder + Sync,
     W: Write,
     E: Write + Send,
     requires { HasRanges asked.now.wanted }
-    ensures answer { GetsAnswer (IsReplyIn asked.now.form (wish_view asked.now.wish) asked.now.wanted) (head_of has_head file.now) (W.contents output.old) (W.contents output.new) result }
+    ensures answer { GetsAnswer (IsReplyOf (IsReplyIn asked.now.form (wish_view asked.now.wish) asked.now.wanted) (T.bytes_of engine.now.rt.now file.now)) (head_of has_head file.now) (W.contents output.old) (W.contents output.new) result }
     ensures known { result ≤ 9 }
 {
     if !write_head(file, has_head, output) {
         return OUTPUT_FAILED;
     }
-    match File::open(engine.rt, file) {
-        Ok(mut opened) => {
-            let status = follow(engine, asked, &mut opened, output, errors);
-            write_page(engine, asked, file, status, errors);
-            if status == INPUT_FAILED {
-                write_unread(engine.alloc, file, "the read failed", errors);
-            }
-            status
-        }
+    match engine.rt.open_named(file) {
+        Ok(mut opened) => run_opened(engine, asked, file, &mut opened, output, errors),
         Err(error) => {
             write_unread(engine.alloc, file, error, errors);
             INPUT_FAILED
         }
     }
+}
+
+/// Follows the words for a file that is open, and answers the status. Standard error is told where it can't be read.
+fn run_opened<T, F, R, W, E>(
+    engine: &Engine<'_, T, F>,
+    asked: &Asked<'_>,
+    file: &str,
+    opened: &mut R,
+    output: &mut W,
+    errors: &mut E,
+) -> u8
+where
+    T: Files + Threads + Wait + Clock + Sync,
+    F: Finder + Sync,
+    R: Read,
+    W: Write,
+    E: Write + Send,
+    requires { HasRanges asked.now.wanted }
+    ensures replies { IsWhole result → GetsReply (IsReplyIn asked.now.form (wish_view asked.now.wish) asked.now.wanted) (R.remaining opened.old) (W.contents output.old) (W.contents output.new) result }
+    ensures cut_off { result ≡ 4 → GetsBeginning (IsReplyIn asked.now.form (wish_view asked.now.wish) asked.now.wanted) (R.remaining opened.old) (W.contents output.old) (W.contents output.new) }
+    ensures input_failed { result ≡ 5 → Keeps (W.contents output.old) (W.contents output.new) }
+    ensures known { result ≤ 9 }
+{
+    let status = follow(engine, asked, opened, output, errors);
+    write_page(engine, asked, file, status, errors);
+    if status == INPUT_FAILED {
+        write_unread(engine.alloc, file, "the read failed", errors);
+    }
+    status
 }
 
 /// Writes the line above the answer of a file where that is wanted, or a beginning of it.

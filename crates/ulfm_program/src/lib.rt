@@ -15,9 +15,9 @@
 //! - [`run_each`] (`replies`, `in_form`, `cut_off`, `output_failed`, `input_failed`): if the words name no file, all of this holds of the program
 //!   (`files_in`, CommandLine.antt of `ulfm_command_line`).
 //! - [`run_each`] (`of_files`, `untouched`): if they name files, these are found, in their order, and the input isn't read. For each comes the reply
-//!   to some bytes, below its name where there are several; or no reply, with 5; or a beginning of that, with 4, and then no other file. The status
-//!   is the greatest of theirs. If the words find no memory, that alone is told (`GetsAnswers`, `AreAnswers`, `IsAnswer`, Files.antt; `GetsStarved`,
-//!   Replies.antt).
+//!   to the bytes that were read of what was opened by its name ([`Opens`]), below the name where there are several; or no reply, with 5; or a beginning
+//!   of that, with 4, and then no other file. The status is the greatest of theirs. If the words find no memory, that alone is told (`GetsAnswers`,
+//!   `AreAnswers`, `IsAnswer`, Files.antt; `GetsStarved`, Replies.antt).
 //! - [`run_on`], [`run_each`] (`words_first`, `not_followed`): words that can't be followed, or ask for help, are answered before the input is read
 //!   (`AsksFor`, `IsWordsStatus`, CommandLine.antt of `ulfm_command_line`).
 //! - [`rows_stay_away`]: if no schedule of a job has all answers of a row of `never`, as status 0 of `outcomes` says, the reports of one of its
@@ -30,7 +30,8 @@
 //!
 //! Files:
 //!
-//! - `files.rt`: [`run_each`], file by file; `laws.rt`: the laws of rows, and of `expand`
+//! - `files.rt`: [`run_each`], file by file; `opens.rt`: [`Opens`], what opens them by their names; `laws.rt`: the laws of rows,
+//!   and of `expand`
 //! - `app.rt`: [`run_on`], from words and one input to a status; [`without_words`], where there are no words
 //! - `reply.rt`: which reply a command gets; `engine.rt`: what plays a job for it, in one value
 //! - `progress.rt`, `far.rt`: how far a search is, on standard error
@@ -52,6 +53,7 @@ mod engine;
 mod far;
 mod files;
 mod laws;
+mod opens;
 mod page;
 mod page_file;
 mod progress;
@@ -63,4 +65,5 @@ pub use app::{run_on, without_words};
 pub use engine::Engine;
 pub use files::run_each;
 pub use laws::{expands_alike, rows_stay_away};
+pub use opens::Opens;
 pub use page::page_of;

@@ -31,4 +31,4 @@ returns-in-Err-OutOfMemory-clause-cut_off g c =
 
 pub returns-in-Ok-clause-of_files : goal.returns-in-Ok-clause-of_files
 returns-in-Ok-clause-of_files g c = λ some wanted asks.
-    inr (answers_asked _ _ _ _ _ _ _ wanted _ _ _ _ c.in-Ok.ensures.form c.in-Ok.ensures.wish c.in-Ok.ensures.files c.in-Ok.ensures.ok asks.1 c.run_files.ensures.answers)
+    inr (answers_asked _ _ _ _ _ _ _ _ wanted _ _ _ _ c.in-Ok.ensures.form c.in-Ok.ensures.wish c.in-Ok.ensures.files c.in-Ok.ensures.ok asks.1 c.run_files.ensures.answers)
