@@ -188,6 +188,19 @@ def sweeps_of_many_stops(program):
         yield f"of 255 steps: {most}"
 
 
+def longest_expansions(program):
+    """A job of 256 steps, half of which have lists of texts as long as this: only the shorter ones may be written out."""
+    text = lambda most: "done from 0 " + "x" * (most - len("done from 0 "))
+    steps = lambda most: '{rank = "all", op = "recv", name = "a"},\n{rank = "all", op = "wait", req = "a", expect = ' + str([text(most)] * 16).replace("'", '"') + "},\n"
+    job = lambda most: "ranks = 4\ncapacity = 1\nturns = 1\nstep = [{repeat = 32, steps = [\n" + steps(most) + "]}]\n"
+    why = "a job's text has 1048576 bytes at most: with its steps and rows written out it has more\n"
+    too_long, longest = run(program, ["expand"], job(1024)), run(program, ["expand"], job(400))
+    if too_long != (1, "job refused: J6\n", why):
+        yield f"of long texts: {too_long[0]}, {too_long[1][:80]}, {too_long[2]}"
+    if longest[0] or len(longest[1]) < 800_000 or run(program, ["check"], longest[1])[:2] != (0, "job ok: 4 ranks 256 steps\n"):
+        yield f"of texts of 400 bytes: {longest[0]}, {len(longest[1])} bytes, {longest[2]}"
+
+
 def runs_that_differ(program):
     """A wait of few polls, whose message may come in time, or not: what differs is counted step by step."""
     job = """ranks = 2
@@ -212,7 +225,7 @@ step = [
 
 
 CHECKS = [text_that_breaks_off, output_that_fails, output_that_takes_a_little, input_that_fails, input_that_gives_a_little, longest_jobs,
-          sweeps_of_many_stops, runs_that_differ]
+          sweeps_of_many_stops, longest_expansions, runs_that_differ]
 
 
 def tried(check, program):

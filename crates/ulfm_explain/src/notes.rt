@@ -17,6 +17,10 @@ use ulfm_reader::write_whole;
 const NO_ROOM: &str =
     "a job has 256 steps at most: with stops put in, as by sweep, places and --stop, there are too many\n";
 
+/// Why a good job can't be written out.
+const TOO_LONG: &str =
+    "a job's text has 1048576 bytes at most: with its steps and rows written out it has more\n";
+
 /// Why a job is empty, most of the time.
 const EMPTY: &str =
     "the job is empty; where no file is named, as in 'ulfm replay job.toml', it is read from standard input\n";
@@ -139,17 +143,24 @@ fn reasons_of(
         Body::Unnamed(text) => unnamed_line(alloc, bytes, text.as_str()),
         Body::NoPlace(place) => misplaced_line(alloc, bytes, *place, stop),
         Body::Refused(_) if bytes.trim_ascii().is_empty() => String::from_str(alloc, EMPTY),
-        Body::Refused(fault) => refused_notes(alloc, bytes, *fault),
+        Body::Refused(fault) => refused_notes(alloc, wanted, bytes, *fault),
         Body::Good(..) => lines_of(alloc, "warning: ", &warnings(alloc, bytes)?),
         _ => Ok(String::new(alloc)),
     }
 }
 
-/// Why a job is refused, by what is wrong with its text. Where nothing is, yet it is too large, a stop has no room in it.
-fn refused_notes(alloc: Global, bytes: &[u8], fault: JobFault) -> Result<String, AllocError> {
+/// Why a job is refused, by what is wrong with its text. Where nothing is, yet it is too large, a stop has no room in it, or its steps and rows have
+/// none, written out.
+fn refused_notes(
+    alloc: Global,
+    wanted: Wanted,
+    bytes: &[u8],
+    fault: JobFault,
+) -> Result<String, AllocError> {
     let found = explain(alloc, bytes)?;
     if found.is_empty() && fault == JobFault::TooLarge {
-        return String::from_str(alloc, NO_ROOM);
+        let is_expanded = matches!(wanted, Wanted::Expand);
+        return String::from_str(alloc, if is_expanded { TOO_LONG } else { NO_ROOM });
     }
     lines_of(alloc, "", found.as_slice())
 }
