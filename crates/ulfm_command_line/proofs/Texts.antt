@@ -1,5 +1,5 @@
 -- The reply with the text of a document.
-use Rattle.std.proofs.Common.{◌≡◌, ◌<◌, ◌≤◌, ℕ, List, Bool, true, false, leb, length, Option, Some, None, Global, String, string_bytes, ap, sym, ◌∙◌, arith}
+use Rattle.std.proofs.Common.{◌≡◌, ◌<◌, ◌≤◌, true, false, leb, length, Option, Some, None, Global, String, string_bytes, ap, sym, arith}
 use Rattle.std.proofs.lemmas.Bool.Decides.{nat_tests}
 use Rattle.std.proofs.lemmas.Str.{IsUtf8-string_bytes, is_utf8-from_IsUtf8}
 use Rattle.std.specs.Option.{option_and_then}

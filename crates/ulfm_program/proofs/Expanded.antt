@@ -6,7 +6,6 @@ use Rattle.toml.specs.Data.{Data, Items, Members, string, integer, float, boolea
 use Rattle.toml.specs.Parse.{parse_document}
 use Rattle.toml.specs.View.{items_of}
 use Rattle.std.specs.Str.{is_utf8}
-use Rattle.ulfm_forms.specs.declared.form.Form.{Form}
 use Rattle.ulfm_command_line.specs.Expanded as reply
 use Rattle.ulfm_command_line.specs.Expanded.{IsExpandReply, IsWritten, document_in}
 use Rattle.ulfm_job.specs.declared.clause.Clause.{Clause}
