@@ -71,6 +71,11 @@ uint32_t ulfm_dup(ulfm_slot *slot, uint64_t comm, uint64_t *made) {
     return ulfm_c_dup(slot, comm, made);
 }
 
+uint32_t ulfm_dup_again(ulfm_slot *slot, uint64_t comm, uint64_t *made) {
+    if (!slot || !made) return ULFM_ENDED;
+    return ulfm_c_dup_again(slot, comm, made);
+}
+
 uint32_t ulfm_isend(ulfm_slot *slot, uint64_t comm, uint32_t dest, uint32_t tag, const uint8_t *body, size_t length) {
     if (!slot || (!body && length)) return ULFM_ENDED;
     return ulfm_c_isend(slot, comm, dest, tag, body ? body : &nothing, length);
@@ -129,6 +134,11 @@ uint32_t ulfm_ack_failed(ulfm_slot *slot, uint64_t comm, uint32_t count, uint32_
 uint32_t ulfm_enter_shrink(ulfm_slot *slot, uint64_t comm) {
     if (!slot) return ULFM_ENDED;
     return ulfm_c_enter_shrink(slot, comm);
+}
+
+uint32_t ulfm_enter_shrink_again(ulfm_slot *slot, uint64_t comm) {
+    if (!slot) return ULFM_ENDED;
+    return ulfm_c_enter_shrink_again(slot, comm);
 }
 
 uint32_t ulfm_poll_shrink(ulfm_slot *slot, uint64_t comm, uint64_t *made) {

@@ -15,10 +15,10 @@
    Each call answers a code: 0, or one of the codes below. A refused call changes nothing, and writes to no out parameter. Where several
    refusals apply, the first one of those listed at the call is answered; 12 is the last.
 
-   Shapes and units. `comm` names a communicator by its context, 0 to 62: 0 is the world's. `dest` and `source` are positions in the
-   communicator's group, 0 to size - 1. `tag` is 0 to 32,767. Bodies are bytes, at most 1,024 of them. A pointer to a body may be null only
-   with a length of 0. The pointers of a call lead to places that don't overlap. No call may be left half way, as by a signal's handler, a `longjmp`
-   or a thread that is cancelled: its rank would be lost.
+   Shapes and units. `comm` names a communicator by its context, a number below 2^45: 0 is the world's, and `ulfm_dup` says what others have. `dest`
+   and `source` are positions in the communicator's group, 0 to size - 1. `tag` is 0 to 32,767. Bodies are bytes, at most 1,024 of them. A pointer to
+   a body may be null only with a length of 0. The pointers of a call lead to places that don't overlap. No call may be left half way, as by a
+   signal's handler, a `longjmp` or a thread that is cancelled: its rank would be lost.
 
    What is proved, and what isn't, says docs/PROOFS.md and docs/LIMITS.md. */
 #ifndef ULFM_H
@@ -57,7 +57,7 @@ typedef struct {
 typedef struct {
     uint32_t kind;   /* one of the kinds below */
     uint32_t tag;    /* of a message: its tag, 0 to 32,767. Else 0 */
-    uint64_t comm;   /* its communicator, 0 to 62. Of ULFM_NOTHING and ULFM_STOP_NOTICE 0 */
+    uint64_t comm;   /* its communicator. Of ULFM_NOTHING and ULFM_STOP_NOTICE 0 */
     uint64_t length; /* of a message: bytes of the body, 0 to 1,024. Else 0 */
     uint64_t round;  /* of an entry into a shrink or an agreement: its number on the communicator, from 0. Else 0 */
 } ulfm_next_item;
@@ -107,14 +107,15 @@ enum {
 uint32_t ulfm_world(ulfm_slot *slots, size_t ranks, uint8_t capacity);
 
 /* Ends a rank and frees what it has; the slot is all zeros then. The other ranks aren't told, and what didn't go out is lost. Nothing is if these
-   come before, in this order: `ulfm_turn` until `ulfm_flushed` says 1, so that messages go out; `ulfm_stop`; `ulfm_turn` until it says 1 once
-   more, so that the notices do. A rank that stopped takes nothing any more. What waits for it counts no more once its notice came; a rank that stopped
+   come before, in this order: `ulfm_turn` until `ulfm_flushed` says 1, so that messages go out; `ulfm_stop`; `ulfm_turn` until it says 1 once more,
+   so that the notices do. A rank that stopped takes nothing any more. What waits for it counts no more once its notice came; a rank that stopped
    itself takes no notice from then on: end the second loop also when the other ranks have stopped or ended. 16. */
 uint32_t ulfm_end(ulfm_slot *slot);
 
-/* The rank stops, as if it failed there (ULFM: a process failure): what didn't go out of it yet is lost, its messages too, and the others learn
-   of the stop by a notice, which goes out by `ulfm_turn`. From then on all its calls but those of progress, `ulfm_me`, `ulfm_group_of`,
-   `ulfm_position`, `ulfm_stop` and `ulfm_end` answer 10, or what is listed before it: 1 of a communicator past 62, 3 of a tag past 32,767. 16. */
+/* The rank stops, as if it failed there (ULFM: a process failure): what didn't go out of it yet is lost, its messages too, and the others learn of
+   the stop by a notice, which goes out by `ulfm_turn`. From then on all its calls but those of progress, `ulfm_me`, `ulfm_group_of`,
+   `ulfm_position`, `ulfm_stop` and `ulfm_end` answer 10, or what is listed before it: 1 of a communicator of 2^45 or more, 3 of a tag past 32,767.
+   16. */
 uint32_t ulfm_stop(ulfm_slot *slot);
 
 /* ---- Progress ---- */
@@ -157,19 +158,26 @@ uint32_t ulfm_group_of(ulfm_slot *slot, uint64_t comm, ulfm_group *group);
 /* *position: this rank's position (MPI 4.0, 7.4.1, `MPI_Comm_rank`). 16, 1, 11. */
 uint32_t ulfm_position(ulfm_slot *slot, uint64_t comm, uint32_t *position);
 
-/* Duplicates a communicator: *made has the same group (MPI 4.0, 7.4.2, `MPI_Comm_dup`). It is made here alone, without a message: each member
-   has to do the same. Each communicator c has one duplicate, of the number 2c + 1; the next ones are duplicates of the duplicate (1, 3, 7, 15,
-   31 of the world's). 16, 1 (comm past 62), 10, 1, 6, 8, 9, 12. */
+/* Duplicates a communicator: *made has the same group (MPI 4.0, 7.4.2, `MPI_Comm_dup`). It is made here alone, without a message: each member has to
+   do the same. A communicator c of 0 to 62 has one duplicate by this call: of the number 2c + 1, for c up to 30, else refused 9; a second one is
+   refused 8. Of one past 62 it makes the next, as `ulfm_dup_again` does. 16, 1 (comm of 2^45 or more), 10, 1, 6, 8, 9, 12. */
 uint32_t ulfm_dup(ulfm_slot *slot, uint64_t comm, uint64_t *made);
+
+/* Duplicates a communicator, as `ulfm_dup` does, as often as wanted. The first duplicate of c up to 30 has the number 2c + 1. All others have
+   numbers past 62, by the path that leads to them from the world: by which of its parent's duplicates, or of the communicators that its shrinks
+   made, each one on it is. So members that made the same ones have the same numbers. Each is greater than its parent's, and than those that were
+   made of its parent in this way before; no two communicators have the same; all are below 2^45. 9: the duplicate's wouldn't be. 43 duplicates in a
+   row have numbers, each made of the one before, and millions of the world. 16, 1 (comm of 2^45 or more), 10, 1, 6, 9, 12. */
+uint32_t ulfm_dup_again(ulfm_slot *slot, uint64_t comm, uint64_t *made);
 
 /* ---- Messages ---- */
 
 /* Starts a send of `length` bytes to the member `dest` (MPI 4.0, 3.7.2, `MPI_Isend`). It is buffered: done when the call returns. 16, 1 (comm
-   past 62), 3, 10, 1, 6, 2, 4, 5, 12. */
+   of 2^45 or more), 3, 10, 1, 6, 2, 4, 5, 12. */
 uint32_t ulfm_isend(ulfm_slot *slot, uint64_t comm, uint32_t dest, uint32_t tag, const uint8_t *body, size_t length);
 
 /* Posts a receive from the member `source` or ULFM_ANY, with `tag` or ULFM_ANY, of at most `room` bytes (MPI 4.0, 3.7.2, `MPI_Irecv`).
-   *request: its number, which none of this rank's requests and messages had before. 16, 1 (comm past 62), 3, 10, 1, 6, 2, 12. */
+   *request: its number, which none of this rank's requests and messages had before. 16, 1 (comm of 2^45 or more), 3, 10, 1, 6, 2, 12. */
 uint32_t ulfm_irecv(ulfm_slot *slot, uint64_t comm, uint32_t source, uint32_t tag, uint32_t room, uint64_t *request);
 
 /* Tests a receive (MPI 4.0, 3.7.3, `MPI_Test`). 0: it is over and released, *status tells how, and where status->error is 0 the body stands at
@@ -181,12 +189,12 @@ uint32_t ulfm_test(ulfm_slot *slot, uint64_t request, ulfm_status *status, uint8
 uint32_t ulfm_cancel(ulfm_slot *slot, uint64_t request, ulfm_status *status, uint8_t *body, size_t size);
 
 /* Looks for a message that a receive with these arguments would get where it was posted now (MPI 4.0, 3.8.1, `MPI_Iprobe`). 0: there is one, and
-   *status tells of it. It changes nothing. 17: there is none. 16, 1 (comm past 62), 3, 10, 1, 6, 2, 5 (there is none, and `source` is known to
-   have failed). */
+   *status tells of it. It changes nothing. 17: there is none. 16, 1 (comm of 2^45 or more), 3, 10, 1, 6, 2, 5 (there is none, and `source` is known
+   to have failed). */
 uint32_t ulfm_iprobe(ulfm_slot *slot, uint64_t comm, uint32_t source, uint32_t tag, ulfm_status *status);
 
 /* Looks for a message as `ulfm_iprobe` does, and takes it aside: `ulfm_mrecv` alone gets it, revoked or not (MPI 4.0, 3.8.2, `MPI_Improbe`). 0: there
-   is one, *message is its number, and *status tells of it. 17: there is none. 16, 1 (comm past 62), 3, 10, 1, 6, 2, 5, 12. */
+   is one, *message is its number, and *status tells of it. 17: there is none. 16, 1 (comm of 2^45 or more), 3, 10, 1, 6, 2, 5, 12. */
 uint32_t ulfm_improbe(ulfm_slot *slot, uint64_t comm, uint32_t source, uint32_t tag, uint64_t *message, ulfm_status *status);
 
 /* Receives a message into `size` bytes, and releases it (MPI 4.0, 3.8.3, `MPI_Mrecv`). 0: as by `ulfm_test`; status->error is ULFM_TRUNCATED
@@ -196,36 +204,42 @@ uint32_t ulfm_mrecv(ulfm_slot *slot, uint64_t message, ulfm_status *status, uint
 /* ---- Recovery (ULFM) ---- */
 
 /* Revokes a communicator, here and, as the notice comes there, at all members (ULFM, `MPI_Comm_revoke`). Again it changes nothing. 16, 1 (comm
-   past 62), 10, 1, 12. */
+   of 2^45 or more), 10, 1, 12. */
 uint32_t ulfm_revoke(ulfm_slot *slot, uint64_t comm);
 
-/* *revoked: 1 where the communicator is known to be revoked, else 0 (ULFM, `MPI_Comm_is_revoked`). 16, 1 (comm past 62), 10, 1. */
+/* *revoked: 1 where the communicator is known to be revoked, else 0 (ULFM, `MPI_Comm_is_revoked`). 16, 1 (comm of 2^45 or more), 10, 1. */
 uint32_t ulfm_is_revoked(ulfm_slot *slot, uint64_t comm, uint32_t *revoked);
 
 /* *failed: the members that are known to have failed, in the order in which this rank learned it, which stays (ULFM, `MPI_Comm_get_failed`).
-   16, 1 (comm past 62), 10, 1. */
+   16, 1 (comm of 2^45 or more), 10, 1. */
 uint32_t ulfm_get_failed(ulfm_slot *slot, uint64_t comm, ulfm_group *failed);
 
 /* Acknowledges the first `count` of them, or all where they are fewer; never fewer than before (ULFM, `MPI_Comm_ack_failed`). *total: how many
-   are acknowledged now. 16, 1 (comm past 62), 10, 1, 12. */
+   are acknowledged now. 16, 1 (comm of 2^45 or more), 10, 1, 12. */
 uint32_t ulfm_ack_failed(ulfm_slot *slot, uint64_t comm, uint32_t count, uint32_t *total);
 
-/* Enters the shrink of a communicator, revoked or not (ULFM, `MPI_Comm_shrink`). Each communicator c has one shrink, of the number 2c + 2. 16,
-   1 (comm past 62), 10, 1, 8, 9, 12. */
+/* Enters the shrink of a communicator, revoked or not (ULFM, `MPI_Comm_shrink`). A communicator c of 0 to 62 has one shrink by this call: of the
+   number 2c + 2, for c up to 30, else refused 9; a second one is refused 8. Of one past 62 it enters the next, as `ulfm_enter_shrink_again` does.
+   16, 1 (comm of 2^45 or more), 10, 1, 8, 9, 12. */
 uint32_t ulfm_enter_shrink(ulfm_slot *slot, uint64_t comm);
 
+/* Enters the next shrink of a communicator, as `ulfm_enter_shrink` does, as often as wanted, one after the other. The first one of c up to 30 makes
+   the number 2c + 2, all others numbers past 62, as `ulfm_dup_again` says. 8: the last one is open, or its decision isn't adopted here. 9: the
+   number wouldn't be below 2^45. 17 shrinks in a row have numbers, each of the one before. 16, 1 (comm of 2^45 or more), 10, 1, 8, 9, 12. */
+uint32_t ulfm_enter_shrink_again(ulfm_slot *slot, uint64_t comm);
+
 /* Asks for the decision of the shrink that was entered. 0: it is adopted, and *made is the communicator of the new group. 17: not all
-   members that run have entered yet. 16, 1 (comm past 62), 10, 1, 14, 8, 11, 12. After 11 this rank is no member of the new group. After 12
+   members that run have entered yet. 16, 1 (comm of 2^45 or more), 10, 1, 14, 8, 11, 12. After 11 this rank is no member of the new group. After 12
    poll again. */
 uint32_t ulfm_poll_shrink(ulfm_slot *slot, uint64_t comm, uint64_t *made);
 
-/* Enters the next agreement on a communicator, revoked or not, with a flag (ULFM, `MPI_Comm_agree`). 16, 1 (comm past 62), 10, 1, 8 (the
+/* Enters the next agreement on a communicator, revoked or not, with a flag (ULFM, `MPI_Comm_agree`). 16, 1 (comm of 2^45 or more), 10, 1, 8 (the
    last one isn't adopted yet), 12. */
 uint32_t ulfm_enter_agree(ulfm_slot *slot, uint64_t comm, uint32_t flag);
 
-/* Asks for the decision of the agreement that was entered last. 0: it is adopted. *value: the AND of the flags of all members but those in
-   *missing, which failed. It is the same at all members that are told. 17: not all members that run have entered yet. 16, 1 (comm past 62), 10,
-   1, 14, 8, 11, 12. */
+/* Asks for the decision of the agreement that was entered last. 0: it is adopted. *value: the AND of the flags of all members but those in *missing,
+   which failed. It is the same at all members that are told. 17: not all members that run have entered yet. 16, 1 (comm of 2^45 or more), 10, 1, 14,
+   8, 11, 12. */
 uint32_t ulfm_poll_agree(ulfm_slot *slot, uint64_t comm, uint32_t *value, ulfm_group *missing);
 
 #ifdef __cplusplus

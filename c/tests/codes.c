@@ -12,6 +12,9 @@ static ulfm_next_item item;
 static uint8_t body[1025];
 static int faults;
 
+/* No communicator has this number or a greater one. */
+#define PAST ((uint64_t)1 << 45)
+
 static void want(uint32_t code, uint32_t wanted, const char *call) {
     if (code == wanted) return;
     printf("%s: %u, and not %u\n", call, code, wanted);
@@ -23,6 +26,7 @@ static void want(uint32_t code, uint32_t wanted, const char *call) {
 /* Each call that a slot alone lets answer: 16 of a null one and of an ended one, 10 of a rank that stopped where `stopped` says so. */
 static void all_calls(ulfm_slot *slot, uint32_t wanted) {
     WANT(ulfm_dup(slot, 0, &made), wanted);
+    WANT(ulfm_dup_again(slot, 0, &made), wanted);
     WANT(ulfm_isend(slot, 0, 0, 0, body, 1), wanted);
     WANT(ulfm_irecv(slot, 0, 0, 0, 1, &id), wanted);
     WANT(ulfm_test(slot, 0, &status, body, 1), wanted);
@@ -35,6 +39,7 @@ static void all_calls(ulfm_slot *slot, uint32_t wanted) {
     WANT(ulfm_get_failed(slot, 0, &group), wanted);
     WANT(ulfm_ack_failed(slot, 0, 1, &out), wanted);
     WANT(ulfm_enter_shrink(slot, 0), wanted);
+    WANT(ulfm_enter_shrink_again(slot, 0), wanted);
     WANT(ulfm_poll_shrink(slot, 0, &made), wanted);
     WANT(ulfm_enter_agree(slot, 0, 1), wanted);
     WANT(ulfm_poll_agree(slot, 0, &out, &group), wanted);
@@ -65,6 +70,7 @@ static void null_outs(ulfm_slot *slot) {
     WANT(ulfm_group_of(slot, 0, 0), ULFM_ENDED);
     WANT(ulfm_position(slot, 0, 0), ULFM_ENDED);
     WANT(ulfm_dup(slot, 0, 0), ULFM_ENDED);
+    WANT(ulfm_dup_again(slot, 0, 0), ULFM_ENDED);
     WANT(ulfm_isend(slot, 0, 0, 0, 0, 1), ULFM_ENDED);
     WANT(ulfm_irecv(slot, 0, 0, 0, 1, 0), ULFM_ENDED);
     WANT(ulfm_test(slot, 0, 0, body, 1), ULFM_ENDED);
@@ -84,8 +90,9 @@ static void null_outs(ulfm_slot *slot) {
 
 /* Sends that are refused: on no communicator, on one that wasn't made, and by their tags. */
 static void wrong_sends(ulfm_slot *slot, uint32_t code_of_unmade) {
-    WANT(ulfm_isend(slot, 63, 0, 0, body, 1), ULFM_NO_COMM);
-    WANT(ulfm_isend(slot, 63, 0, 32768, body, 1), ULFM_NO_COMM);
+    WANT(ulfm_isend(slot, PAST, 0, 0, body, 1), ULFM_NO_COMM);
+    WANT(ulfm_isend(slot, PAST, 0, 32768, body, 1), ULFM_NO_COMM);
+    WANT(ulfm_isend(slot, PAST - 1, 0, 0, body, 1), code_of_unmade);
     WANT(ulfm_isend(slot, 5, 0, 0, body, 1), code_of_unmade);
     WANT(ulfm_isend(slot, 0, 0, 32768, body, 1), ULFM_BAD_TAG);
 }
@@ -111,12 +118,79 @@ static void refusals(ulfm_slot *slot) {
     WANT(ulfm_enter_agree(slot, 0, 1), ULFM_ALREADY_MADE);
     WANT(ulfm_enter_shrink(slot, 0), 0);
     WANT(ulfm_enter_shrink(slot, 0), ULFM_ALREADY_MADE);
+    WANT(ulfm_enter_shrink_again(slot, 0), ULFM_ALREADY_MADE);
     for (uint64_t comm = 0; comm < 31; comm = 2 * comm + 1) WANT(ulfm_dup(slot, comm, &made), 0);
     WANT(ulfm_dup(slot, 31, &made), ULFM_NO_CONTEXT);
     WANT(ulfm_enter_shrink(slot, 31), ULFM_NO_CONTEXT);
     WANT(ulfm_dup(slot, 0, &made), ULFM_ALREADY_MADE);
     WANT(ulfm_revoke(slot, 1), 0);
     WANT(ulfm_isend(slot, 1, 0, 0, body, 1), ULFM_REVOKED);
+    WANT(ulfm_dup_again(slot, 1, &made), ULFM_REVOKED);
+    WANT(ulfm_dup_again(slot, 5, &made), ULFM_NO_COMM);
+    WANT(ulfm_enter_shrink_again(slot, PAST - 1), ULFM_NO_COMM);
+}
+
+/* The number of a communicator that was made. */
+static void want_made(uint64_t wanted, const char *by) {
+    if (made == wanted) return;
+    printf("%s made %llu, and not %llu\n", by, (unsigned long long)made, (unsigned long long)wanted);
+    faults++;
+}
+
+/* Shrinks of a communicator of one rank, which are decided as soon as they are entered, and what each makes. */
+static void shrink(ulfm_slot *slot, uint64_t comm, uint64_t wanted) {
+    WANT(ulfm_enter_shrink_again(slot, comm), 0);
+    WANT(ulfm_poll_shrink(slot, comm, &made), 0);
+    want_made(wanted, "a shrink");
+}
+
+/* A rank alone makes further communicators: none has the number of another one. Once they are made they are communicators as others are. */
+static void further(ulfm_slot *slot) {
+    static const uint64_t of_the_world[] = {1, 67, 91};
+    WANT(ulfm_world(slot, 1, 4), 0);
+    for (int k = 0; k < 3; k++) {
+        WANT(ulfm_dup_again(slot, 0, &made), 0);
+        want_made(of_the_world[k], "a duplicate of the world");
+    }
+    WANT(ulfm_dup(slot, 0, &made), ULFM_ALREADY_MADE);
+    WANT(ulfm_dup(slot, 67, &made), 0);
+    want_made(198, "the first duplicate of one past 62");
+    WANT(ulfm_dup(slot, 67, &made), 0);
+    want_made(2211, "its second one");
+    shrink(slot, 0, 2);
+    WANT(ulfm_enter_shrink(slot, 0), ULFM_ALREADY_MADE);
+    shrink(slot, 0, 75);
+    WANT(ulfm_enter_shrink(slot, 75), 0);
+    WANT(ulfm_enter_shrink(slot, 75), ULFM_ALREADY_MADE);
+    WANT(ulfm_enter_shrink_again(slot, 75), ULFM_ALREADY_MADE);
+    WANT(ulfm_dup_again(slot, 75, &made), 0);
+    WANT(ulfm_position(slot, made, &out), 0);
+    WANT(ulfm_isend(slot, made, 0, 9, body, 3), 0);
+    WANT(ulfm_push(slot, &out), 0);
+    WANT(ulfm_next(slot, 0, &item), 0);
+    want(item.comm == made, 1, "the communicator of the first item is the one past 62");
+    WANT(ulfm_irecv(slot, made, 0, 9, 3, &id), 0);
+    WANT(ulfm_take(slot, 0, &out), 0);
+    WANT(ulfm_test(slot, id, &status, body, 3), 0);
+    want((uint32_t)status.length, 3, "the length of its message");
+    WANT(ulfm_end(slot), 0);
+}
+
+/* Communicators in a row, each made of the one before, as far as there are numbers. */
+static void rows(ulfm_slot *slot) {
+    uint64_t comm = 0;
+    WANT(ulfm_world(slot, 1, 4), 0);
+    for (int k = 0; k < 43; k++) WANT(ulfm_dup_again(slot, comm, &comm), 0);
+    WANT(ulfm_dup_again(slot, comm, &made), ULFM_NO_CONTEXT);
+    WANT(ulfm_dup(slot, comm, &made), ULFM_NO_CONTEXT);
+    comm = 0;
+    for (int k = 0; k < 17; k++) {
+        WANT(ulfm_enter_shrink_again(slot, comm), 0);
+        WANT(ulfm_poll_shrink(slot, comm, &comm), 0);
+    }
+    WANT(ulfm_enter_shrink_again(slot, comm), ULFM_NO_CONTEXT);
+    WANT(ulfm_enter_shrink(slot, comm), ULFM_NO_CONTEXT);
+    WANT(ulfm_end(slot), 0);
 }
 
 /* A message of no bytes may have a null body, and what stands in an out parameter stays where a call is refused. */
@@ -139,7 +213,9 @@ static void edges(ulfm_slot *slot) {
 
 /* A rank that stopped, and calls that are refused for two causes: the one that ulfm.h lists first is answered. */
 static void orders(ulfm_slot *slot) {
-    WANT(ulfm_dup(slot, 63, &made), ULFM_NO_COMM);
+    WANT(ulfm_dup(slot, PAST, &made), ULFM_NO_COMM);
+    WANT(ulfm_dup_again(slot, PAST, &made), ULFM_NO_COMM);
+    WANT(ulfm_enter_shrink_again(slot, PAST), ULFM_NO_COMM);
     WANT(ulfm_dup(slot, 5, &made), ULFM_STOPPED);
     wrong_sends(slot, ULFM_STOPPED);
     WANT(ulfm_position(slot, 5, &out), ULFM_NO_COMM);
@@ -171,6 +247,8 @@ int main(void) {
     all_calls(&slots[0], ULFM_ENDED);
     WANT(ulfm_end(&slots[0]), ULFM_ENDED);
     WANT(ulfm_end(&slots[1]), 0);
+    further(&slots[0]);
+    rows(&slots[0]);
     printf("faults: %d\n", faults);
     return faults != 0;
 }

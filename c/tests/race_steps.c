@@ -54,6 +54,12 @@ static uint32_t positions(uint32_t me, uint64_t comm, const ulfm_group *some, bo
 
 /* ---- Steps: each answers, or says that it is OPEN ---- */
 
+/* Whether a step has this op, plainly or as one that asks for a further communicator. */
+static bool is_op_or_again(const struct step *step, const char *op) {
+    size_t length = strlen(op);
+    return !strncmp(step->op, op, length) && (!step->op[length] || !strcmp(step->op + length, "-again"));
+}
+
 /* The number of the request or message of a step that is named, where that step has the op. */
 static uint64_t named(const struct actor *actor, const struct step *step, const char *op) {
     return step->who < actor->count && !strcmp(actor->steps[step->who].op, op) ? actor->steps[step->who].number : NONE;
@@ -108,7 +114,7 @@ static int acknowledge(struct actor *actor, struct step *step) {
 
 static int duplicate(struct actor *actor, struct step *step) {
     uint64_t made;
-    uint32_t code = ulfm_dup(slot_of(actor->me), step->comm, &made);
+    uint32_t code = (strcmp(step->op, "dup") ? ulfm_dup_again : ulfm_dup)(slot_of(actor->me), step->comm, &made);
     if (code) return refused(step, code);
     snprintf(step->answer, sizeof step->answer, "comm %llu", (unsigned long long)made);
     return 0;
@@ -120,7 +126,7 @@ static int shrink(struct actor *actor, struct step *step) {
     uint32_t position, members[MOST_ACTORS], code;
     char first[64], rest[64];
     if (!step->is_entered) {
-        code = ulfm_enter_shrink(slot_of(actor->me), step->comm);
+        code = (strcmp(step->op, "shrink") ? ulfm_enter_shrink_again : ulfm_enter_shrink)(slot_of(actor->me), step->comm);
         step->is_entered = true;
         return code ? refused(step, code) : OPEN;
     }
@@ -163,8 +169,8 @@ int poll_step(struct actor *actor, struct step *step) {
     if (!strcmp(op, "mrecv")) return get_message(actor, step);
     if (!strcmp(op, "failed")) return tell_failed(actor, step);
     if (!strcmp(op, "ack")) return acknowledge(actor, step);
-    if (!strcmp(op, "dup")) return duplicate(actor, step);
-    if (!strcmp(op, "shrink")) return shrink(actor, step);
+    if (is_op_or_again(step, "dup")) return duplicate(actor, step);
+    if (is_op_or_again(step, "shrink")) return shrink(actor, step);
     if (!strcmp(op, "agree")) return agree(actor, step);
     give_up("no such op", actor->me, op);
     return 0;

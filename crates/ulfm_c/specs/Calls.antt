@@ -1,5 +1,6 @@
 -- What an export does, and the code that it answers.
 use Rattle.std.specs.Prelude.{◌≡◌, ◌≢◌, ℕ, ◌≤◌, ◌⊎◌, ◌==◌, List, Option, Some, None, min, if◌then◌else◌}
+use Rattle.ulfm_base.specs.declared.context.TheConstants.{PAST_CONTEXTS}
 use Rattle.ulfm_base.specs.declared.error.CallError.{CallError}
 use Rattle.ulfm_base.specs.declared.error.CallError.TheVariants.{NoComm, BadRank, BadTag, TooLong, ProcFailed, Revoked, NoRequest, AlreadyMade, NoContext, Stopped, NotMember, OutOfMemory, BadSize, NotEntered, Truncated}
 use Rattle.ulfm_base.specs.declared.tag.Tag.{Tag}
@@ -59,7 +60,7 @@ Checked old new code kept checks done = Answers old new code kept (Passes checks
 
 -- A call names its communicator by its number. Where none can have it the code is 1 and nothing changes, else this holds of it.
 abbrev pub CommCall : ProcessView → ProcessView → ℕ → ℕ → Type 0 → (Comm → Type 0) → Type 0
-CommCall old new comm code kept does = ((code ≡ 1) × (63 ≤ comm) × (new ≡ old) × kept) ⊎ ((c : Comm) × (c.context.number ≡ comm) × does c)
+CommCall old new comm code kept does = ((code ≡ 1) × (PAST_CONTEXTS ≤ comm) × (new ≡ old) × kept) ⊎ ((c : Comm) × (c.context.number ≡ comm) × does c)
 
 -- the number by which C asks for any source and any tag
 abbrev pub any : ℕ

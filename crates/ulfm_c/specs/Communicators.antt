@@ -1,5 +1,5 @@
 -- What calls by C on communicators and their groups do (MPI 4.0, chapter 7).
-use Rattle.std.specs.Prelude.{◌≡◌, ℕ, ◌⊎◌, false, List, Some, None}
+use Rattle.std.specs.Prelude.{◌≡◌, ℕ, Bool, ◌⊎◌, List, Some, None}
 use Rattle.ulfm_base.specs.Context.{nth_dup}
 use Rattle.ulfm_base.specs.Group.{rank_in}
 use Rattle.ulfm_base.specs.declared.error.CallError.{CallError}
@@ -27,10 +27,10 @@ abbrev pub GroupCall : ProcessView → ProcessView → ℕ → CGroup → CGroup
 GroupCall old new comm before group code = CommCall old new comm code (group ≡ before) (λ c.
     Answers old new code (group ≡ before) ((members : List ℕ) × HasGroup old c members × (group ≡ listed members) × (new ≡ old)) (Lacks old c))
 
--- a communicator is duplicated, and the number of the duplicate told
-abbrev pub DupCall : ProcessView → ProcessView → ℕ → ℕ → ℕ → ℕ → Type 0
-DupCall old new comm before made code = CommCall old new comm code (made ≡ before) (λ c.
-    Checked old new code (made ≡ before) (dup_checks false old.rank c.context.number)
+-- a communicator is duplicated, also by a further duplicate if that is asked for, and the number of the duplicate told
+abbrev pub DupCall : ProcessView → ProcessView → ℕ → Bool → ℕ → ℕ → ℕ → Type 0
+DupCall old new comm again before made code = CommCall old new comm code (made ≡ before) (λ c.
+    Checked old new code (made ≡ before) (dup_checks again old.rank c.context.number)
     ((made ≡ nth_dup (dups_of old.rank.log c.context.number) c.context.number)
     × (new ≡ with_rank old (logged old.rank (Duplicated c.context (dups_of old.rank.log c.context.number))))))
 

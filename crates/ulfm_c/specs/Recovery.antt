@@ -1,5 +1,5 @@
 -- What calls by C on failures, revocations, and entries into shrinks and agreements do (ULFM).
-use Rattle.std.specs.Prelude.{◌≡◌, ℕ, ⊤, false, [], Some, None, min, if◌then◌else◌}
+use Rattle.std.specs.Prelude.{◌≡◌, ℕ, Bool, ⊤, [], Some, None, min, if◌then◌else◌}
 use Rattle.ulfm_c.specs.Calls.{Answers, Checked, CommCall}
 use Rattle.ulfm_c.specs.Told.{listed}
 use Rattle.ulfm_c.specs.declared.c_status.CGroup.{CGroup}
@@ -34,10 +34,10 @@ AckCall old new comm count before total code = CommCall old new comm code (total
     Checked old new code (total ≡ before) (comm_checks old.rank c.context.number [])
     ((total ≡ ack_answer old.rank.log (group_at old.rank c.context.number) c.context.number (min count 255)) × (new ≡ with_rank old (acknowledging old.rank c.context total))))
 
--- the shrink of a communicator is entered
-abbrev pub EnterShrinkCall : ProcessView → ProcessView → ℕ → ℕ → Type 0
-EnterShrinkCall old new comm code = CommCall old new comm code ⊤ (λ c.
-    Checked old new code ⊤ (shrink_checks false old.rank c.context) (Enters old.rank (next_shrink old.rank.log c.context) None new.rank × (new ≡ with_rank old new.rank)))
+-- the next shrink of a communicator is entered, also a further one if that is asked for
+abbrev pub EnterShrinkCall : ProcessView → ProcessView → ℕ → Bool → ℕ → Type 0
+EnterShrinkCall old new comm again code = CommCall old new comm code ⊤ (λ c.
+    Checked old new code ⊤ (shrink_checks again old.rank c.context) (Enters old.rank (next_shrink old.rank.log c.context) None new.rank × (new ≡ with_rank old new.rank)))
 
 -- the next agreement on a communicator is entered, with a flag
 abbrev pub EnterAgreeCall : ProcessView → ProcessView → ℕ → ℕ → ℕ → Type 0

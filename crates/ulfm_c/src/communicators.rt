@@ -1,5 +1,5 @@
 //! Communicators and their groups (MPI 4.0, chapter 7).
-ghost use Rattle.std.specs.Prelude.{◌≡◌};
+ghost use Rattle.std.specs.Prelude.{◌≡◌, true, false};
 ghost use Rattle.ulfm_c.specs.Calls.{Call};
 ghost use Rattle.ulfm_c.specs.Communicators.{DupCall, GroupCall, PositionCall};
 
@@ -38,14 +38,14 @@ pub extern "C" fn ulfm_c_group_of(
     with!(handle, alloc, |process| group_of(&process, comm, group))
 }
 
-fn dup(process: &mut Process, comm: u64, made: &mut u64) -> u32
-    ensures { DupCall process.old.view process.new.view comm made.old made.new result }
+fn dup(process: &mut Process, comm: u64, again: bool, made: &mut u64) -> u32
+    ensures { DupCall process.old.view process.new.view comm again made.old made.new result }
 {
     let comm = match comm_of(comm) {
         Some(comm) => comm,
         None => return 1,
     };
-    match process.dup(comm) {
+    match process.dup_with(comm, again) {
         Ok(copy) => {
             *made = copy.context.number;
             return 0;
@@ -54,12 +54,29 @@ fn dup(process: &mut Process, comm: u64, made: &mut u64) -> u32
     }
 }
 
-/// Duplicates a communicator (`Process::dup`).
+/// Duplicates a communicator (`Process::dup_with`), if it is to have one duplicate.
 #[unsafe(no_mangle)]
 pub extern "C" fn ulfm_c_dup(alloc: Global, handle: &mut Handle, comm: u64, made: &mut u64) -> u32
-    ensures { Call handle.old.slot.held handle.new.slot.held result (made.new ≡ made.old) (λ old new. DupCall old new comm made.old made.new result) }
+    ensures { Call handle.old.slot.held handle.new.slot.held result (made.new ≡ made.old) (λ old new. DupCall old new comm false made.old made.new result) }
 {
-    with!(handle, alloc, |process| dup(&mut process, comm, made))
+    with!(
+        handle,
+        alloc,
+        |process| dup(&mut process, comm, false, made)
+    )
+}
+
+/// Duplicates a communicator (`Process::dup_with`), also one that was duplicated before.
+#[unsafe(no_mangle)]
+pub extern "C" fn ulfm_c_dup_again(
+    alloc: Global,
+    handle: &mut Handle,
+    comm: u64,
+    made: &mut u64,
+) -> u32
+    ensures { Call handle.old.slot.held handle.new.slot.held result (made.new ≡ made.old) (λ old new. DupCall old new comm true made.old made.new result) }
+{
+    with!(handle, alloc, |process| dup(&mut process, comm, true, made))
 }
 
 /// This rank's position in a communicator. 11: it is no member.

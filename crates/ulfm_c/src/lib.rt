@@ -13,7 +13,7 @@
 //!
 //! Promises of a [`Process`]:
 //!
-//! - `isend`, `irecv`, `test`, `cancel`, `iprobe`, `improbe`, `mrecv`, `dup`, `revoke`, `ack_failed`, `enter_shrink`, `enter_agree`, `stop` and the
+//! - `isend`, `irecv`, `test`, `cancel`, `iprobe`, `improbe`, `mrecv`, `dup_with`, `revoke`, `ack_failed`, `enter_shrink_with`, `enter_agree`, `stop` and the
 //!   others: each does what its rank's call does, and is refused for its causes, as `ulfm_rank` promises; else nothing of the process changes. An
 //!   answer of a request or a message tells of one that is there (`with_rank`, View.antt).
 //! - the invariant of [`Process`], `me` (`at_end`): those items left the outboxes of a rank that its end pushed, and its log took of each rank what
@@ -39,7 +39,8 @@
 //!
 //! - A slot without a process is null. Each export answers it with 16, and writes nothing; `ulfm_c_end` too (`none`, `code`). Otherwise it has one
 //!   before and after (`slot_owns`, Slot.antt; `Call`, Calls.antt). `Slot` is `Send`: it may go to another thread.
-//! - An export does what the process' call of its name does, and nothing else. Its numbers name the communicator, the position, the tag and the
+//! - An export does what the process' call of its name does, and nothing else; `ulfm_c_dup_again` and `ulfm_c_enter_shrink_again` do what `dup_with`
+//!   and `enter_shrink_with` do with `again`, those without it the same without. Its numbers name the communicator, the position, the tag and the
 //!   room; past their ranges it is refused (`CommCall`, `TagCall`, `source_named`, Calls.antt). Each has a definition, as `SendCall`, `ReceiveCall`,
 //!   `TestCall`, `CancelCall`, Letters.antt. Others are in Probes.antt, Communicators.antt, Recovery.antt, Deciding.antt, Progress.antt and
 //!   Steps.antt.

@@ -1,5 +1,5 @@
 //! Failures, revocations, and entries into shrinks and agreements (ULFM).
-ghost use Rattle.std.specs.Prelude.{◌≡◌, ⊤};
+ghost use Rattle.std.specs.Prelude.{◌≡◌, ⊤, true, false};
 ghost use Rattle.ulfm_c.specs.Calls.{Call};
 ghost use Rattle.ulfm_c.specs.Recovery.{AckCall, EnterAgreeCall, EnterShrinkCall, FailedCall, IsRevokedCall, RevokeCall};
 
@@ -32,14 +32,14 @@ pub extern "C" fn ulfm_c_revoke(alloc: Global, handle: &mut Handle, comm: u64) -
     with!(handle, alloc, |process| revoke(&mut process, comm))
 }
 
-fn enter_shrink(process: &mut Process, comm: u64) -> u32
-    ensures { EnterShrinkCall process.old.view process.new.view comm result }
+fn enter_shrink(process: &mut Process, comm: u64, again: bool) -> u32
+    ensures { EnterShrinkCall process.old.view process.new.view comm again result }
 {
     let comm = match comm_of(comm) {
         Some(comm) => comm,
         None => return 1,
     };
-    match process.enter_shrink(comm) {
+    match process.enter_shrink_with(comm, again) {
         Ok(()) => {
             return 0;
         }
@@ -47,12 +47,28 @@ fn enter_shrink(process: &mut Process, comm: u64) -> u32
     }
 }
 
-/// Enters the shrink of a communicator (`Process::enter_shrink`).
+/// Enters the shrink of a communicator (`Process::enter_shrink_with`), if it is to have one.
 #[unsafe(no_mangle)]
 pub extern "C" fn ulfm_c_enter_shrink(alloc: Global, handle: &mut Handle, comm: u64) -> u32
-    ensures { Call handle.old.slot.held handle.new.slot.held result ⊤ (λ old new. EnterShrinkCall old new comm result) }
+    ensures { Call handle.old.slot.held handle.new.slot.held result ⊤ (λ old new. EnterShrinkCall old new comm false result) }
 {
-    with!(handle, alloc, |process| enter_shrink(&mut process, comm))
+    with!(
+        handle,
+        alloc,
+        |process| enter_shrink(&mut process, comm, false)
+    )
+}
+
+/// Enters the next shrink of a communicator (`Process::enter_shrink_with`), also of one that was shrunk before.
+#[unsafe(no_mangle)]
+pub extern "C" fn ulfm_c_enter_shrink_again(alloc: Global, handle: &mut Handle, comm: u64) -> u32
+    ensures { Call handle.old.slot.held handle.new.slot.held result ⊤ (λ old new. EnterShrinkCall old new comm true result) }
+{
+    with!(
+        handle,
+        alloc,
+        |process| enter_shrink(&mut process, comm, true)
+    )
 }
 
 fn enter_agree(process: &mut Process, comm: u64, flag: u32) -> u32

@@ -1,5 +1,6 @@
 //! The words of C.
 ghost use Rattle.std.specs.Prelude.{◌≡◌, ◌≢◌, ◌≤◌, MatchOption, MatchResult, min};
+ghost use Rattle.ulfm_base.specs.declared.context.TheConstants.{PAST_CONTEXTS};
 ghost use Rattle.ulfm_c.specs.Calls.{NamesTag, any, number_of, source_named};
 
 use ulfm_base::{CallError, Context, Tag};
@@ -30,12 +31,9 @@ pub(crate) fn number_of(error: CallError) -> u32
 
 /// The communicator of a number, where it can have one.
 pub(crate) fn comm_of(number: u64) -> Option<Comm>
-    ensures { MatchOption result (63 ≤ number) (λ comm. comm.context.number ≡ number) }
+    ensures { MatchOption result (PAST_CONTEXTS ≤ number) (λ comm. comm.context.number ≡ number) }
 {
-    if number > 62 {
-        return None;
-    }
-    let context = Context::new(number)?;
+    let context = Context::of_number(number)?;
     Some(Comm { context })
 }
 

@@ -1,5 +1,5 @@
 //! Failures, revocations, the rank's own stop, and entries into shrinks and agreements (ULFM).
-ghost use Rattle.std.specs.Prelude.{◌≡◌, [], false, Some, None, IfOk, IfErr, OnOk, OnErr};
+ghost use Rattle.std.specs.Prelude.{◌≡◌, [], Some, None, IfOk, IfErr, OnOk, OnErr};
 ghost use Rattle.ulfm_c.specs.View.{with_rank};
 ghost use Rattle.ulfm_rank.specs.Calls.{Enters, acknowledging, revoking, stopping};
 ghost use Rattle.ulfm_rank.specs.Checks.{Passes, Fails, FailsOrStarves, agree_checks, comm_checks, group_at, shrink_checks};
@@ -78,21 +78,23 @@ impl Process {
         self.rank.revoke(comm)
     }
 
-    /// Enters the shrink of a communicator, revoked or not (ULFM, `MPI_Comm_shrink`).
+    /// Enters the next shrink of a communicator, revoked or not (ULFM, `MPI_Comm_shrink`). If `again`, also of one that was shrunk
+    /// before, or whose shrink has no number among 0 to 62.
     ///
     /// # Errors
     ///
     /// `Stopped` where the rank has stopped, else `NoComm` where the communicator wasn't made, else `AlreadyMade` where
-    /// its shrink was entered before, else `NoContext` where there is no context left for the new communicator, else
-    /// `OutOfMemory` where a growth was refused. Then nothing changed.
-    pub fn enter_shrink(&mut self, comm: Comm) -> Result<(), CallError>
-        ensures accepted { OnOk result (Passes (shrink_checks false self.old.view.rank comm.context)) }
+    /// it entered a shrink there whose decision it didn't adopt yet, else, of contexts 0 to 62 and without `again`,
+    /// `AlreadyMade` where a shrink was entered before, and `NoContext` past 30, else `NoContext` where the new communicator's
+    /// context would be past the last one, else `OutOfMemory` where a growth was refused. Then nothing changed.
+    pub fn enter_shrink_with(&mut self, comm: Comm, again: bool) -> Result<(), CallError>
+        ensures accepted { OnOk result (Passes (shrink_checks again self.old.view.rank comm.context)) }
         ensures enters { OnOk result (Enters self.old.view.rank (next_shrink self.old.view.rank.log comm.context) None self.new.view.rank) }
         ensures only_rank { self.new.view ≡ with_rank self.old.view self.new.view.rank }
-        ensures refused { IfErr result (FailsOrStarves (shrink_checks false self.old.view.rank comm.context)) }
+        ensures refused { IfErr result (FailsOrStarves (shrink_checks again self.old.view.rank comm.context)) }
         ensures unchanged { OnErr result (self.new.view ≡ self.old.view) }
     {
-        self.rank.enter_shrink(comm)
+        self.rank.enter_shrink_with(comm, again)
     }
 
     /// Enters the next agreement on a communicator, revoked or not, with a flag (ULFM, `MPI_Comm_agree`).
