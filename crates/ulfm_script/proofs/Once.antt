@@ -52,7 +52,7 @@ anew g h k more of comm entrance grown about both =
 
 -- what a step enters was not entered before
 entered-anew : (h : State) (one : Step) (a : Topic) (new : State) (k : State) (other : Step) (b : Topic) (last : State) (more : List Entry) → EntersBy h one a new → k.log ≡ new.log ++ more → EntersBy k other b last → a ≡ b → ⊥
-entered-anew h (Shrink of again) a new k (Shrink comm again) b last more e grown f same =
+entered-anew h (Shrink of further) a new k (Shrink comm again) b last more e grown f same =
     anew false h.log k.log more of comm e.enters.entrance (grown ∙ ap (λ (s : State). s.log ++ more) e.enters.only) (e.enters.about ∙ sym (same_Some _ a e.about)) (same_Some _ a e.about ∙ same ∙ sym (same_Some _ b f.about))
 entered-anew h (Agree bit of) a new k (Shrink comm again) b last more e grown f same =
     let both : next_round h.log true of ≡ next_round k.log false comm = same_Some _ a e.about ∙ same ∙ sym (same_Some _ b f.about) in
