@@ -1,4 +1,4 @@
-/* What collectives are made of: messages on the hidden context, each with the number of its collective in its tag. A rank waits for a message of
+/* What collectives are made of: messages on a context of their own, each with the number of its collective in its tag. A rank waits for a message of
    another one until it comes, or that rank is known to have failed, or the program's communicator is known to be revoked. So a collective in which
    a member failed ends at each member that makes it: at some by success, at others by MPIX_ERR_PROC_FAILED (ULFM). */
 #include "collective/collective.h"
@@ -8,15 +8,10 @@
 #include <stdlib.h>
 #include <string.h>
 
-enum { NUMBERS = 4096, SINGLE = 3072 }; /* of each plane, and of them those of collectives that begin once */
-
 static int tag_of(const struct comm *comm) {
-    unsigned number = comm->repeats ? SINGLE + comm->repeats % (NUMBERS - SINGLE) : comm->begun % SINGLE;
-    return comm->plane * NUMBERS + (int)number;
+    unsigned number = comm->repeats ? SINGLE + comm->repeats % (CREATION - SINGLE) : comm->begun % SINGLE;
+    return comm->first_tag + (int)number;
 }
-
-/* Whether a message is of a collective that has a number of its own, or of a duplicate that doesn't block: on the first duplicate of a chain. */
-bool um_is_of_single(int context, int tag) { return context % 4 == 1 && tag % NUMBERS >= SINGLE; }
 
 /* Begins a collective, with the next number. One that was shrunk has no hidden context either where it was revoked before it was adopted here. */
 int um_begin_collective(struct comm *comm) {
@@ -24,7 +19,7 @@ int um_begin_collective(struct comm *comm) {
     if (!comm->repeats) comm->begun++;
     um_progress();
     if (um_is_revoked(comm)) return MPIX_ERR_REVOKED;
-    return comm->size > 1 && comm->hidden == NO_CONTEXT_LEFT ? NO_COLLECTIVES : MPI_SUCCESS;
+    return comm->size > 1 && comm->hidden == NO_CONTEXT ? NO_COLLECTIVES : MPI_SUCCESS;
 }
 
 /* A collective whose arguments are wrong here has its number too: the next one then meets those of the others. */

@@ -1,5 +1,5 @@
-/* Collectives: what they are made of, those that block and those that are requests. Their messages go on the hidden context of a
-   communicator, each with the number of its collective. */
+/* Collectives: what they are made of, those that block and those that are requests. Their messages go on a context of the communicator that no
+   program sends on, each with the number of its collective. */
 #ifndef UM_COLLECTIVE_H
 #define UM_COLLECTIVE_H
 
@@ -10,8 +10,11 @@
     if (!(handle)) return um_fail(comm, um_refuse_collective(comm, MPI_ERR_ARG)); \
     *(handle) = MPI_REQUEST_NULL
 
+/* The tags of collectives: of those that begin one after the other; from SINGLE on of those that have a number of their own, and of duplicates that don't
+   block; from CREATION on of those who make a communicator by themselves. The last tag is of no collective (play/losses.c). */
+enum { SINGLE = 16384, CREATION = 24576, CREATIONS = 8191 };
+
 /* collect.c */
-bool um_is_of_single(int context, int tag);
 int um_begin_collective(struct comm *comm);
 int um_refuse_collective(struct comm *comm, int code);
 int um_collect_send(struct comm *comm, int to, const void *bytes, size_t length);

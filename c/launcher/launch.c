@@ -164,7 +164,7 @@ static void tell_unmet_stops(void) {
 int um_close_run(void) {
     for (int k = 0; k < um_options.ranks; k++) ulfm_end(&um_ranks[k].home);
     um_free_parcels();
-    um_free_marks();
+    um_free_commons();
     tell_unmet_stops();
     for (int k = 0; k < um_options.ranks; k++) free(um_ranks[k].program.words);
     return status_of_run();

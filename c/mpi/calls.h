@@ -45,7 +45,7 @@ void um_clear_requests(void);
 struct cart *um_copy_cart(const struct cart *cart);
 int um_split_comm(struct comm *of, int color, int key, MPI_Comm *made);
 
-/* comm.c, dup.c, group.c */
+/* chain.c, comm.c, dup.c, group.c */
 /* The communicator of a handle, or null: it isn't one, or not yet. */
 static inline struct comm *um_comm_at(MPI_Comm handle) {
     uintptr_t number = (uintptr_t)handle;
@@ -57,7 +57,7 @@ void um_group_of(const struct comm *comm, struct group *group);
 int um_agree_on_plane(struct comm *team, int *plane, struct terms *terms);
 int um_make_on_plane(struct comm *of, int plane, const struct group *group, const struct terms *terms, MPI_Comm *made);
 int um_make_another(struct comm *of, MPI_Comm *made);
-void um_free_marks(void);
+void um_free_commons(void);
 MPI_Comm um_handle_of(const struct comm *comm);
 struct comm *um_new_comm(struct chain *chain, int plane, MPI_Errhandler handler, const struct group *group);
 struct chain *um_new_chain(uint64_t context);

@@ -1,5 +1,6 @@
-/* Communicators (MPI 4.0, 7.4). Each has a context of the engine for its messages. */
+/* Communicators (MPI 4.0, 7.4). Each has a context of the engine for its messages, and one for its collectives. */
 #include "mpi/calls.h"
+#include "mpi/dup.h"
 #include "mpi/graph.h"
 #include "progress/progress.h"
 #include <stdlib.h>
@@ -9,19 +10,6 @@ MPI_Comm um_handle_of(const struct comm *comm) {
     for (int k = 0; k < um_me->mpi.comm_count; k++)
         if (um_me->mpi.comms[k] == comm) return (MPI_Comm)(uintptr_t)(k + 1);
     return MPI_COMM_NULL;
-}
-
-/* The chain of a context, with its first duplicate, for collectives, and the others, as far as contexts are left. */
-struct chain *um_new_chain(uint64_t context) {
-    struct chain *chain = calloc(1, sizeof *chain);
-    if (!chain) return 0;
-    uint64_t last;
-    bool is_left = ulfm_dup(um_me->slot, context, &last) == ULFM_OK;
-    chain->hidden = is_left ? last : NO_CONTEXT_LEFT;
-    chain->plane[0].context = context;
-    chain->planes = chain->made = 1;
-    while (is_left && chain->made < PLANES && ulfm_dup(um_me->slot, last, &last) == ULFM_OK) chain->plane[chain->made++].context = last;
-    return chain;
 }
 
 /* The position of the member that stands at a place of the context's group. */
@@ -55,7 +43,7 @@ bool um_fill_comm(struct comm *comm, const struct group *group) {
     return true;
 }
 
-/* A communicator on a plane of a chain, or null where there is no memory. */
+/* A communicator on a plane of a chain, or null where there is no memory. Until more is said its members share what those of plane 0 do. */
 struct comm *um_new_comm(struct chain *chain, int plane, MPI_Errhandler handler, const struct group *group) {
     struct comm *comm = calloc(1, sizeof *comm);
     int place = 0;
@@ -66,7 +54,8 @@ struct comm *um_new_comm(struct chain *chain, int plane, MPI_Errhandler handler,
         return 0;
     }
     comm->chain = chain;
-    comm->hidden = chain->hidden;
+    comm->hidden = chain->plane[plane].hidden;
+    comm->common = um_common_of_first(chain->ledger);
     comm->plane = plane;
     comm->begun = chain->plane[plane].begun;
     chain->plane[plane].is_free = false;
@@ -85,8 +74,9 @@ bool um_make_world(void) {
     if (!self || !um_grow(&um_me->mpi.comms, um_me->mpi.comm_count, sizeof *um_me->mpi.comms)) return false;
     strcpy(world->name, "MPI_COMM_WORLD");
     strcpy(self->name, "MPI_COMM_SELF");
-    self->context = self->hidden = chain->hidden;
+    self->context = self->hidden = chain->plane[0].hidden;
     self->chain = chain;
+    self->common = world->common;
     um_fill_comm(self, &(struct group){1, {(uint8_t)um_me->number}});
     self->handler = MPI_ERRORS_ARE_FATAL;
     self->is_self = self->is_part = true;
@@ -98,7 +88,8 @@ bool um_make_world(void) {
 
 /* Takes a communicator away that nothing points to. */
 void um_free_comm(struct comm *comm) {
-    if (--comm->chain->users == 0) free(comm->chain);
+    if (comm->plane) um_leave_common(comm->common);
+    if (--comm->chain->users == 0) um_free_chain(comm->chain);
     free(comm->cart);
     um_free_graph(comm->graph);
     um_free_attributes(comm->attributes);

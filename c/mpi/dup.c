@@ -1,7 +1,6 @@
-/* Duplicates of communicators (MPI 4.0, 7.4.2 and 7.4.3). The engine has one duplicate of each context, so the communicators of one group stand on a
-   chain: its first context, the duplicate of that, which all of them share for their collectives, the duplicate of the duplicate, and so on. A plane is
-   a communicator's place in the chain. The members agree on it, so that those that missed one that others made, since a failure met it, agree with
-   them again; and a plane that all of them freed is used again. */
+/* Duplicates of communicators (MPI 4.0, 7.4.2 and 7.4.3). The communicators of one group stand on a chain of planes, each with contexts of its own. The
+   members agree on the plane of a new one, so that those that missed one that others made, since a failure met it, agree with them again; and a plane
+   that all of them freed is used again. */
 #include "mpi/dup.h"
 #include "collective/collective.h"
 #include "engine/body.h"
@@ -9,32 +8,6 @@
 #include "progress/progress.h"
 #include <stdlib.h>
 #include <string.h>
-
-/* Marks of revocation that parts share, in one list, so that they are freed at the end. */
-struct marks {
-    struct marks *next;
-    _Atomic int marks[MAX_RANKS];
-};
-static struct marks *all_marks;
-static pthread_mutex_t marks_lock = PTHREAD_MUTEX_INITIALIZER;
-
-_Atomic int *um_new_marks(void) {
-    struct marks *marks = calloc(1, sizeof *marks);
-    if (!marks) return 0;
-    pthread_mutex_lock(&marks_lock);
-    marks->next = all_marks;
-    all_marks = marks;
-    pthread_mutex_unlock(&marks_lock);
-    return marks->marks;
-}
-
-void um_free_marks(void) {
-    while (all_marks) {
-        struct marks *next = all_marks->next;
-        free(all_marks);
-        all_marks = next;
-    }
-}
 
 /* Takes away what was sent on a plane before and never received. */
 void um_drop_messages(const struct chain *chain, int plane) {
@@ -48,11 +21,24 @@ void um_drop_messages(const struct chain *chain, int plane) {
     }
 }
 
-/* Takes away what is left of the communicator that a plane had before. All are done with it before any of them sends on the new one. */
-static int empty_plane(struct comm *team, int plane) {
-    char verdict[VERDICT];
+unsigned um_most_begun(const unsigned *all, int count) {
+    unsigned most = 0;
+    for (int k = 0; k < count; k++) most = all[k] > most ? all[k] : most;
+    return most;
+}
+
+/* Takes away what is left of the communicator that a plane had before. All are done with it before any of them sends on the new one. Its collectives go on
+   from the most that began there at a member. */
+static int empty_plane(struct comm *team, int plane, unsigned *begun) {
+    unsigned own = um_begun_on(team->chain, plane), all[MAX_RANKS] = {0};
+    char verdict[VERDICT + sizeof own];
     um_drop_messages(team->chain, plane);
-    return um_spread_verdict(team, um_gather_all(team, 0, 0, 0), verdict, 0);
+    int code = um_gather_all(team, &own, sizeof own, all);
+    own = um_most_begun(all, team->size);
+    memcpy(verdict + VERDICT, &own, sizeof own);
+    code = um_spread_verdict(team, code, verdict, sizeof own);
+    memcpy(begun, verdict + VERDICT, sizeof own);
+    return code;
 }
 
 /* The plane that all members of a team take, and what else they agree on. */
@@ -64,32 +50,33 @@ int um_agree_on_plane(struct comm *team, int *plane, struct terms *terms) {
     own.color = terms->colors[0];
     own.key = terms->keys[0];
     int code = um_gather_all(team, &own, sizeof own, all);
-    if (team->position == 0 && code == MPI_SUCCESS) um_decide(team, all, um_name_of_copy(team, team->begun), &decided);
+    if (team->position == 0 && code == MPI_SUCCESS && !um_decide(team, all, um_name_of_copy(team, team->begun), &decided)) code = MPI_ERR_NO_MEM;
     memcpy(verdict + VERDICT, &decided, sizeof decided);
     code = um_spread_verdict(team, code, verdict, sizeof decided);
     memcpy(&decided, verdict + VERDICT, sizeof decided);
     *plane = decided.plane;
     *terms = decided.terms;
-    if (code == MPI_SUCCESS && decided.is_old) code = empty_plane(team, *plane);
-    return code != MPI_SUCCESS || terms->marks ? code : MPI_ERR_NO_MEM;
-}
-
-/* Takes the planes of a chain into use, up to this one. */
-static int lengthen(struct chain *chain, int plane) {
-    if (plane >= chain->made) return NO_CONTEXTS;
-    while (chain->planes <= plane) chain->plane[chain->planes++].is_free = true;
-    return MPI_SUCCESS;
+    if (code == MPI_SUCCESS && decided.is_old) code = empty_plane(team, *plane, &terms->begun);
+    if (code != MPI_SUCCESS) um_leave_common(terms->common);
+    return code;
 }
 
 /* Makes a communicator of a group on a plane of another one's chain. */
 int um_make_on_plane(struct comm *of, int plane, const struct group *group, const struct terms *terms, MPI_Comm *made) {
     struct chain *chain = of->chain;
-    int code = lengthen(chain, plane);
-    if (code != MPI_SUCCESS) return code;
-    chain->plane[plane].begun = terms->begun;
-    struct comm *comm = um_new_comm(chain, plane, of->handler, group);
-    if (!comm) return MPI_ERR_NO_MEM;
-    comm->revoked = &terms->marks[comm->members[0]];
+    struct comm *comm = 0;
+    int code = um_lengthen(chain, plane);
+    if (code == MPI_SUCCESS) {
+        chain->plane[plane].begun = terms->begun;
+        comm = um_new_comm(chain, plane, of->handler, group);
+        code = comm ? MPI_SUCCESS : MPI_ERR_NO_MEM;
+    }
+    if (code != MPI_SUCCESS) {
+        um_leave_common(terms->common);
+        return code;
+    }
+    comm->common = terms->common;
+    comm->revoked = &terms->common->revoked[comm->members[0]];
     *made = um_handle_of(comm);
     return MPI_SUCCESS;
 }

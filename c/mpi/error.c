@@ -81,7 +81,7 @@ static const struct {
     {MPIX_ERR_PROC_FAILED, "MPIX_ERR_PROC_FAILED: a process failed"},
     {MPIX_ERR_PROC_FAILED_PENDING, "MPIX_ERR_PROC_FAILED_PENDING: a process failed that might have sent the message"},
     {MPIX_ERR_REVOKED, "MPIX_ERR_REVOKED: the communicator is revoked"},
-    {NO_CONTEXTS, "MPI_ERR_OTHER: no context is left for a new communicator (there are 63)"},
+    {NO_CONTEXTS, "MPI_ERR_OTHER: no context is left for a new communicator (1,024 of one group at a time, 17 shrinks in a row)"},
     {NO_COLLECTIVES, "MPI_ERR_OTHER: no context is left for the collectives of this communicator"},
     {NOT_ON_PARTS, "MPI_ERR_COMM: shrink and agree need a communicator of a whole group: the world, what was shrunk, their duplicates"},
     {ONE_AT_A_TIME, "MPI_ERR_OTHER: a shrink or an agreement of this communicator isn't over yet"},

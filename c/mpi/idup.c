@@ -25,21 +25,22 @@ struct copy {
     int rounds;            /* that were begun: a second one where the plane has to be emptied */
     bool is_looked_at;     /* what it does makes progress, and so looks at it once more */
     struct wish all[MAX_RANKS];
+    unsigned begun[MAX_RANKS]; /* of the plane, where it was used before */
     struct told told;
 };
 
-/* Tells position 0 so many bytes, and posts what that one tells of it; there posts what each other one tells. */
-static int begin_round(struct comm *of, struct copy *copy, const void *own, size_t length) {
+/* Tells position 0 its part of what all tell, of so many bytes, and posts what that one tells of it; there posts what each other one tells. */
+static int begin_round(struct comm *of, struct copy *copy, void *all, size_t length) {
     unsigned before = of->repeats; /* progress in a collective that is started leads here too */
     of->repeats = copy->number;
     copy->rounds++;
     int code = um_start_collective(of, &copy->round);
     bool is_open = code == MPI_SUCCESS && !copy->round->over;
     if (is_open && of->position) {
-        um_send_bytes(copy->round, 0, own, length);
+        um_send_bytes(copy->round, 0, (char *)all + length * (size_t)of->position, length);
         um_post_bytes(copy->round, 0, &copy->told, sizeof copy->told, 0);
     }
-    for (int k = 1; is_open && !of->position && k < of->size; k++) um_post_bytes(copy->round, k, &copy->all[k], length, 0);
+    for (int k = 1; is_open && !of->position && k < of->size; k++) um_post_bytes(copy->round, k, (char *)all + length * (size_t)k, length, 0);
     of->repeats = before;
     return code;
 }
@@ -58,8 +59,8 @@ static int end_round(struct comm *of, struct copy *copy) {
     um_free_request(copy->round);
     copy->round = 0;
     if (of->position) return code != MPI_SUCCESS ? code : copy->told.code;
-    if (code == MPI_SUCCESS && copy->rounds == 1) um_decide(of, copy->all, copy->name, &copy->told.decided);
-    if (code == MPI_SUCCESS && !copy->told.decided.terms.marks) code = MPI_ERR_NO_MEM;
+    if (code == MPI_SUCCESS && copy->rounds == 1 && !um_decide(of, copy->all, copy->name, &copy->told.decided)) code = MPI_ERR_NO_MEM;
+    if (copy->rounds > 1) copy->told.decided.terms.begun = um_most_begun(copy->begun, of->size);
     copy->told.code = code;
     tell(of, copy);
     return code;
@@ -92,9 +93,12 @@ static int go_on(struct comm *of, struct copy *copy) {
     int code = end_round(of, copy);
     if (code == MPI_SUCCESS && copy->told.decided.is_old && copy->rounds == 1) {
         um_drop_messages(of->chain, copy->told.decided.plane);
-        return begin_round(of, copy, 0, 0);
+        copy->begun[of->position] = um_begun_on(of->chain, copy->told.decided.plane);
+        return begin_round(of, copy, copy->begun, sizeof *copy->begun);
     }
-    return code == MPI_SUCCESS && copy->code == MPI_SUCCESS ? make(of, copy) : code;
+    if (code == MPI_SUCCESS && copy->code == MPI_SUCCESS) return make(of, copy);
+    um_leave_common(copy->told.decided.terms.common);
+    return code;
 }
 
 static void advance(struct request *request) {
@@ -149,7 +153,7 @@ static void begin(struct comm *of, struct request *request, MPI_Comm *made) {
     if (copy->code == MPI_SUCCESS) copy->code = um_copy_attributes(of, &copy->like);
     *made = MPI_COMM_NULL;
     if (um_footprints && of->size > 1) um_note_copy();
-    int code = begin_round(of, copy, &copy->all[of->position], sizeof *copy->all);
+    int code = begin_round(of, copy, copy->all, sizeof *copy->all);
     copy->is_looked_at = false;
     if (code != MPI_SUCCESS) um_end_request(request, code);
 }

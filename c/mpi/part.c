@@ -3,10 +3,9 @@
    engine's, of whole groups, so they refuse a part. */
 #include "collective/collective.h"
 #include "engine/engine.h"
+#include "mpi/dup.h"
 #include <stdlib.h>
 #include <string.h>
-
-enum { CREATION = PLANES, NUMBERS = 4096 };
 
 /* Those of a color, by their keys and positions. */
 static void group_of_color(const struct comm *comm, const struct terms *terms, int color, struct group *group) {
@@ -30,6 +29,7 @@ int um_split_comm(struct comm *of, int color, int key, MPI_Comm *made) {
     *made = MPI_COMM_NULL;
     int code = um_begin_collective(of);
     if (code == MPI_SUCCESS) code = um_agree_on_plane(of, &plane, &terms);
+    if (code == MPI_SUCCESS && color == MPI_UNDEFINED) um_leave_common(terms.common);
     if (code != MPI_SUCCESS || color == MPI_UNDEFINED) return code;
     group_of_color(of, &terms, color, &group);
     return um_make_on_plane(of, plane, &group, &terms, made);
@@ -76,11 +76,12 @@ int MPI_Comm_create(MPI_Comm comm, MPI_Group group, MPI_Comm *made) {
     *made = MPI_COMM_NULL;
     int code = um_begin_collective(of);
     if (code == MPI_SUCCESS) code = um_agree_on_plane(of, &plane, &terms);
+    if (code == MPI_SUCCESS && !is_member(members)) um_leave_common(terms.common);
     if (code != MPI_SUCCESS || !is_member(members)) return um_answer(of, code);
     return um_answer(of, um_make_on_plane(of, plane, members, &terms, made));
 }
 
-/* Only the members call it. They speak by themselves, with a number of the plane of creations that the tag gives. */
+/* Only the members call it. They speak by themselves, with a number that the tag gives. */
 int MPI_Comm_create_group(MPI_Comm comm, MPI_Group group, int tag, MPI_Comm *made) {
     struct comm *of = um_comm_at(comm);
     const struct group *members = um_group_at(group);
@@ -94,12 +95,12 @@ int MPI_Comm_create_group(MPI_Comm comm, MPI_Group group, int tag, MPI_Comm *mad
     if (tag < 0 || tag > MPI_TAG_UB_VALUE) return um_fail(of, MPI_ERR_TAG);
     if (!is_member(members)) return MPI_SUCCESS;
     if (um_is_revoked(of)) return um_fail(of, MPIX_ERR_REVOKED);
-    if (of->hidden == NO_CONTEXT_LEFT) return um_fail(of, NO_COLLECTIVES);
+    if (of->hidden == NO_CONTEXT) return um_fail(of, NO_COLLECTIVES);
     struct comm team = *of;
     if (!um_fill_comm(&team, members)) return um_fail(of, MPI_ERR_GROUP);
     team.is_part = of->is_part;
-    team.plane = CREATION;
-    team.begun = (unsigned)tag % NUMBERS;
+    team.first_tag = CREATION;
+    team.begun = (unsigned)tag % CREATIONS;
     int code = um_agree_on_plane(&team, &plane, &terms);
     return um_answer(of, code != MPI_SUCCESS ? code : um_make_on_plane(of, plane, members, &terms, made));
 }

@@ -59,7 +59,7 @@ static struct event event_of(enum kind_of_event kind, uint64_t comm, uint32_t pe
     return (struct event){.kind = (uint8_t)kind,
                           .rank = (uint8_t)um_me->number,
                           .peer = peer > MAX_RANKS ? NOBODY : (uint8_t)peer,
-                          .comm = (uint8_t)comm,
+                          .comm = (uint8_t)um_number_of(comm),
                           .tag = tag == ULFM_ANY ? -1 : (int32_t)tag};
 }
 
@@ -148,7 +148,7 @@ uint32_t __wrap_ulfm_test(ulfm_slot *slot, uint64_t request, ulfm_status *status
 static uint32_t state_of_sent(const struct request *request) {
     const struct comm *comm = request->comm;
     if (atomic_load(&request->parcel->matched)) return ULFM_OK;
-    if (comm->is_part ? atomic_load(comm->revoked) : um_is_known_revoked(um_me->number, comm->context)) return ULFM_REVOKED;
+    if (comm->is_part ? atomic_load(comm->revoked) : um_is_known_revoked(um_me->number, um_number_of(comm->context))) return ULFM_REVOKED;
     return um_knows_failed(um_me->number, comm->members[request->peer]) ? ULFM_PROC_FAILED : ULFM_NOT_YET;
 }
 
@@ -198,15 +198,15 @@ uint32_t __wrap_ulfm_revoke(ulfm_slot *slot, uint64_t comm) {
     if (!um_is_played) return __real_ulfm_revoke(slot, comm);
     before(event_of(REVOKES, comm, NOBODY, ULFM_ANY));
     uint32_t code = __real_ulfm_revoke(slot, comm);
-    if (um_footprints) um_end_revoke(code != ULFM_OK || um_is_known_revoked(um_me->number, comm));
-    if (code == ULFM_OK) um_note_revoked(um_me->number, comm);
+    if (um_footprints) um_end_revoke(code != ULFM_OK || um_is_known_revoked(um_me->number, um_number_of(comm)));
+    if (code == ULFM_OK) um_note_revoked(um_me->number, um_number_of(comm));
     push(slot);
     return code;
 }
 
 REAL(is_revoked);
 uint32_t __wrap_ulfm_is_revoked(ulfm_slot *slot, uint64_t comm, uint32_t *answer) {
-    bool is_event = um_is_played && before_look(event_of(ASKS_REVOKED, comm, NOBODY, ULFM_ANY), 0, !um_is_known_revoked(um_me->number, comm));
+    bool is_event = um_is_played && before_look(event_of(ASKS_REVOKED, comm, NOBODY, ULFM_ANY), 0, !um_is_known_revoked(um_me->number, um_number_of(comm)));
     uint32_t code = __real_ulfm_is_revoked(slot, comm, answer);
     if (um_is_played && um_players[um_me->number].looks_anew) *answer = 0;
     if (um_footprints && is_event) um_end_question(*answer);
@@ -230,26 +230,36 @@ uint32_t __wrap_ulfm_ack_failed(ulfm_slot *slot, uint64_t comm, uint32_t count, 
     return code;
 }
 
-REAL(dup);
-uint32_t __wrap_ulfm_dup(ulfm_slot *slot, uint64_t comm, uint64_t *made) {
+static uint32_t duplicate(ulfm_slot *slot, uint64_t comm, uint64_t *made, __typeof__(ulfm_dup) *real) {
     bool is_event = um_is_played && um_me->life.has_begun; /* nothing comes before MPI_Init is over */
     if (is_event) before(event_of(DUPLICATES, comm, NOBODY, ULFM_ANY));
-    uint32_t code = __real_ulfm_dup(slot, comm, made);
+    uint32_t code = real(slot, comm, made);
     if (um_footprints && is_event) um_end_question(code);
     return code;
 }
 
-REAL(enter_shrink);
-uint32_t __wrap_ulfm_enter_shrink(ulfm_slot *slot, uint64_t comm) {
+REAL(dup);
+uint32_t __wrap_ulfm_dup(ulfm_slot *slot, uint64_t comm, uint64_t *made) { return duplicate(slot, comm, made, __real_ulfm_dup); }
+
+REAL(dup_again);
+uint32_t __wrap_ulfm_dup_again(ulfm_slot *slot, uint64_t comm, uint64_t *made) { return duplicate(slot, comm, made, __real_ulfm_dup_again); }
+
+static uint32_t enter_shrink(ulfm_slot *slot, uint64_t comm, __typeof__(ulfm_enter_shrink) *real) {
     um_go_beyond_messages();
-    if (!um_is_played) return __real_ulfm_enter_shrink(slot, comm);
+    if (!um_is_played) return real(slot, comm);
     before(event_of(ENTERS_SHRINK, comm, NOBODY, ULFM_ANY));
-    uint32_t code = __real_ulfm_enter_shrink(slot, comm);
-    if (code == ULFM_OK) um_note_entry(um_me->number, comm, false, 0);
+    uint32_t code = real(slot, comm);
+    if (code == ULFM_OK) um_note_entry(um_me->number, um_number_of(comm), false, 0);
     if (um_footprints) um_end_entry(false, 0, code);
     push(slot);
     return code;
 }
+
+REAL(enter_shrink);
+uint32_t __wrap_ulfm_enter_shrink(ulfm_slot *slot, uint64_t comm) { return enter_shrink(slot, comm, __real_ulfm_enter_shrink); }
+
+REAL(enter_shrink_again);
+uint32_t __wrap_ulfm_enter_shrink_again(ulfm_slot *slot, uint64_t comm) { return enter_shrink(slot, comm, __real_ulfm_enter_shrink_again); }
 
 REAL(enter_agree);
 uint32_t __wrap_ulfm_enter_agree(ulfm_slot *slot, uint64_t comm, uint32_t flag) {
@@ -257,7 +267,7 @@ uint32_t __wrap_ulfm_enter_agree(ulfm_slot *slot, uint64_t comm, uint32_t flag) 
     if (!um_is_played) return __real_ulfm_enter_agree(slot, comm, flag);
     before(event_of(ENTERS_AGREE, comm, NOBODY, ULFM_ANY));
     uint32_t code = __real_ulfm_enter_agree(slot, comm, flag);
-    if (code == ULFM_OK) um_note_entry(um_me->number, comm, true, flag);
+    if (code == ULFM_OK) um_note_entry(um_me->number, um_number_of(comm), true, flag);
     if (um_footprints) um_end_entry(true, flag, code);
     push(slot);
     return code;
@@ -266,8 +276,8 @@ uint32_t __wrap_ulfm_enter_agree(ulfm_slot *slot, uint64_t comm, uint32_t flag) 
 REAL(poll_shrink);
 uint32_t __wrap_ulfm_poll_shrink(ulfm_slot *slot, uint64_t comm, uint64_t *made) {
     if (!um_is_played) return __real_ulfm_poll_shrink(slot, comm, made);
-    if (!before_look(event_of(POLLS_SHRINK, comm, NOBODY, ULFM_ANY), 0, !um_has_heard_all(um_me->number, comm, false))) return ULFM_NOT_YET;
-    struct proposal own = um_proposal_of(um_me->number, comm, false);
+    if (!before_look(event_of(POLLS_SHRINK, comm, NOBODY, ULFM_ANY), 0, !um_has_heard_all(um_me->number, um_number_of(comm), false))) return ULFM_NOT_YET;
+    struct proposal own = um_proposal_of(um_me->number, um_number_of(comm), false);
     uint32_t code = __real_ulfm_poll_shrink(slot, comm, made);
     if (um_footprints) um_end_poll(false, &own, code);
     if (code == ULFM_OK) um_forget_looks(&um_players[um_me->number]);
@@ -277,8 +287,8 @@ uint32_t __wrap_ulfm_poll_shrink(ulfm_slot *slot, uint64_t comm, uint64_t *made)
 REAL(poll_agree);
 uint32_t __wrap_ulfm_poll_agree(ulfm_slot *slot, uint64_t comm, uint32_t *value, ulfm_group *missing) {
     if (!um_is_played) return __real_ulfm_poll_agree(slot, comm, value, missing);
-    if (!before_look(event_of(POLLS_AGREE, comm, NOBODY, ULFM_ANY), 0, !um_has_heard_all(um_me->number, comm, true))) return ULFM_NOT_YET;
-    struct proposal own = um_proposal_of(um_me->number, comm, true);
+    if (!before_look(event_of(POLLS_AGREE, comm, NOBODY, ULFM_ANY), 0, !um_has_heard_all(um_me->number, um_number_of(comm), true))) return ULFM_NOT_YET;
+    struct proposal own = um_proposal_of(um_me->number, um_number_of(comm), true);
     uint32_t code = __real_ulfm_poll_agree(slot, comm, value, missing);
     if (um_footprints) um_end_poll(true, &own, code == ULFM_OK ? *value ^ bits_of_group(missing) << 24 : code);
     if (code == ULFM_OK) um_forget_looks(&um_players[um_me->number]);

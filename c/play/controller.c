@@ -95,22 +95,22 @@ static struct event event_of_item(int from, int to) {
     const ulfm_next_item *item = &um_heads[from][to];
     if (um_players[from].has_stopped && um_is_blocked(from, to))
         return (struct event){.kind = LOSES, .rank = (uint8_t)to, .peer = (uint8_t)from, .tag = -1};
-    bool is_message = item->kind == ULFM_MESSAGE, is_agreement = item->kind == ULFM_AGREE_ENTRY;
+    bool is_message = item->kind == ULFM_MESSAGE, is_entry = item->kind == ULFM_SHRINK_ENTRY || item->kind == ULFM_AGREE_ENTRY;
     return (struct event){.kind = TAKES,
                           .rank = (uint8_t)to,
                           .peer = (uint8_t)from,
                           .item = (uint8_t)item->kind,
-                          .comm = (uint8_t)item->comm,
-                          .tag = is_message     ? (int32_t)item->tag
-                                 : is_agreement ? (int32_t)item->round
-                                                : -1};
+                          .comm = (uint8_t)um_number_of(item->comm),
+                          .tag = is_message ? (int32_t)item->tag
+                                 : is_entry ? (int32_t)item->round
+                                            : -1};
 }
 
 static bool can_take(int from, int to) { return !um_players[to].has_stopped && um_heads[from][to].kind != ULFM_NOTHING; }
 
 /* Word of a revocation that is known there changes nothing, whenever it comes: it goes first. */
 static bool brings_nothing(int from, int to) {
-    return can_take(from, to) && um_heads[from][to].kind == ULFM_REVOCATION && um_is_known_revoked(to, um_heads[from][to].comm);
+    return can_take(from, to) && um_heads[from][to].kind == ULFM_REVOCATION && um_is_known_revoked(to, um_number_of(um_heads[from][to].comm));
 }
 
 /* What may happen next: the calls of ranks, and the items that may be taken. Looks that would find what they found are made where nothing else can happen. */

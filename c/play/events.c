@@ -35,12 +35,13 @@ void um_text_of_event(const struct event *event, char *text, size_t room) {
     }
     bool takes = event->kind == TAKES, is_look = event->kind == TESTS || event->kind == CANCELS;
     bool is_message = event->kind == SENDS || event->kind == POSTS || event->kind == PROBES || event->kind == LOOKS_AT_SEND;
-    bool has_number = is_look || (takes && event->item == ULFM_AGREE_ENTRY);
+    bool is_entry = takes && (event->item == ULFM_SHRINK_ENTRY || event->item == ULFM_AGREE_ENTRY);
+    bool has_number = is_look || (is_entry && (event->item == ULFM_AGREE_ENTRY || event->tag > 0));
     if (is_message && event->peer == NOBODY) strcpy(peer, " any");
     else if (is_message) snprintf(peer, sizeof peer, " %d", event->peer);
     if (has_number) snprintf(tag, sizeof tag, " %d", event->tag);
-    else if (event->tag >= 0) snprintf(tag, sizeof tag, " tag %d", event->tag);
-    if (!is_look && event->kind != STOPS && !(takes && event->item == ULFM_STOP_NOTICE)) snprintf(comm, sizeof comm, " on %d", event->comm);
+    else if (event->tag >= 0 && !is_entry) snprintf(tag, sizeof tag, " tag %d", event->tag);
+    if (!is_look && event->kind != STOPS && !(takes && event->item == ULFM_STOP_NOTICE)) snprintf(comm, sizeof comm, " on %llu", (unsigned long long)um_context_of(event->comm));
     if (takes) snprintf(text, room, "rank %d takes of %d: %s%s%s", event->rank, event->peer, words_of_items[event->item], tag, comm);
     else snprintf(text, room, "rank %d %s%s%s%s", event->rank, words_of_calls[event->kind], peer, tag, comm);
 }

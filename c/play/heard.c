@@ -5,7 +5,7 @@
 #include "search/search.h"
 #include <stdlib.h>
 
-/* One rank's entries into the shrink of a communicator, or its agreements, by their numbers. */
+/* One rank's entries into the shrinks of a communicator, or its agreements, by their numbers. */
 struct entries {
     struct {
         uint32_t flag;
@@ -18,7 +18,7 @@ static int heard[MAX_RANKS][MAX_RANKS][CONTEXTS][2]; /* how many of them came to
 static uint8_t known[MAX_RANKS];
 static uint64_t revoked[MAX_RANKS];
 
-void um_note_entry(int rank, uint64_t comm, bool agrees, uint32_t flag) {
+void um_note_entry(int rank, int comm, bool agrees, uint32_t flag) {
     struct entries *own = &entries[rank][comm][agrees];
     if (!um_grow(&own->at, own->count, sizeof *own->at)) return;
     own->at[own->count].flag = flag;
@@ -27,20 +27,20 @@ void um_note_entry(int rank, uint64_t comm, bool agrees, uint32_t flag) {
 
 bool um_knows_failed(int rank, int other) { return known[rank] >> other & 1; }
 
-void um_note_revoked(int rank, uint64_t comm) { revoked[rank] |= 1ull << comm; }
+void um_note_revoked(int rank, int comm) { revoked[rank] |= 1ull << comm; }
 
-bool um_is_known_revoked(int rank, uint64_t comm) { return revoked[rank] >> comm & 1; }
+bool um_is_known_revoked(int rank, int comm) { return revoked[rank] >> comm & 1; }
 
 /* A rank takes an item. */
 void um_note_item(int rank, int from, const ulfm_next_item *item) {
     if (item->kind == ULFM_STOP_NOTICE) known[rank] |= (uint8_t)(1u << from);
-    if (item->kind == ULFM_REVOCATION) um_note_revoked(rank, item->comm);
-    if (item->kind == ULFM_SHRINK_ENTRY) heard[rank][from][item->comm][false] = 1;
-    if (item->kind == ULFM_AGREE_ENTRY) heard[rank][from][item->comm][true] = (int)item->round + 1;
+    bool agrees = item->kind == ULFM_AGREE_ENTRY;
+    if (item->kind == ULFM_REVOCATION) um_note_revoked(rank, um_number_of(item->comm));
+    if (agrees || item->kind == ULFM_SHRINK_ENTRY) heard[rank][from][um_number_of(item->comm)][agrees] = (int)item->round + 1;
 }
 
 /* Who entered, and need not have: those that entries of members which aren't excluded say have failed, where that is so too of whom theirs say it. */
-static uint8_t optional_of(const struct proposal *made, uint64_t comm, bool agrees) {
+static uint8_t optional_of(const struct proposal *made, int comm, bool agrees) {
     uint8_t said = 0, optional = 0;
     for (int k = 0; k < MAX_RANKS; k++)
         if (made->listed & ~made->excluded & 1u << k) said |= entries[k][comm][agrees].at[made->round].known;
@@ -50,11 +50,11 @@ static uint8_t optional_of(const struct proposal *made, uint64_t comm, bool agre
 }
 
 /* What the rank would propose for its last shrink or agreement. */
-struct proposal um_proposal_of(int rank, uint64_t comm, bool agrees) {
+struct proposal um_proposal_of(int rank, int comm, bool agrees) {
     ulfm_group group;
     const struct entries *own = &entries[rank][comm][agrees];
     int round = own->count - 1;
-    if (round < 0 || ulfm_group_of(&um_ranks[rank].home, comm, &group) != ULFM_OK) return (struct proposal){.is_possible = true};
+    if (round < 0 || ulfm_group_of(&um_ranks[rank].home, um_context_of(comm), &group) != ULFM_OK) return (struct proposal){.is_possible = true};
     struct proposal made = {.listed = (uint8_t)(1u << rank), .by_entries = own->at[round].known, .value = own->at[round].flag, .round = round};
     for (uint32_t k = 0; k < group.size; k++) {
         int member = group.members[k];
@@ -71,12 +71,12 @@ struct proposal um_proposal_of(int rank, uint64_t comm, bool agrees) {
     return made;
 }
 
-/* Who entered the shrink of a communicator, as bits. */
-uint8_t um_entered(uint64_t comm) {
+/* Who entered the shrink of a communicator that a rank entered last, as bits. */
+uint8_t um_entered(int rank, int comm) {
     uint8_t bits = 0;
-    for (int k = 0; k < MAX_RANKS; k++) bits |= (uint8_t)((entries[k][comm][false].count > 0) << k);
+    for (int k = 0; k < MAX_RANKS; k++) bits |= (uint8_t)((entries[k][comm][false].count >= entries[rank][comm][false].count) << k);
     return bits;
 }
 
 /* Whether it could be decided there now. */
-bool um_has_heard_all(int rank, uint64_t comm, bool agrees) { return um_proposal_of(rank, comm, agrees).is_possible; }
+bool um_has_heard_all(int rank, int comm, bool agrees) { return um_proposal_of(rank, comm, agrees).is_possible; }

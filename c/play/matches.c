@@ -33,5 +33,5 @@ void um_note_come(struct parcel *parcel) {
 struct parcel *um_parcel_for(uint64_t comm, uint32_t source, uint32_t tag) {
     ulfm_status told;
     if (__real_ulfm_iprobe(um_me->slot, comm, source, tag, &told) != ULFM_OK || !um_is_long(told.length)) return 0;
-    return um_first_parcel(um_member_at(um_me->number, comm, told.source), comm, (int)told.tag);
+    return um_first_parcel(um_member_at(um_me->number, um_number_of(comm), told.source), comm, (int)told.tag);
 }

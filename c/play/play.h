@@ -32,8 +32,8 @@ struct event {
     uint8_t kind, rank;
     uint8_t peer; /* the position that it names or, of an item, the rank that sent it; NOBODY: none, or any */
     uint8_t item; /* of an item: its kind, as ulfm_next tells it */
-    uint8_t comm;
-    int32_t tag; /* of a message; of a look at a request its number; of an entry into an agreement that one's; -1: none, or any */
+    uint8_t comm; /* by a small number (contexts.c) */
+    int32_t tag;  /* of a message; of a look at a request its number; of an entry into a shrink or an agreement that one's; -1: none, or any */
 };
 
 /* A rank stands before a call, waits, is about to end the run, or has ended. */
@@ -84,13 +84,21 @@ uint32_t um_look_at_sent(const struct request *request);
 bool um_looks_again(struct player *player);
 void um_forget_looks(struct player *player);
 
-/* heard.c */
-void um_note_entry(int rank, uint64_t comm, bool agrees, uint32_t flag);
-void um_note_revoked(int rank, uint64_t comm);
+/* contexts.c: communicators of the engine by small numbers, as events have them. */
+enum { CONTEXTS = 64 };
+bool um_begin_contexts(void);
+int um_number_of(uint64_t context);
+uint64_t um_context_of(int number);
+int um_family(int number);
+int um_beside(int number);
+
+/* heard.c: of communicators by these numbers. */
+void um_note_entry(int rank, int comm, bool agrees, uint32_t flag);
+void um_note_revoked(int rank, int comm);
 void um_note_item(int rank, int from, const ulfm_next_item *item);
 bool um_knows_failed(int rank, int other);
-bool um_is_known_revoked(int rank, uint64_t comm);
-bool um_has_heard_all(int rank, uint64_t comm, bool agrees);
+bool um_is_known_revoked(int rank, int comm);
+bool um_has_heard_all(int rank, int comm, bool agrees);
 
 /* controller.c */
 extern ulfm_next_item um_heads[MAX_RANKS][MAX_RANKS]; /* what is first, from each rank to each */

@@ -126,7 +126,7 @@ int um_play_once(void) {
 
 int um_play(void) {
     um_set_alarm();
-    if (!um_begin_notes() || (um_options.keep && !um_begin_record())) return STATUS_USAGE;
+    if (!um_begin_notes() || !um_begin_contexts() || (um_options.keep && !um_begin_record())) return STATUS_USAGE;
     if (um_options.limit) return um_explore();
     if (um_options.seeds) return um_play_seeds();
     if ((um_options.schedule && !um_open_schedule()) || (um_options.draw && !um_begin_drawing())) return STATUS_USAGE;

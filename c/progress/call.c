@@ -42,6 +42,7 @@ struct sight um_look_at_call(struct rank *rank) {
         sight.context = comm->context;
         sight.first = comm->chain->plane[0].context;
         memcpy(sight.members, comm->members, sizeof sight.members);
+        for (int k = 0; k < MAX_RANKS; k++) sight.agreed[k] = atomic_load(&comm->common->agreed[k]);
         memcpy(sight.name, comm->name, sizeof sight.name);
     }
     um_let_call_go(rank);

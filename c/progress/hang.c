@@ -21,13 +21,11 @@ static bool is_in_same(struct rank *rank, const struct sight *waiting) {
 /* The members that a shrink or an agreement waits for: those that run and aren't in the same one. */
 static uint32_t missing_from(const struct rank *waiting, const struct sight *sight) {
     uint32_t bits = 0;
-    uint64_t context = sight->context;
     bool agrees = !strcmp(sight->call.name, "MPIX_Comm_agree");
     if (!sight->size || (strcmp(sight->call.name, "MPIX_Comm_shrink") && !agrees)) return 0;
     for (int k = 0; k < sight->size; k++) {
         struct rank *rank = &um_ranks[sight->members[k]];
-        bool is_there =
-            agrees ? atomic_load(&rank->shared.agreed[context]) >= atomic_load(&waiting->shared.agreed[context]) : is_in_same(rank, sight);
+        bool is_there = agrees ? sight->agreed[rank->number] >= sight->agreed[waiting->number] : is_in_same(rank, sight);
         if (!rank->life.has_stopped && !is_there) bits |= 1u << rank->number;
     }
     return bits;

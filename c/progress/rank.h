@@ -12,7 +12,11 @@
 #include <stdbool.h>
 #include <stdio.h>
 
-enum { MAX_RANKS = 8, CONTEXTS = 63, PLANES = 7, NO_CONTEXT_LEFT = 255, STACK = 32 << 20 };
+/* PLANES: so many communicators of one group can be there at a time. */
+enum { MAX_RANKS = 8, PLANES = 1024, STACK = 32 << 20 };
+
+/* In place of a context: there is none. */
+#define NO_CONTEXT UINT64_MAX
 
 /* Error codes: the class, and a detail times 256, which MPI_Error_string tells. */
 enum {
@@ -23,25 +27,40 @@ enum {
     ONE_AT_A_TIME = MPI_ERR_OTHER | 7 << 8
 };
 
-/* The contexts of one group that were made by duplication: the first one, its duplicate (for collectives), that one's, and so on. */
+/* What the ranks know together of the communicators of one group (mpi/plane.c). */
+struct ledger;
+
+/* What the members of a communicator share. In a list, so that those which members that failed had are freed at the end. */
+struct common {
+    struct common *next, *previous;
+    int users;                          /* members that may have it */
+    _Atomic int revoked[MAX_RANKS];     /* of parts, by the first member's world rank: the engine would revoke the whole context */
+    _Atomic uint32_t agreed[MAX_RANKS]; /* how many agreements each rank entered there */
+};
+
+/* The contexts of one group, by planes: each communicator of the group has one plane, with a context for its messages and one for its collectives. Those
+   of plane 0 are the first context and its duplicate, which no program revokes. Those of the others are further duplicates of that one: they are made as
+   planes are needed, in order, so that a plane's are the same at all members, whatever these missed. */
 struct chain {
-    uint64_t hidden; /* the first duplicate, NO_CONTEXT_LEFT where there is none */
-    int made;        /* how many contexts it has: made ahead, since one that is revoked can't be duplicated */
-    int planes;      /* how many of them a program has had */
-    int users;       /* the communicators here that point to it */
-    struct {
-        uint64_t context;
-        bool is_free;   /* the program freed its communicator */
+    struct ledger *ledger;
+    int planes;    /* that were made */
+    int users;     /* the communicators here that point to it */
+    uint64_t half; /* of the plane that comes next, where its second context wasn't made; else NO_CONTEXT */
+    struct plane {
+        uint64_t context, hidden;
+        bool is_free;   /* the program has no communicator on it */
         unsigned begun; /* the collectives that began on it before */
-    } plane[PLANES];
+    } * plane;
 };
 
 /* A communicator of the program. */
 struct comm {
     uint64_t context; /* of its messages */
-    uint64_t hidden;  /* of its collectives, NO_CONTEXT_LEFT where there is none */
+    uint64_t hidden;  /* of its collectives, NO_CONTEXT where there is none */
     struct chain *chain;
-    int plane;        /* its number in the chain, in the tags of its collectives */
+    struct common *common;
+    int plane;        /* its number in the chain */
+    int first_tag;    /* of its collectives: 0, or CREATION of those who make a communicator by themselves */
     unsigned begun;   /* how many collectives began */
     unsigned repeats; /* the number of the persistent one that is started now, or 0 */
     int size, position;
@@ -50,7 +69,7 @@ struct comm {
     MPI_Errhandler handler;
     bool is_self;
     bool is_part;          /* not all of the context's group are members */
-    _Atomic int *revoked;  /* of a part: what its members share, for the engine would revoke the whole context */
+    _Atomic int *revoked;  /* of a part: what its members share */
     uint32_t acknowledged; /* how many failures are */
     char name[MPI_MAX_OBJECT_NAME];
     struct cart *cart;            /* its topology, or null */
@@ -67,7 +86,7 @@ struct group {
 /* What the members of a new communicator agree on, besides its plane. */
 struct terms {
     unsigned begun;                         /* the collectives that began on the plane before */
-    _Atomic int *marks;                     /* of parts: the marks of revocation, by the first member's world rank */
+    struct common *common;                  /* what they share; a member that makes none leaves it */
     int colors[MAX_RANKS], keys[MAX_RANKS]; /* of MPI_Comm_split, by positions; before, the own ones stand first */
 };
 
@@ -175,7 +194,6 @@ struct parcels {
 
 /* What it made of failures, and knows of them. */
 struct recovery {
-    uint32_t shrunk[CONTEXTS];
     _Atomic int self_revoked;
     _Atomic uint32_t known; /* the world ranks whose failures it knows, as bits, at its last call */
     int known_count;        /* how many */
@@ -242,7 +260,6 @@ struct shared {
     _Atomic int is_gone;                 /* it has finalized, or stopped */
     _Atomic int is_ended;                /* its thread needs nothing more */
     _Atomic int waited_for;              /* synchronous sends to it without a match */
-    _Atomic uint32_t agreed[CONTEXTS];   /* how many agreements it entered */
 };
 
 struct rank {

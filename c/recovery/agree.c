@@ -20,11 +20,11 @@ struct agreement {
 /* Whether each member is in the agreement that this rank is in, was in it, or has left: else there can't be a decision, and the engine needn't be
    asked. In a run that is played a rank goes by what it heard alone. */
 static bool can_be_agreed(const struct agreement *agreement) {
-    uint64_t context = agreement->comm->context;
-    uint32_t own = atomic_load(&um_me->shared.agreed[context]);
-    for (int k = 0; k < agreement->comm->size && !um_is_played; k++) {
-        const struct rank *rank = &um_ranks[agreement->comm->members[k]];
-        if (atomic_load(&rank->shared.agreed[context]) < own && !atomic_load(&rank->shared.is_gone)) return false;
+    const struct comm *comm = agreement->comm;
+    uint32_t own = atomic_load(&comm->common->agreed[um_me->number]);
+    for (int k = 0; k < comm->size && !um_is_played; k++) {
+        int member = comm->members[k];
+        if (atomic_load(&comm->common->agreed[member]) < own && !atomic_load(&um_ranks[member].shared.is_gone)) return false;
     }
     return true;
 }
@@ -45,7 +45,7 @@ static int enter(struct agreement *agreement, uint32_t word) {
     uint64_t context = agreement->comm->context;
     uint32_t code = ulfm_enter_agree(um_me->slot, context, word);
     if (code != ULFM_OK) return code_of(code);
-    atomic_fetch_add(&um_me->shared.agreed[context], 1); /* before its word goes out */
+    atomic_fetch_add(&agreement->comm->common->agreed[um_me->number], 1); /* before its word goes out */
     um_progress();
     return MPI_SUCCESS;
 }
@@ -120,8 +120,8 @@ uint32_t um_missing_from_agreement(const struct request *request) {
     if (request->look != look_at_agreement || request->over) return 0;
     for (int k = 0; k < agreement->comm->size; k++) {
         const struct rank *rank = &um_ranks[agreement->comm->members[k]];
-        uint64_t context = agreement->comm->context;
-        bool is_there = atomic_load(&rank->shared.agreed[context]) >= atomic_load(&um_me->shared.agreed[context]);
+        struct common *common = agreement->comm->common;
+        bool is_there = atomic_load(&common->agreed[rank->number]) >= atomic_load(&common->agreed[um_me->number]);
         if (!is_there && !atomic_load(&rank->shared.is_gone)) bits |= 1u << rank->number;
     }
     return bits;

@@ -49,13 +49,12 @@ static bool is_shrunk(void *of, bool is_settled) {
     return shrink->code != ULFM_NOT_YET;
 }
 
-/* Enters a shrink. One that was shrunk before gives a shrink of what came of it: its members are among those. A duplicate is shrunk by the first
-   context of its group, since those of duplicates have few to come after them. */
+/* Enters a shrink, the next one of the first context of the group: all communicators of one group are shrunk by that, since numbers of contexts that
+   are made of duplicates' have few to come after them. */
 static int enter(struct shrink *shrink, struct comm *comm, MPI_Comm *handle) {
     *shrink = (struct shrink){.comm = comm, .context = comm->chain->plane[0].context, .handle = handle};
     if (comm->is_part) return NOT_ON_PARTS;
-    while (um_me->recovery.shrunk[shrink->context]) shrink->context = um_me->recovery.shrunk[shrink->context];
-    shrink->code = ulfm_enter_shrink(um_me->slot, shrink->context);
+    shrink->code = ulfm_enter_shrink_again(um_me->slot, shrink->context);
     if (shrink->code != ULFM_OK) return shrink->code == ULFM_ALREADY_MADE ? ONE_AT_A_TIME : um_class_of(shrink->code);
     um_progress();
     um_count_inside();
@@ -65,7 +64,6 @@ static int enter(struct shrink *shrink, struct comm *comm, MPI_Comm *handle) {
 /* Makes the communicator of the members that run. */
 static int adopt(struct shrink *shrink) {
     if (shrink->code != ULFM_OK) return um_class_of(shrink->code);
-    um_me->recovery.shrunk[shrink->context] = shrink->made;
     struct chain *chain = um_new_chain(shrink->made);
     struct group before;
     um_group_of(shrink->comm, &before);

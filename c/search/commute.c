@@ -38,12 +38,6 @@ static bool reads_revocations(const struct footprint *e) {
     return e->kind == SENDS || e->kind == POSTS || e->kind == DUPLICATES || e->kind == ASKS_REVOKED || e->kind == PROBES;
 }
 
-/* A communicator and its duplicates: a wait for a collective ends by a message on the duplicate, or a revocation of the communicator. */
-int um_family(int comm) {
-    while (comm > 0 && comm % 2 == 1) comm = (comm - 1) / 2;
-    return comm;
-}
-
 static bool are_of_family(const struct footprint *a, const struct footprint *b) { return um_family(a->comm) == um_family(b->comm); }
 
 /* Whether the wait that a call ends, or one that looked and went on, looked in vain for a message of a communicator (-1: of any) and a source. */
@@ -138,11 +132,16 @@ static bool is_after_message(const struct footprint *a, int at, const struct foo
     return learnt->use[a->rank][a->comm] == MANY_ANY && uses_messages(b);
 }
 
+/* Whether a message is of a collective that has a number of its own, or of a duplicate that doesn't block. */
+static bool is_of_single(const struct footprint *e) {
+    return is_message(e) && um_beside(e->comm) != e->comm && e->tag >= SINGLE && e->tag < CREATION;
+}
+
 /* What a duplicate that doesn't block waits for at a rank, which then sends, and another item, by which the rank goes on or sends something else. */
 static bool are_of_copy(const struct footprint *a, const struct footprint *b) {
     bool is_same = is_message(a) && is_message(b) && a->comm == b->comm && a->tag == b->tag;
     if (!learnt->copies || is_same || a->kind != TAKES || b->kind != TAKES) return false;
-    return (is_message(a) && um_is_of_single(a->comm, a->tag)) || (is_message(b) && um_is_of_single(b->comm, b->tag));
+    return is_of_single(a) || is_of_single(b);
 }
 
 /* An entry and a poll of its topic; where that was decided before the poll, it needs the entry to be made at all, or doesn't care for it. */

@@ -15,7 +15,7 @@ void um_add_end(const struct request *request) {
     bool is_send = request->kind == SYNCHRONOUS, is_known = is_send || request->kind == RECEIVE;
     int source = request->peer == MPI_ANY_SOURCE ? ANYBODY : is_known && request->peer >= 0 ? request->comm->members[request->peer] : ANYBODY;
     own->at[own->count - 1].id = request->id;
-    own->at[own->count - 1].comm = (int8_t)(is_known ? (int)request->context : UNKNOWN);
+    own->at[own->count - 1].comm = (int8_t)(is_known ? um_number_of(request->context) : UNKNOWN);
     own->at[own->count - 1].source = (int8_t)source;
     own->at[own->count - 1].is_send = is_send;
 }

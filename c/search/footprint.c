@@ -3,7 +3,7 @@
 #include "search/search.h"
 #include <stdlib.h>
 
-/* So many agreements on a communicator have topics of their own: more than a schedule has events. */
+/* So many shrinks of a communicator have topics of their own, and agreements on it: more than a schedule has events. */
 enum { MOST_ROUNDS = 1 << 24 };
 
 struct footprint *um_footprints;
@@ -14,18 +14,18 @@ static int revoked_at[MAX_RANKS][CONTEXTS];
 static int decided[CONTEXTS]; /* so many agreements on a communicator were decided */
 
 static struct footprint *present(void) { return &um_footprints[um_step]; }
-static uint32_t members_of(int rank, uint64_t comm) {
+static uint32_t members_of(int rank, int comm) {
     ulfm_group group;
     uint32_t bits = 0;
-    if (ulfm_group_of(&um_ranks[rank].home, comm, &group) != ULFM_OK) return 0;
+    if (ulfm_group_of(&um_ranks[rank].home, um_context_of(comm), &group) != ULFM_OK) return 0;
     for (uint32_t k = 0; k < group.size; k++) bits |= 1u << group.members[k];
     return bits;
 }
 
 /* The world rank of a position; ANYBODY where it has none. */
-int um_member_at(int rank, uint64_t comm, uint32_t position) {
+int um_member_at(int rank, int comm, uint32_t position) {
     ulfm_group group;
-    if (ulfm_group_of(&um_ranks[rank].home, comm, &group) != ULFM_OK || position >= group.size) return ANYBODY;
+    if (ulfm_group_of(&um_ranks[rank].home, um_context_of(comm), &group) != ULFM_OK || position >= group.size) return ANYBODY;
     return group.members[position];
 }
 
@@ -70,7 +70,7 @@ void um_begin_footprint(const struct event *event) {
     if (event->item == ULFM_STOP_NOTICE) own->fails = (uint8_t)(1u << event->peer);
     if (event->item == ULFM_AGREE_ENTRY || event->item == ULFM_SHRINK_ENTRY) {
         bool agrees = event->item == ULFM_AGREE_ENTRY;
-        own->topic = um_topic_of(event->comm, agrees, agrees ? event->tag : 0);
+        own->topic = um_topic_of(event->comm, agrees, event->tag);
     }
     if (event->item == ULFM_MESSAGE && !um_is_known_revoked(event->rank, event->comm)) own->flags = SAW_NO_REVOCATION;
 }
@@ -105,7 +105,7 @@ void um_begin_call(const struct event *call) {
 
 void um_end_send(uint32_t dest, uint32_t code) {
     struct footprint *own = present();
-    int to = um_member_at(own->rank, (uint32_t)own->comm, dest);
+    int to = um_member_at(own->rank, own->comm, dest);
     own->answer = code;
     if (to == ANYBODY) return;
     own->fails = (uint8_t)(1u << to);
@@ -115,7 +115,7 @@ void um_end_send(uint32_t dest, uint32_t code) {
 
 void um_end_post(uint32_t source, uint64_t id, uint32_t code) {
     struct footprint *own = present();
-    int rank = own->rank, from = source == ULFM_ANY ? ANYBODY : um_member_at(rank, (uint32_t)own->comm, source);
+    int rank = own->rank, from = source == ULFM_ANY ? ANYBODY : um_member_at(rank, own->comm, source);
     own->answer = code;
     if (code != ULFM_OK) return;
     own->source = (int8_t)from;
@@ -124,12 +124,8 @@ void um_end_post(uint32_t source, uint64_t id, uint32_t code) {
     um_add_receive(rank, (struct receive){.id = id, .comm = own->comm, .source = from, .tag = own->tag});
 }
 
-/* Whether a communicator is known to be revoked of which this one is a duplicate: a wait for a collective asks for that too. */
-static bool is_revoked_above(int rank, int comm) {
-    bool is_revoked = false;
-    for (; comm > 0 && comm % 2 == 1; comm = (comm - 1) / 2) is_revoked = is_revoked || um_is_known_revoked(rank, (uint32_t)(comm - 1) / 2);
-    return is_revoked;
-}
+/* Whether the communicator is known to be revoked whose collectives have this context: a wait for one asks for that too. */
+static bool is_revoked_beside(int rank, int comm) { return um_beside(comm) != comm && um_is_known_revoked(rank, um_beside(comm)); }
 
 /* A test or a cancel was answered. */
 void um_end_look(uint64_t id, uint32_t code, const ulfm_status *status) {
@@ -140,10 +136,10 @@ void um_end_look(uint64_t id, uint32_t code, const ulfm_status *status) {
     own->comm = (int8_t)receive->comm;
     own->source = (int8_t)receive->source;
     own->tag = receive->tag;
-    own->is_over_anyway = own->waits && is_revoked_above(own->rank, receive->comm);
+    own->is_over_anyway = own->waits && is_revoked_beside(own->rank, receive->comm);
     bool is_cancelled = code == ULFM_OK && status->cancelled;
     if (code != ULFM_OK || is_cancelled) {
-        uint32_t any = own->kind == CANCELS ? 0 : members_of(own->rank, (uint32_t)receive->comm);
+        uint32_t any = own->kind == CANCELS ? 0 : members_of(own->rank, receive->comm);
         own->flags |= IN_VAIN | SAW_NO_REVOCATION;
         own->fails = (uint8_t)(receive->source == ANYBODY ? any : 1u << receive->source);
         own->answer = is_cancelled ? 99 : code;
@@ -151,17 +147,17 @@ void um_end_look(uint64_t id, uint32_t code, const ulfm_status *status) {
         own->by = receive->by;
         own->flags |= FOUND;
         own->answer = status->error ? 100 + status->error : 0;
-        if (!status->error) own->other = (uint8_t)um_member_at(own->rank, (uint32_t)receive->comm, status->source);
+        if (!status->error) own->other = (uint8_t)um_member_at(own->rank, receive->comm, status->source);
     }
     if (code == ULFM_OK) um_remove_receive(own->rank, receive);
 }
 
 void um_end_probe(uint32_t source, uint32_t code, bool takes) {
     struct footprint *own = present();
-    int rank = own->rank, from = source == ULFM_ANY ? ANYBODY : um_member_at(rank, (uint32_t)own->comm, source);
+    int rank = own->rank, from = source == ULFM_ANY ? ANYBODY : um_member_at(rank, own->comm, source);
     own->source = (int8_t)from;
     own->flags |= ASKED | (from == ANYBODY ? OF_ANY : 0);
-    own->fails = (uint8_t)(from == ANYBODY ? members_of(rank, (uint32_t)own->comm) : 1u << from);
+    own->fails = (uint8_t)(from == ANYBODY ? members_of(rank, own->comm) : 1u << from);
     own->answer = code;
     int sender = NOBODY;
     if (code == ULFM_OK) own->found = um_find_message(rank, own->comm, from, own->tag, takes, &sender);
@@ -181,7 +177,7 @@ void um_end_question(uint32_t answer) {
     own->answer = answer;
     if (own->kind != ASKS_FAILED && own->kind != ACKNOWLEDGES) return;
     own->flags = 0;
-    own->fails = (uint8_t)members_of(own->rank, (uint32_t)own->comm);
+    own->fails = (uint8_t)members_of(own->rank, own->comm);
 }
 
 /* .. for whose failures it knows, which have an order. */
@@ -191,16 +187,16 @@ void um_end_listed(const ulfm_group *failed) {
     um_end_question(list);
 }
 
-uint32_t um_topic_of(uint64_t comm, bool agrees, int round) { return 1 + (comm * 2 + agrees) * MOST_ROUNDS + (uint32_t)round; }
+uint32_t um_topic_of(int comm, bool agrees, int round) { return 1 + ((uint32_t)comm * 2 + agrees) * MOST_ROUNDS + (uint32_t)round; }
 
 void um_end_entry(bool agrees, uint32_t flag, uint32_t code) {
     struct footprint *own = present();
     own->flags = 0;
     own->answer = flag;
     if (code != ULFM_OK) return;
-    own->fails = (uint8_t)members_of(own->rank, (uint32_t)own->comm);
-    own->entered = agrees ? 0 : um_entered((uint32_t)own->comm);
-    own->topic = um_topic_of((uint32_t)own->comm, agrees, um_proposal_of(own->rank, (uint32_t)own->comm, agrees).round);
+    own->fails = (uint8_t)members_of(own->rank, own->comm);
+    own->entered = agrees ? 0 : um_entered(own->rank, own->comm);
+    own->topic = um_topic_of(own->comm, agrees, um_proposal_of(own->rank, own->comm, agrees).round);
     um_push_to_all(own->rank, own->fails);
 }
 
@@ -208,7 +204,7 @@ void um_end_entry(bool agrees, uint32_t flag, uint32_t code) {
 void um_end_poll(bool agrees, const struct proposal *proposal, uint32_t answer) {
     struct footprint *own = present();
     own->flags = own->waits ? 0 : ASKED;
-    own->topic = um_topic_of((uint32_t)own->comm, agrees, proposal->round);
+    own->topic = um_topic_of(own->comm, agrees, proposal->round);
     own->answer = answer;
     if (!proposal->is_possible) {
         own->flags |= IN_VAIN;

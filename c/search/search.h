@@ -98,8 +98,8 @@ struct receive {
 };
 
 /* heard.c */
-struct proposal um_proposal_of(int rank, uint64_t comm, bool agrees);
-uint8_t um_entered(uint64_t comm);
+struct proposal um_proposal_of(int rank, int comm, bool agrees);
+uint8_t um_entered(int rank, int comm);
 
 /* rings.c */
 void um_note_push(int from, int to);
@@ -120,10 +120,10 @@ static inline int process_of(const struct event *event) {
     if (event->kind == LOSES) return loss_of(event->peer, event->rank);
     return event->kind == TAKES ? ring_of(event->peer, event->rank) : event->rank;
 }
-uint32_t um_topic_of(uint64_t comm, bool agrees, int round);
+uint32_t um_topic_of(int comm, bool agrees, int round);
 void um_begin_footprint(const struct event *event);
 void um_note_taken(const struct event *event, bool was_revoked);
-int um_member_at(int rank, uint64_t comm, uint32_t position);
+int um_member_at(int rank, int comm, uint32_t position);
 void um_begin_call(const struct event *call);
 void um_end_send(uint32_t dest, uint32_t code);
 void um_end_post(uint32_t source, uint64_t id, uint32_t code);
@@ -171,7 +171,6 @@ bool um_is_dependent(const struct footprint *a, int at, const struct footprint *
 bool um_is_needed(const struct footprint *a, const struct footprint *b);
 bool um_may_revoke(const struct footprint *e, int at);
 void um_come_after(struct footprint *e, const struct footprint *other);
-int um_family(int comm);
 bool um_is_across(const struct footprint *e);
 bool um_learn(int count);
 void um_note_copy(void);

@@ -91,5 +91,5 @@ void um_end_sent(int to, uint32_t code, const struct parcel *parcel) {
     own->flags = (own->flags & ASKED) | FOUND;
     own->found = (int16_t)parcel->matched_at;
     own->met = (int16_t)parcel->met_with;
-    own->is_over_anyway = own->waits && um_is_known_revoked(own->rank, (uint32_t)own->comm);
+    own->is_over_anyway = own->waits && um_is_known_revoked(own->rank, own->comm);
 }

@@ -4,10 +4,11 @@
 static int rank;
 
 static void dups(void) {
-    MPI_Comm made[8];
+    enum { MORE = 1030 };
+    MPI_Comm made[MORE];
     int count = 0, code = MPI_SUCCESS, length, x = 0;
     char text[MPI_MAX_ERROR_STRING];
-    while (count < 8 && (code = MPI_Comm_dup(MPI_COMM_WORLD, &made[count])) == MPI_SUCCESS) {
+    while (count < MORE && (code = MPI_Comm_dup(MPI_COMM_WORLD, &made[count])) == MPI_SUCCESS) {
         MPI_Comm_set_errhandler(made[count], MPI_ERRORS_RETURN);
         CHECK(MPI_Allreduce(&rank, &x, 1, MPI_INT, MPI_SUM, made[count]) == MPI_SUCCESS && x == 1);
         count++;

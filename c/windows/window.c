@@ -184,7 +184,7 @@ static struct window *new_window(const struct window *like, struct comm *of) {
 
 /* Makes a window like this one, whose memory it takes. */
 static int create(const struct window *like, MPI_Aint size, int unit, struct comm *of, MPI_Win *win) {
-    int code = size < 0 ? MPI_ERR_SIZE : unit < 1 ? MPI_ERR_DISP : of->size > 1 && of->hidden == NO_CONTEXT_LEFT ? NO_COLLECTIVES : MPI_SUCCESS;
+    int code = size < 0 ? MPI_ERR_SIZE : unit < 1 ? MPI_ERR_DISP : of->size > 1 && of->hidden == NO_CONTEXT ? NO_COLLECTIVES : MPI_SUCCESS;
     int place = code == MPI_SUCCESS ? free_place() : -1;
     struct window *window = place < 0 ? 0 : new_window(like, of);
     if (!window) {
