@@ -68,7 +68,9 @@ void um_free_ledgers(void) {
     }
 }
 
-struct common *um_common_of_first(struct ledger *ledger) { return &ledger->first; }
+struct common *um_common_of_first(struct ledger *ledger) {
+    return &ledger->first;
+}
 
 static bool has_plane(const uint64_t *planes, int plane) { return planes[plane / PLANES_A_WORD] >> (plane % PLANES_A_WORD) & 1; }
 

@@ -5,43 +5,6 @@
 
 struct player um_players[MAX_RANKS];
 
-/* What a look is told by: what is looked at, from where in the program, and the number of the look in its call of MPI. */
-static uint64_t look_of(const struct event *call, uint64_t request) {
-    uint64_t look = 14695981039346656037u;
-    uint64_t words[] = {call->kind, call->comm, call->peer, (uint64_t)call->tag, request, (uintptr_t)um_me->call.from, um_me->played.looks++};
-    for (size_t k = 0; k < sizeof words / sizeof *words; k++) look = (look ^ words[k]) * 1099511628211u;
-    return look | 1;
-}
-
-/* Something came, or the rank did something: a look may find another answer. */
-void um_forget_looks(struct player *player) {
-    if (!player->look_count) return;
-    for (int k = 0; k < LOOKS; k++) player->looks[k] = 0;
-    player->look_count = 0;
-}
-
-/* Where a look stands in the table of those that were made, or none does. */
-static uint64_t *cell_of_look(struct player *player, uint64_t look) {
-    int k = (int)(look % LOOKS);
-    while (player->looks[k] && player->looks[k] != look) k = (k + 1) % LOOKS;
-    return &player->looks[k];
-}
-
-/* Whether the call that a rank stands before is a look that it made before, with nothing new since. */
-bool um_looks_again(struct player *player) {
-    if (player->marks_at_look != um_count_of_marks()) um_forget_looks(player);
-    return player->look && (player->look_count > LOOKS / 2 || *cell_of_look(player, player->look));
-}
-
-static void remember_look(struct player *player) {
-    if (player->marks_at_look != um_count_of_marks()) um_forget_looks(player);
-    player->marks_at_look = um_count_of_marks();
-    uint64_t *cell = cell_of_look(player, player->look);
-    if (*cell || player->look_count > LOOKS / 2) return;
-    *cell = player->look;
-    player->look_count++;
-}
-
 /* The rank stands before a call until the controller lets it go on. */
 static void stand_before(struct event call, uint64_t look) {
     struct player *own = &um_players[um_me->number];
@@ -77,8 +40,8 @@ static bool before_look(struct event call, uint64_t request, bool is_vain) {
     if (own->in_wait && (is_vain || own->looks_anew)) return false;
     bool is_first = own->is_first;
     int taken = own->taken;
-    stand_before(call, own->in_wait ? 0 : look_of(&call, request));
-    if (!own->in_wait) remember_look(own);
+    stand_before(call, own->in_wait ? 0 : um_look_of(&call, request));
+    if (!own->in_wait) um_remember_look(own);
     if (own->in_wait && is_first && own->taken != taken) {
         own->looks_anew = own->is_granted = true;
         return false;
@@ -206,7 +169,8 @@ uint32_t __wrap_ulfm_revoke(ulfm_slot *slot, uint64_t comm) {
 
 REAL(is_revoked);
 uint32_t __wrap_ulfm_is_revoked(ulfm_slot *slot, uint64_t comm, uint32_t *answer) {
-    bool is_event = um_is_played && before_look(event_of(ASKS_REVOKED, comm, NOBODY, ULFM_ANY), 0, !um_is_known_revoked(um_me->number, um_number_of(comm)));
+    bool is_event =
+        um_is_played && before_look(event_of(ASKS_REVOKED, comm, NOBODY, ULFM_ANY), 0, !um_is_known_revoked(um_me->number, um_number_of(comm)));
     uint32_t code = __real_ulfm_is_revoked(slot, comm, answer);
     if (um_is_played && um_players[um_me->number].looks_anew) *answer = 0;
     if (um_footprints && is_event) um_end_question(*answer);
@@ -276,7 +240,8 @@ uint32_t __wrap_ulfm_enter_agree(ulfm_slot *slot, uint64_t comm, uint32_t flag) 
 REAL(poll_shrink);
 uint32_t __wrap_ulfm_poll_shrink(ulfm_slot *slot, uint64_t comm, uint64_t *made) {
     if (!um_is_played) return __real_ulfm_poll_shrink(slot, comm, made);
-    if (!before_look(event_of(POLLS_SHRINK, comm, NOBODY, ULFM_ANY), 0, !um_has_heard_all(um_me->number, um_number_of(comm), false))) return ULFM_NOT_YET;
+    if (!before_look(event_of(POLLS_SHRINK, comm, NOBODY, ULFM_ANY), 0, !um_has_heard_all(um_me->number, um_number_of(comm), false)))
+        return ULFM_NOT_YET;
     struct proposal own = um_proposal_of(um_me->number, um_number_of(comm), false);
     uint32_t code = __real_ulfm_poll_shrink(slot, comm, made);
     if (um_footprints) um_end_poll(false, &own, code);
@@ -287,7 +252,8 @@ uint32_t __wrap_ulfm_poll_shrink(ulfm_slot *slot, uint64_t comm, uint64_t *made)
 REAL(poll_agree);
 uint32_t __wrap_ulfm_poll_agree(ulfm_slot *slot, uint64_t comm, uint32_t *value, ulfm_group *missing) {
     if (!um_is_played) return __real_ulfm_poll_agree(slot, comm, value, missing);
-    if (!before_look(event_of(POLLS_AGREE, comm, NOBODY, ULFM_ANY), 0, !um_has_heard_all(um_me->number, um_number_of(comm), true))) return ULFM_NOT_YET;
+    if (!before_look(event_of(POLLS_AGREE, comm, NOBODY, ULFM_ANY), 0, !um_has_heard_all(um_me->number, um_number_of(comm), true)))
+        return ULFM_NOT_YET;
     struct proposal own = um_proposal_of(um_me->number, um_number_of(comm), true);
     uint32_t code = __real_ulfm_poll_agree(slot, comm, value, missing);
     if (um_footprints) um_end_poll(true, &own, code == ULFM_OK ? *value ^ bits_of_group(missing) << 24 : code);

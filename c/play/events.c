@@ -41,7 +41,8 @@ void um_text_of_event(const struct event *event, char *text, size_t room) {
     else if (is_message) snprintf(peer, sizeof peer, " %d", event->peer);
     if (has_number) snprintf(tag, sizeof tag, " %d", event->tag);
     else if (event->tag >= 0 && !is_entry) snprintf(tag, sizeof tag, " tag %d", event->tag);
-    if (!is_look && event->kind != STOPS && !(takes && event->item == ULFM_STOP_NOTICE)) snprintf(comm, sizeof comm, " on %llu", (unsigned long long)um_context_of(event->comm));
+    if (!is_look && event->kind != STOPS && !(takes && event->item == ULFM_STOP_NOTICE))
+        snprintf(comm, sizeof comm, " on %llu", (unsigned long long)um_context_of(event->comm));
     if (takes) snprintf(text, room, "rank %d takes of %d: %s%s%s", event->rank, event->peer, words_of_items[event->item], tag, comm);
     else snprintf(text, room, "rank %d %s%s%s%s", event->rank, words_of_calls[event->kind], peer, tag, comm);
 }

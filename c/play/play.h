@@ -81,6 +81,10 @@ bool um_is_looked_at(void);
 
 /* choice.c */
 uint32_t um_look_at_sent(const struct request *request);
+
+/* looks.c */
+uint64_t um_look_of(const struct event *call, uint64_t request);
+void um_remember_look(struct player *player);
 bool um_looks_again(struct player *player);
 void um_forget_looks(struct player *player);
 

@@ -66,8 +66,8 @@ bool um_all_are_gone(void *unused, bool is_settled);
 /* call.c */
 struct sight {
     struct call call;
-    int size;                /* of its communicator; 0: it has none */
-    uint64_t context, first; /* of its messages, and of the first one of its chain */
+    int size;                   /* of its communicator; 0: it has none */
+    uint64_t context, first;    /* of its messages, and of the first one of its chain */
     uint32_t agreed[MAX_RANKS]; /* how many agreements each rank entered there */
     uint8_t members[MAX_RANKS];
     char name[MPI_MAX_OBJECT_NAME];
