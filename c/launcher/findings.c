@@ -100,7 +100,8 @@ static void tell_found_ending(const struct place *place, const struct found *fou
 /* The lines of a place: each ending, with the command that plays a schedule of it. */
 static void tell_place(const struct place *place, const struct found *found) {
     bool is_first = true;
-    if (*found->other) printf("%-10s %-22s not the same again: rank %s\n", "", place->name, found->other);
+    const char *before = found->is_there ? "not the same again: rank " : "";
+    if (*found->other) printf("%-10s %-22s %s%s\n", "", place->name, before, found->other);
     for (int k = 0; k < found->count; k++)
         if (found->endings[k].outcome != RIGHT || um_options.all) {
             tell_found_ending(place, found, &found->endings[k], is_first);

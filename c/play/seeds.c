@@ -40,10 +40,11 @@ static int tell_tally(void) {
     return right == um_tally->played ? 0 : 1;
 }
 
-/* The program does what can't be put back. */
+/* The program does what can't be played, or can't be put back. A search says so in its report, too. */
 void um_refuse_seeds(const char *why) {
     um_unmute();
     um_tell_notes(stderr);
+    if (um_options.limit) dprintf(um_options.report, "ulfm-mpirun: %s\n", why);
     fprintf(stderr, "ulfm-mpirun: %s\n", why);
     um_remove_copies();
     um_leave_process(STATUS_USAGE);

@@ -42,7 +42,8 @@ static void mute(void) {
 
 void um_unmute(void) {
     fflush(stdout);
-    for (int k = 0; k < 2; k++) dup2(streams[k], k + 1);
+    for (int k = 0; k < 2; k++)
+        if (streams[k]) dup2(streams[k], k + 1);
 }
 
 /* All ranks stand before their first event, and their memory is kept. */

@@ -55,6 +55,8 @@ RUNS = [
     ("endless", 4, "--yields 2", "alive 600", 0, r"\Afaults: 0\n\Z", r"\A\Z"),
     ("endless", 3, "", "row 43", 0, r"\Afaults: 0\n\Z", r"\A\Z"),
     ("endless", 3, "--seed 4", "row 43", 0, r"\Afaults: 0\n\Z", r"\A\Z"),
+    ("endless", 2, "--seed 3", "alive 100", 2, r"\A\Z", r"messages on more communicators than a run that is played tells apart\n\Z"),
+    ("endless", 2, "--every-schedule --stops 0 --jobs 1", "alive 100", 1, r"search didn.t end well\n.*\nulfm-mpirun: the program has messages on more communicators", ""),
     ("endless", 4, "", "shrunk 100", 0, r"\Afaults: 0\n\Z", r"\A\Z"),
     ("counted", 4, "--stop 0@1.1", "", 0, r"\A(\d errors\n){3}\Z", r"\A\Z"),
     ("counted", 4, "--stop 0@2.2 --yields 3", "", 0, r"\A(\d errors\n){3}\Z", r"\A\Z"),
