@@ -1,6 +1,7 @@
 /* Contexts of a run that is played. The engine's numbers of them have 45 bits; the controller and the search go by small ones, which contexts get as events
    name them, and which stay through all schedules of a process. What a context was made of, the engine's number says (ulfm_base, path_code). */
 #include "search/search.h"
+#include <stdlib.h>
 
 enum { FIRST_CODE = 63, PARENTS = 31 }; /* first duplicates and shrinks of fewer than PARENTS have 2c + 1 and 2c + 2, all others codes */
 
@@ -12,9 +13,9 @@ static struct contexts {
     } at[CONTEXTS];
 } * contexts;
 
-/* The world's has the number 0. */
+/* The world's has the number 0. In memory that stays, unless processes go on from places of the run, each with numbers of its own. */
 bool um_begin_contexts(void) {
-    contexts = um_shared_memory(sizeof *contexts);
+    contexts = um_options.branches >= 0 ? calloc(1, sizeof *contexts) : um_shared_memory(sizeof *contexts);
     return contexts && um_number_of(0) == 0;
 }
 
