@@ -7,6 +7,8 @@ from pathlib import Path
 
 BEGIN = re.compile(r'( *)(?:pub(?:\([a-z]+\))? )?(?:unsafe )?(?:extern "C" )?fn (\w+)')
 TYPE = re.compile(r"^(?:pub(?:\([a-z]+\))? )?(?:struct|enum) (\w+)", re.MULTILINE)
+# What names the cycle of calls that a function is in.
+CYCLE = re.compile(r"#\[cycle\((\w+)\)\]")
 # The proof file of a function that is left unproved: without the name of a proof it is refused at once.
 PROOF = "-- left unproved\n"
 
@@ -55,12 +57,28 @@ def functions(crate):
                 yield Function(file, first_of(lines, at, begin[1]), opening + 1, lines.index(f"{begin[1]}}}", opening), path)
 
 
+def cycles_of(function, lines):
+    """The cycles that a function's attributes name, as a file, a folder of proofs and a name."""
+    named = (CYCLE.fullmatch(line.strip()) for line in lines[function.first : function.begin])
+    return {(function.file, tuple(function.path[:-1]), it[1]) for it in named if it}
+
+
+def break_up(folder, cycle):
+    """Leaves a cycle of calls that is none any more: its attributes, which the prover refuses there, and its proof."""
+    file, above, name = cycle
+    lines = file.read_text().split("\n")
+    file.write_text("\n".join(it for it in lines if it.strip() != f"#[cycle({name})]"))
+    shutil.rmtree(folder.joinpath("proofs", *above, f"+{name}"), ignore_errors=True)
+
+
 def leave(folder, kept):
     """Leaves all functions of a crate's copy unproved, but methods of traits and those whose paths are kept."""
+    broken = set()
     for it in sorted(functions(folder), key=lambda it: it.begin, reverse=True):
         if "::".join(it.path) in kept:
             continue
         lines = it.file.read_text().split("\n")
+        broken |= cycles_of(it, lines)
         lines[it.begin : it.end] = ["    loop {}"]
         it.file.write_text("\n".join(lines))
         proofs = folder.joinpath("proofs", *it.path)
@@ -69,3 +87,5 @@ def leave(folder, kept):
         for old in ("Answers.antt", "Invariants.antt"):
             (proofs / old).unlink(missing_ok=True)
         (proofs / "Proof.antt").write_text(PROOF)
+    for cycle in broken:
+        break_up(folder, cycle)
