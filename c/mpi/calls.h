@@ -84,6 +84,7 @@ bool um_is_handler(MPI_Errhandler handler);
 int um_succeed(void);
 int um_fail(struct comm *comm, int code);
 int um_answer(struct comm *comm, int code);
+int um_answer_several(struct comm *comm, int code);
 void um_clear_handlers(void);
 
 /* added.c */

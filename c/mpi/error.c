@@ -134,7 +134,7 @@ static void end_call(void) {
 /* Hands an error on a communicator, or on a window of it, to a handler, and returns it. */
 int um_fail_by(MPI_Errhandler handler, struct comm *comm, void *window, const char *name, int code) {
     end_call();
-    if (code == MPIX_ERR_PROC_FAILED || code == MPIX_ERR_PROC_FAILED_PENDING || code == MPI_ERR_IN_STATUS) um_me->recovery.is_told = true;
+    if (code == MPIX_ERR_PROC_FAILED || code == MPIX_ERR_PROC_FAILED_PENDING) um_me->recovery.is_told = true;
     uintptr_t number = (uintptr_t)handler;
     if (handler == MPI_ERRORS_RETURN) return code;
     if (number < FIRST_OWN || !um_is_handler(handler)) end_by(name, code);
@@ -162,6 +162,14 @@ int um_succeed(void) {
 
 /* What a call answers: a communicator that it took away isn't there any more where it went well. */
 int um_answer(struct comm *comm, int code) { return code == MPI_SUCCESS ? um_succeed() : um_fail(comm, code); }
+
+/* What a call of several requests answers, by the first error: a handler gets that, and the call returns MPI_ERR_IN_STATUS (9.3.1). */
+int um_answer_several(struct comm *comm, int code) {
+    if (code == MPI_SUCCESS) return um_succeed();
+    um_me->recovery.is_told = true;
+    um_fail(comm, code);
+    return MPI_ERR_IN_STATUS;
+}
 
 static int add_handler(struct errhandler made, MPI_Errhandler *handler) {
     if (!um_grow(&um_me->mpi.handlers, um_me->mpi.handler_count, sizeof *um_me->mpi.handlers)) return um_fail(0, MPI_ERR_NO_MEM);

@@ -164,18 +164,18 @@ static bool are_done(void *of, bool is_settled) {
     return several->wants_all ? several->over == several->active : several->over > 0;
 }
 
-/* The communicator of the first request with an error, else of the first one that pends, for its handler. */
-static struct comm *comm_of_error(const struct several *several) {
-    if (!several->failed) return 0;
-    for (int k = 0; k < several->count; k++) {
+/* The error of the first request that has one, else of the first one that pends, for the handler of its communicator. */
+static int error_of(const struct several *several, struct comm **comm) {
+    int pends = MPI_SUCCESS;
+    for (int k = 0; several->failed && k < several->count; k++) {
         struct request *request = um_active_at(several->handles[k]);
-        if (request && request->over && request->code != MPI_SUCCESS) return request->comm;
+        bool has_failed = request && request->over && request->code != MPI_SUCCESS;
+        if (!has_failed && (pends || !request || !um_look_at(request))) continue;
+        *comm = request->comm;
+        if (has_failed) return request->code;
+        pends = MPIX_ERR_PROC_FAILED_PENDING;
     }
-    for (int k = 0; k < several->count; k++) {
-        struct request *request = um_active_at(several->handles[k]);
-        if (request && um_look_at(request)) return request->comm;
-    }
-    return 0;
+    return pends;
 }
 
 /* Why these can't be requests, or MPI_SUCCESS; `writes` says that no pointer to write to is null. */
@@ -199,8 +199,8 @@ static void wait_for(struct several *several, bool is_dear) {
 
 /* Tells how all requests ended, or stand, and releases those that are over. */
 static int release_all(struct several *several, MPI_Status statuses[]) {
-    struct comm *comm = comm_of_error(several);
-    int result = several->failed ? MPI_ERR_IN_STATUS : MPI_SUCCESS;
+    struct comm *comm = 0;
+    int failure = error_of(several, &comm);
     for (int k = 0; k < several->count; k++) {
         struct request *request = um_active_at(several->handles[k]);
         MPI_Status *status = statuses ? &statuses[k] : 0;
@@ -208,9 +208,9 @@ static int release_all(struct several *several, MPI_Status statuses[]) {
         if (request && request->over) error = release(&several->handles[k], request, status);
         else if (request) um_tell_status(status, &request->status);
         else if (status) *status = um_empty_status;
-        if (status && result != MPI_SUCCESS) status->MPI_ERROR = error;
+        if (status && several->failed) status->MPI_ERROR = error;
     }
-    return um_answer(comm, result);
+    return um_answer_several(comm, failure);
 }
 
 /* The last one that isn't over, or null. */
@@ -277,7 +277,8 @@ int MPI_Testany(int count, MPI_Request handles[], int *index, int *flag, MPI_Sta
 
 /* Tells of all that are over or pend. */
 static int release_some(struct several *several, int *outcount, int indices[], MPI_Status statuses[]) {
-    struct comm *comm = comm_of_error(several);
+    struct comm *comm = 0;
+    int failure = error_of(several, &comm);
     int found = 0;
     *outcount = several->active ? 0 : MPI_UNDEFINED;
     for (int k = 0; several->active && k < several->count; k++) {
@@ -289,7 +290,7 @@ static int release_some(struct several *several, int *outcount, int indices[], M
         indices[found++] = k;
     }
     if (several->active) *outcount = found;
-    return um_answer(comm, several->failed ? MPI_ERR_IN_STATUS : MPI_SUCCESS);
+    return um_answer_several(comm, failure);
 }
 
 int MPI_Waitsome(int incount, MPI_Request handles[], int *outcount, int indices[], MPI_Status statuses[]) {

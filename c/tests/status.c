@@ -28,6 +28,30 @@ static void truncated_of_two(void) {
     CHECK(class_of(statuses[0].MPI_ERROR) == MPI_ERR_TRUNCATE && statuses[1].MPI_ERROR == MPI_SUCCESS);
 }
 
+/* A call of several requests hands the error of one to the handler of its communicator, and returns that it is in the statuses (9.3.1). */
+static int handed;
+static void hand(MPI_Comm *comm, int *code, ...) { handed = class_of(*code) * (*comm != MPI_COMM_NULL); }
+
+static void handed_of_several(void) {
+    int x[3] = {1, 2, 3}, y[3], count = 0, at[2], flag = 0;
+    MPI_Errhandler handler;
+    MPI_Comm_create_errhandler(hand, &handler);
+    MPI_Comm_set_errhandler(MPI_COMM_SELF, handler);
+    for (int how = 0; how < 4; how++) {
+        MPI_Request two[2];
+        MPI_Status told[2];
+        handed = 0;
+        for (int k = 0; k < 2; k++) MPI_Irecv(&y[k], k, MPI_INT, 0, 60, MPI_COMM_SELF, &two[k]);
+        for (int k = 0; k < 2; k++) MPI_Send(x, 1, MPI_INT, 0, 60, MPI_COMM_SELF);
+        int code = how == 0 ? MPI_Waitall(2, two, told) : how == 1 ? MPI_Waitsome(2, two, &count, at, told)
+                 : how == 2 ? MPI_Testsome(2, two, &count, at, told) : MPI_Testall(2, two, &flag, told);
+        CHECK(class_of(code) == MPI_ERR_IN_STATUS && handed == MPI_ERR_TRUNCATE && class_of(told[0].MPI_ERROR) == MPI_ERR_TRUNCATE);
+        CHECK(two[0] == MPI_REQUEST_NULL && two[1] == MPI_REQUEST_NULL && told[1].MPI_ERROR == MPI_SUCCESS);
+    }
+    MPI_Comm_set_errhandler(MPI_COMM_SELF, MPI_ERRORS_RETURN);
+    MPI_Errhandler_free(&handler);
+}
+
 /* Calls leave the error code of a status as it was, but for those that return MPI_ERR_IN_STATUS (3.2.5). */
 enum { KEPT = 77, MESSAGES = 18 };
 static MPI_Status status, statuses[3];
@@ -115,6 +139,7 @@ int main(int argc, char **argv) {
     MPI_Comm_rank(world, &rank);
     MPI_Comm_set_errhandler(world, MPI_ERRORS_RETURN);
     truncated_of_two();
+    handed_of_several();
     kept();
     empty();
     MPI_Reduce(&faults, &all, 1, MPI_INT, MPI_SUM, 0, world);
