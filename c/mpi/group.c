@@ -161,15 +161,15 @@ int MPI_Group_excl(MPI_Group group, int count, const int positions[], MPI_Group 
     return incl_or_excl(of, count, positions, false, made);
 }
 
-/* The positions of ranges (first, last, stride), or -1: there are more than ranks, or a stride is 0. */
+/* The positions of ranges (first, last, stride), or -1: there are more than ranks, or a stride is 0 or leads away from the last one. */
 static int positions_of(int count, int ranges[][3], int positions[MAX_RANKS]) {
     int found = 0;
     for (int k = 0; k < count; k++) {
-        int stride = ranges[k][2];
-        if (stride == 0) return -1;
-        for (int at = ranges[k][0]; stride > 0 ? at <= ranges[k][1] : at >= ranges[k][1]; at += stride) {
+        int first = ranges[k][0], last = ranges[k][1], stride = ranges[k][2];
+        if (stride == 0 || (stride > 0 ? first > last : first < last)) return -1;
+        for (long at = first; stride > 0 ? at <= last : at >= last; at += stride) {
             if (found == MAX_RANKS) return -1;
-            positions[found++] = at;
+            positions[found++] = (int)at;
         }
     }
     return found;

@@ -89,6 +89,8 @@ static void handles(void) {
     REFUSED(MPI_ERR_GROUP, MPI_Comm_create(world, MPI_GROUP_NULL, &made));
     REFUSED(MPI_ERR_GROUP, MPI_Group_size(MPI_GROUP_NULL, &count));
     REFUSED(MPI_ERR_RANK, MPI_Group_incl(group, 1, past, &another));
+    REFUSED(MPI_ERR_ARG, MPI_Group_range_incl(group, 1, (int[][3]){{1, 0, 1}}, &another));
+    REFUSED(MPI_ERR_ARG, MPI_Group_range_excl(group, 1, (int[][3]){{0, 1, -3}}, &another));
     REFUSED(MPI_ERR_TYPE, MPI_Type_free(&type));
     REFUSED(MPI_ERR_TYPE, MPI_Type_size(MPI_DATATYPE_NULL, &count));
     REFUSED(MPI_ERR_COUNT, MPI_Type_contiguous(-1, MPI_INT, &type));
