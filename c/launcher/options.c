@@ -39,7 +39,7 @@ static const char usage[] =
     "  --json             with --every-schedule: a line of JSON for each place, in place of the table\n"
     "  --version          tells the version\n"
     "\n"
-    "Its status is 0 where each rank that wasn't stopped by plan ended with 0, else that of the first rank that did not. MPI_Abort: its code.\n"
+    "Its status is 0 where each rank that wasn't stopped by plan ended with 0, else that of the first that did not. MPI_Abort: its code, 1 for 0.\n"
     "96: an error was fatal. 97: not the same again. 98: nobody could move any more. 99: the time was over.\n"
     "128 + S: a rank crashed by signal S. 2: a wrong command line.\n";
 
