@@ -38,7 +38,7 @@ static bool uses_duplicate(void) {
     for (uint32_t r = 0; r < actor_count; r++)
         for (size_t k = 0; k < actors[r].count; k++) {
             const struct step *at = &actors[r].steps[k];
-            uses = uses || at->comm == 1 || (!strcmp(at->op, "dup") && at->comm == 0);
+            uses = uses || at->comm == 1 || (!strncmp(at->op, "dup", 3) && at->comm == 0);
         }
     return uses;
 }

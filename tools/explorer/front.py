@@ -290,11 +290,6 @@ def plain(text, stops=None):
     return "\n".join(" ".join(map(str, line)) for line in lines) + "\n"
 
 
-def asks_again(text):
-    """Whether a step of a job asks for a further communicator."""
-    return any(step.get("again") for step in written_out(read(text)))
-
-
 def explore(text, *options, stops=None):
     """The status and the lines of the explorer for a job's text, with these stops."""
     ran = subprocess.run([PROGRAM, *options], input=plain(text, stops), capture_output=True, text=True, check=False)
