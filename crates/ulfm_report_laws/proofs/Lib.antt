@@ -46,3 +46,4 @@ pub mod Counted
 pub mod Revoking
 pub mod Refused
 pub mod Each
+pub mod FirstChildren

@@ -12,3 +12,4 @@ pub mod Contents
 pub mod Reader
 pub mod Lawful
 pub mod Pending
+pub mod FirstMade

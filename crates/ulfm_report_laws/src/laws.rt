@@ -1,8 +1,16 @@
 //! The laws of reports, whichever engine produced them.
-ghost use Rattle.std.specs.Prelude.{List};
-ghost use Rattle.ulfm_script.specs.Deciding.{Known};
+ghost use Rattle.std.specs.Prelude.{◌<◌, Bool, false, List};
+ghost use Rattle.ulfm_base.specs.declared.context.Context.{Context};
+ghost use Rattle.ulfm_base.specs.declared.decision.Decision.{Decision};
+ghost use Rattle.ulfm_base.specs.Topic.{shrink_topic};
+ghost use Rattle.ulfm_log.specs.State.{State};
+ghost use Rattle.ulfm_job.specs.declared.step.Step.TheVariants.{Shrink};
+ghost use Rattle.ulfm_answer.specs.declared.answer.StepAnswer.{StepAnswer};
+ghost use Rattle.ulfm_script.specs.Calls.{AnswersDup, AnswersEntry, EntersSome};
+ghost use Rattle.ulfm_script.specs.Deciding.{AnswersAdoption, Known};
 ghost use Rattle.ulfm_job.specs.Job.{JobView};
 ghost use Rattle.ulfm_answer.specs.Report.{Report};
+ghost use Rattle.ulfm_report_laws.specs.FirstMade.{AnswersFirstDup, EntersFirstShrink, GivesFirstShrink, RefusesFirstShrink};
 ghost use Rattle.ulfm_report_laws.specs.Flow.{Inboxes};
 ghost use Rattle.ulfm_report_laws.specs.Lawful.{AreProduced, CausesComeFirst, LawfulReport, LawfulSoFar};
 ghost use Rattle.ulfm_report_laws.specs.Pending.{PendsExactly, RevokedPairsNone, RevokedRefusesNone};
@@ -48,4 +56,18 @@ pub fn revoked_refuses_none()
 /// acknowledged; and it is left open where its receive has got nothing and didn't end, and one of these doesn't hold (ULFM, failure notification).
 pub fn pends_exactly()
     ensures { (job : JobView) (inboxes : Inboxes) (knows : List Known) (reports : List Report) → LawfulReport job inboxes knows reports → PendsExactly reports }
+{}
+
+/// A duplicate of a communicator 0 to 62 that doesn't ask for a further one is the first, of one of 0 to 30, and has the number that jobs name; or
+/// it is refused, as `already made` where there was one, else as `no context` past 30 (MPI 4.0, 7.4.2).
+pub fn first_dups_as_ever()
+    ensures { (r new : State) (comm : Context) (answer : StepAnswer) → comm.number < 63 → AnswersDup r comm false answer new → AnswersFirstDup r comm answer new }
+{}
+
+/// A shrink of a communicator 0 to 62 that doesn't ask for a further one is the first, of one of 0 to 30, or is refused, as `already made` where one
+/// was entered, else as `no context` past 30. The communicator that a first shrink of one of 0 to 30 gives has the number that jobs name (ULFM, shrink).
+pub fn first_shrinks_as_ever()
+    ensures refused { (r new : State) (comm : Context) (answer : StepAnswer) → comm.number < 63 → AnswersEntry r (Shrink comm false) answer new → RefusesFirstShrink r comm answer new }
+    ensures entered { (r new : State) (comm : Context) → comm.number < 63 → EntersSome r (Shrink comm false) new → EntersFirstShrink r comm new }
+    ensures adopted { (r new : State) (comm : Context) (again : Bool) (held : Decision) (answer : StepAnswer) → comm.number < 31 → AnswersAdoption r (Shrink comm again) (shrink_topic comm 0) held answer new → GivesFirstShrink comm answer }
 {}

@@ -56,6 +56,8 @@
 //! - [`revoked_refuses_none`]: no shrink and no agreement is refused because its communicator is revoked (`RevokedRefusesNone`, Pending.antt).
 //! - [`pends_exactly`]: of waits that got nothing, those are `pending` whose receive is from any source, where a member that is known to have failed
 //!   isn't acknowledged. The others are left open (`PendsExactly`, Pending.antt).
+//! - [`first_dups_as_ever`], [`first_shrinks_as_ever`]: without `again` a communicator of 0 to 62 has one duplicate and one shrink, and past 30 none,
+//!   with the refusals and the numbers that jobs always had (`AnswersFirstDup`, `EntersFirstShrink`, FirstMade.antt).
 //!
 //! Not here: that an engine produces such reports. Each shows that by its own contract, and each promises something that the other can't: see
 //! `ulfm_replay` and `ulfm_run`.
