@@ -63,12 +63,26 @@ static uint32_t acknowledged_bits(const struct comm *comm) {
     return __real_ulfm_get_failed(um_me->slot, comm->context, &failed) == ULFM_OK ? bits_of(&failed, comm->acknowledged) : 0;
 }
 
+static void look_at_agreement(struct request *request);
+
+/* Whether a request of this rank for an agreement of a communicator stands. It may be decided here and not at another member yet, so that the next one is
+   refused at each alike. */
+static bool is_asked_for(const struct comm *comm) {
+    for (int k = 0; k < um_me->mpi.request_count; k++) {
+        const struct request *request = um_me->mpi.requests[k];
+        if (!request || request->look != look_at_agreement || request->context != comm->context) continue;
+        if (((const struct agreement *)request->more)->comm) return true; /* not the one that asks now */
+    }
+    return false;
+}
+
 /* The AND of all flags, and MPIX_ERR_PROC_FAILED alike at all members where one is missing whose failure isn't acknowledged at each. One agreement
    carries the acknowledged ranks in bits 24 to 31 and the flag in bits 0 to 22, of which the last stands for all above. Bit 23 says that this is
    all of it; where it isn't for some member, a second agreement has the whole flags. */
 static int begin(struct agreement *agreement, struct comm *comm, int *flag) {
     uint32_t own = (uint32_t)*flag;
     bool is_short = (own & 0xffc00000) == 0 || (own & 0xffc00000) == 0xffc00000;
+    if (is_asked_for(comm)) return ONE_AT_A_TIME;
     *agreement = (struct agreement){.comm = comm, .flag = flag, .own = own};
     return enter(agreement, acknowledged_bits(comm) << 24 | (uint32_t)is_short << 23 | (own & 0x7fffff));
 }

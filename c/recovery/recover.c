@@ -49,9 +49,23 @@ static bool is_shrunk(void *of, bool is_settled) {
     return shrink->code != ULFM_NOT_YET;
 }
 
+static void look_at_shrink(struct request *request);
+
+/* Whether a request of this rank for a shrink of a communicator of this group stands, decided or not: see is_asked_for of agree.c. */
+static bool is_asked_for(const struct comm *comm) {
+    for (int k = 0; k < um_me->mpi.request_count; k++) {
+        const struct request *request = um_me->mpi.requests[k];
+        if (!request || request->look != look_at_shrink) continue;
+        const struct shrink *shrink = request->more;
+        if (shrink->comm && shrink->context == comm->chain->plane[0].context) return true;
+    }
+    return false;
+}
+
 /* Enters a shrink, the next one of the first context of the group: all communicators of one group are shrunk by that, since numbers of contexts that
    are made of duplicates' have few to come after them. */
 static int enter(struct shrink *shrink, struct comm *comm, MPI_Comm *handle) {
+    if (is_asked_for(comm)) return ONE_AT_A_TIME;
     *shrink = (struct shrink){.comm = comm, .context = comm->chain->plane[0].context, .handle = handle};
     if (comm->is_part) return NOT_ON_PARTS;
     shrink->code = ulfm_enter_shrink_again(um_me->slot, shrink->context);

@@ -136,6 +136,22 @@ static void overlapping(void) {
     MPI_Comm_free(&part);
 }
 
+/* A request that stands is in the way at each rank, also where it was decided before the next one is asked for. */
+static void one_at_a_time(void) {
+    int flag = 3, other = 1;
+    MPI_Comm made, more;
+    MPI_Request request, second;
+    CHECK(MPIX_Comm_iagree(world, &flag, &request) == MPI_SUCCESS);
+    usleep(rank * 2000);
+    CHECK(class_of(MPIX_Comm_iagree(world, &other, &second)) == MPI_ERR_OTHER && second == MPI_REQUEST_NULL);
+    CHECK(class_of(MPIX_Comm_agree(world, &other)) == MPI_ERR_OTHER && other == 1);
+    CHECK(end(&request) == MPI_SUCCESS && flag == 3);
+    CHECK(MPIX_Comm_ishrink(world, &made, &request) == MPI_SUCCESS);
+    usleep(rank * 2000);
+    CHECK(class_of(MPIX_Comm_ishrink(world, &more, &second)) == MPI_ERR_OTHER && second == MPI_REQUEST_NULL);
+    CHECK(end(&request) == MPI_SUCCESS && MPI_Comm_free(&made) == MPI_SUCCESS);
+}
+
 /* Agreements and shrinks that don't block; one of each of a communicator at a time. */
 static void recoveries(void) {
     int flag = rank == 0 ? 6 : 7, other = 1, x = 0, members, sum;
@@ -162,6 +178,7 @@ static void recoveries(void) {
         CHECK(MPIX_Comm_agree(world, &flag) == MPI_SUCCESS);
     }
     CHECK(flag == 0x40000001);
+    one_at_a_time();
     CHECK(MPIX_Comm_ishrink(world, &made, &request) == MPI_SUCCESS);
     MPI_Comm_size(world, &members);
     CHECK(end(&request) == MPI_SUCCESS && made != MPI_COMM_NULL);
