@@ -7,6 +7,7 @@
 //! - `world.rt`: events of a world one by one, in `world/`: rows of events, which decisions are adopted, and a whole recovery round by round
 //! - `matching.rt`: the matcher of `ulfm_match`; `matchers.rt`: the same calls to it and to its two plain lists
 //! - `base.rt`, `board.rt`: groups and bodies; seats of one board
+//! - `further.rt`: ranks and their seats on a communicator past 62
 //! - `carrier.rt`: the ends of both carriers, by what `carrier/` lets ranks do with them
 //! - `run.rt`: jobs that threads run, a subject a file in `run/`; `run/laid.rt` is the carrier that these tests lay over another one
 //! - `reach.rt`: the search, over the two counters of `reach/counters.rt`
@@ -23,6 +24,8 @@ mod base;
 mod board;
 #[cfg(test)]
 mod carrier;
+#[cfg(test)]
+mod further;
 #[cfg(test)]
 mod matchers;
 #[cfg(test)]
