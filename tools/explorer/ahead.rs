@@ -1,10 +1,29 @@
 //! What may still come to a rank. Where this says no, it can't come in any schedule.
 
 use crate::items::Item;
-use crate::job::{Context, Job, Place, Step};
+use crate::job::{Comm, Context, Job, Place, Step};
 use crate::rank::{Fate, Source};
 use crate::topics::{Purpose, Topic};
 use crate::world::World;
+use std::collections::BTreeSet;
+
+/// Of which contexts a revocation may still come.
+pub struct Revocations {
+    /// Of any, since a step that may be played revokes what another one is answered.
+    any: bool,
+    contexts: BTreeSet<Context>,
+}
+
+impl Revocations {
+    pub fn has(&self, context: Context) -> bool {
+        self.any || self.contexts.contains(&context)
+    }
+
+    /// Whether they may be of none but these.
+    pub fn are_among(&self, contexts: &BTreeSet<Context>) -> bool {
+        !self.any && self.contexts.is_subset(contexts)
+    }
+}
 
 impl World {
     /// Whether a rank runs and may stop, or die. A stop that may be skipped counts too.
@@ -31,27 +50,29 @@ impl World {
     /// Whether a context may still become revoked at a rank: a revocation of it is on its way to some rank, or may be called
     /// for.
     pub fn may_be_revoked(&self, job: &Job, rank: usize, context: Context) -> bool {
-        !self.ranks[rank].is_revoked(context) && self.revocations_ahead(job) >> context & 1 == 1
+        !self.ranks[rank].is_revoked(context) && self.revocations_ahead(job).has(context)
     }
 
     /// Whether any context may still become revoked at a rank.
     pub fn may_be_revoked_anywhere(&self, job: &Job, rank: usize) -> bool {
-        self.revocations_ahead(job) & !self.ranks[rank].revoked != 0
+        !self.revocations_ahead(job).are_among(&self.ranks[rank].revoked)
     }
 
-    /// The contexts of which a revocation is on its way, or a call of it ahead, a bit for each.
-    pub fn revocations_ahead(&self, job: &Job) -> u64 {
-        let mut found = 0;
+    /// The contexts of which a revocation is on its way, or a call of it ahead.
+    pub fn revocations_ahead(&self, job: &Job) -> Revocations {
+        let mut found = Revocations { any: false, contexts: BTreeSet::new() };
         for rank in 0..job.ranks() {
             for step in self.steps_ahead(job, rank) {
-                if let Step::Revoke { comm } = step {
-                    found |= 1 << comm;
+                match step {
+                    Step::Revoke { comm: Comm::Number(context) } => _ = found.contexts.insert(*context),
+                    Step::Revoke { comm: Comm::Made { .. } } => found.any = true,
+                    _ => {}
                 }
             }
             let owed = self.ranks[rank].outboxes.iter().flatten();
             for item in owed.chain(self.inboxes[rank].iter().map(|(_, item)| item)) {
                 if let Item::Revoke(context) = item {
-                    found |= 1 << context;
+                    found.contexts.insert(*context);
                 }
             }
         }
@@ -70,7 +91,7 @@ impl World {
     /// the communicator, or one of those behind. About shrinks this says nothing: their entries are asked for again and again.
     pub fn may_ask_about(&self, job: &Job, rank: usize, topic: Topic) -> bool {
         let Purpose::Agree(round) = topic.purpose else { return true };
-        let is_one = |step: &&Step| matches!(step, Step::Agree { comm, .. } if *comm == topic.context);
+        let is_one = |step: &&Step<Comm>| matches!(step, Step::Agree { comm, .. } if comm.may_be(topic.context));
         let ahead = self.steps_ahead(job, rank).filter(is_one).count();
         let next = self.ranks[rank].agreed_on(topic.context);
         (next as usize..next as usize + ahead).contains(&(round as usize))

@@ -1,5 +1,6 @@
 """Builds the explorer of all outcomes, and hands jobs over to it in their plain form: `<ranks> <capacity>`, then a line a step. In it
-steps are named by numbers alone, and an op that says `again` ends with `-again`. A step ends with its conditions:
+steps are named by numbers alone, an op that says `again` ends with `-again`, and a communicator by name is the number of the step that makes it, `=`,
+and the name in hexadecimal digits. A step ends with its conditions:
 `<alternative> <step> <is or not> <words>` for each, the words in hexadecimal digits and parted by commas."""
 import collections
 import os
@@ -50,6 +51,8 @@ def build():
 def words_of(step, number_of):
     """The words of a step, in the plain form."""
     op, comm = step["op"], step.get("comm", 0)
+    if isinstance(comm, str):
+        comm = f"{number_of(comm)}={comm.encode().hex()}"
     if op == "send":
         body = step["body"].encode()[:LONGEST_KEPT].hex() or "-"
         return [op, step["to"], step["tag"], body, comm]
@@ -129,8 +132,9 @@ def iterated(step, block, i):
     found = {key: f"{text}-{i}" if key in ("name", "body", "text") else text for key, text in step.items()}
     if isinstance(step.get("tag"), str):
         found["tag"] = i + int(step["tag"].removeprefix("i").removeprefix("+") or 0)
-    if "req" in step:
-        found["req"] = referred(step["req"])
+    for key in ("req", "comm"):
+        if key in step:
+            found[key] = referred(step[key])
     if "if" in step:
         found["if"] = condition(step["if"]) if isinstance(step["if"], dict) else [condition(table) for table in step["if"]]
     return found
@@ -288,6 +292,11 @@ def plain(text, stops=None):
         lengths[rank] += 1
     lines += [[rank, "stop"] for rank, at in stops.items() if at == lengths[rank]]
     return "\n".join(" ".join(map(str, line)) for line in lines) + "\n"
+
+
+def has_names(text):
+    """Whether a step of a job calls its communicator by a name, which ulfm.h hasn't."""
+    return any(isinstance(step.get("comm"), str) for step in written_out(read(text)))
 
 
 def explore(text, *options, stops=None):

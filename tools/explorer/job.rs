@@ -15,21 +15,29 @@ pub type Place = u8;
 /// The body of a letter, by its place in the job's list of bodies.
 pub type Body = u16;
 
-/// One step of a rank, in the words of a job.
+/// The communicator of a step of a job: by its number, or the one that an earlier step of the rank was answered, which has a name. The name stands
+/// among the bodies.
 #[derive(Clone, Copy, Debug, PartialEq, Eq)]
-pub enum Step {
-    Send { to: Place, tag: u16, body: Body, comm: Context },
-    Recv { from: Option<Place>, tag: Option<u16>, room: u16, comm: Context },
+pub enum Comm {
+    Number(Context),
+    Made { by: u16, name: Body },
+}
+
+/// One step of a rank, in the words of a job, or as it is played: then its communicator is a context.
+#[derive(Clone, Copy, Debug, PartialEq, Eq)]
+pub enum Step<C = Context> {
+    Send { to: Place, tag: u16, body: Body, comm: C },
+    Recv { from: Option<Place>, tag: Option<u16>, room: u16, comm: C },
     Wait { req: u16 },
-    Probe { from: Option<Place>, tag: Option<u16>, comm: Context },
+    Probe { from: Option<Place>, tag: Option<u16>, comm: C },
     Mrecv { req: u16, room: u16 },
     Cancel { req: u16 },
-    Failed { comm: Context },
-    Ack { count: u8, comm: Context },
-    Revoke { comm: Context },
-    Dup { comm: Context, again: bool },
-    Shrink { comm: Context, again: bool },
-    Agree { flag: u32, comm: Context },
+    Failed { comm: C },
+    Ack { count: u8, comm: C },
+    Revoke { comm: C },
+    Dup { comm: C, again: bool },
+    Shrink { comm: C, again: bool },
+    Agree { flag: u32, comm: C },
     /// Its text stands among the bodies.
     Note { text: Body },
     Stop,
@@ -39,7 +47,7 @@ pub enum Step {
 pub struct Job {
     pub capacity: usize,
     /// The steps of each rank, those behind its `stop` too.
-    pub steps: Vec<Vec<Step>>,
+    pub steps: Vec<Vec<Step<Comm>>>,
     /// The alternatives of each of these. One of them has to hold, where there are any.
     pub alternatives: Vec<Vec<Vec<Alternative>>>,
     /// Each body and each text of a note once, in lower case hexadecimal digits.
@@ -54,13 +62,59 @@ pub struct Job {
     pub tells_ends: bool,
 }
 
-impl Step {
+impl Comm {
+    /// Whether it may be this context. What a step was answered may be any.
+    pub fn may_be(&self, context: Context) -> bool {
+        match *self {
+            Comm::Number(number) => number == context,
+            Comm::Made { .. } => true,
+        }
+    }
+}
+
+impl<C: Copy> Step<C> {
+    /// The step with another word for its communicator.
+    pub fn on<D>(&self, other: impl Fn(C) -> D) -> Step<D> {
+        match *self {
+            Step::Send { to, tag, body, comm } => Step::Send { to, tag, body, comm: other(comm) },
+            Step::Recv { from, tag, room, comm } => Step::Recv { from, tag, room, comm: other(comm) },
+            Step::Wait { req } => Step::Wait { req },
+            Step::Probe { from, tag, comm } => Step::Probe { from, tag, comm: other(comm) },
+            Step::Mrecv { req, room } => Step::Mrecv { req, room },
+            Step::Cancel { req } => Step::Cancel { req },
+            Step::Failed { comm } => Step::Failed { comm: other(comm) },
+            Step::Ack { count, comm } => Step::Ack { count, comm: other(comm) },
+            Step::Revoke { comm } => Step::Revoke { comm: other(comm) },
+            Step::Dup { comm, again } => Step::Dup { comm: other(comm), again },
+            Step::Shrink { comm, again } => Step::Shrink { comm: other(comm), again },
+            Step::Agree { flag, comm } => Step::Agree { flag, comm: other(comm) },
+            Step::Note { text } => Step::Note { text },
+            Step::Stop => Step::Stop,
+        }
+    }
+
+    /// Its communicator, if it has one.
+    pub fn comm(&self) -> Option<C> {
+        match *self {
+            Step::Send { comm, .. } | Step::Recv { comm, .. } | Step::Probe { comm, .. } | Step::Failed { comm } | Step::Ack { comm, .. } => Some(comm),
+            Step::Revoke { comm } | Step::Dup { comm, .. } | Step::Shrink { comm, .. } | Step::Agree { comm, .. } => Some(comm),
+            _ => None,
+        }
+    }
+}
+
+impl Step<Comm> {
     /// Whether it may take a letter of any source in a context.
     pub fn asks_any(&self, context: Context) -> bool {
-        match *self {
-            Step::Recv { from: None, comm, .. } | Step::Probe { from: None, comm, .. } => comm == context,
+        match self {
+            Step::Recv { from: None, comm, .. } | Step::Probe { from: None, comm, .. } => comm.may_be(context),
             _ => false,
         }
+    }
+
+    /// Whether it is on the communicator that the step of this number is answered.
+    pub fn names(&self, number: usize) -> bool {
+        matches!(self.comm(), Some(Comm::Made { by, .. }) if by as usize == number)
     }
 }
 
@@ -85,36 +139,45 @@ impl Job {
         Ok(job)
     }
 
-    fn step(&mut self, words: &mut SplitWhitespace) -> Option<Step> {
+    fn step(&mut self, words: &mut SplitWhitespace) -> Option<Step<Comm>> {
         Some(match words.next()? {
             "send" => {
                 let (to, tag) = (number(words)?, number(words)?);
                 let body = self.body(words.next()?);
-                Step::Send { to, tag, body, comm: context(words)? }
+                Step::Send { to, tag, body, comm: self.comm(words)? }
             }
             "recv" => {
                 let (from, tag) = (number_or_any(words)?, number_or_any(words)?);
-                Step::Recv { from, tag, room: number(words)?, comm: context(words)? }
+                Step::Recv { from, tag, room: number(words)?, comm: self.comm(words)? }
             }
             "wait" => Step::Wait { req: number(words)? },
             "probe" => {
                 let (from, tag) = (number_or_any(words)?, number_or_any(words)?);
-                Step::Probe { from, tag, comm: context(words)? }
+                Step::Probe { from, tag, comm: self.comm(words)? }
             }
             "mrecv" => Step::Mrecv { req: number(words)?, room: number(words)? },
             "cancel" => Step::Cancel { req: number(words)? },
-            "failed" => Step::Failed { comm: context(words)? },
-            "ack" => Step::Ack { count: number(words)?, comm: context(words)? },
-            "revoke" => Step::Revoke { comm: context(words)? },
-            "dup" => Step::Dup { comm: context(words)?, again: false },
-            "dup-again" => Step::Dup { comm: context(words)?, again: true },
-            "shrink" => Step::Shrink { comm: context(words)?, again: false },
-            "shrink-again" => Step::Shrink { comm: context(words)?, again: true },
-            "agree" => Step::Agree { flag: number(words)?, comm: context(words)? },
+            "failed" => Step::Failed { comm: self.comm(words)? },
+            "ack" => Step::Ack { count: number(words)?, comm: self.comm(words)? },
+            "revoke" => Step::Revoke { comm: self.comm(words)? },
+            "dup" => Step::Dup { comm: self.comm(words)?, again: false },
+            "dup-again" => Step::Dup { comm: self.comm(words)?, again: true },
+            "shrink" => Step::Shrink { comm: self.comm(words)?, again: false },
+            "shrink-again" => Step::Shrink { comm: self.comm(words)?, again: true },
+            "agree" => Step::Agree { flag: number(words)?, comm: self.comm(words)? },
             "note" => Step::Note { text: self.body(words.next()?) },
             "stop" => Step::Stop,
             _ => return None,
         })
+    }
+
+    /// A communicator: its number, or the number of an earlier step, `=`, and its name in hexadecimal digits.
+    fn comm(&mut self, words: &mut SplitWhitespace) -> Option<Comm> {
+        let word = words.next()?;
+        match word.split_once('=') {
+            Some((by, name)) => Some(Comm::Made { by: by.parse().ok()?, name: self.body(name) }),
+            None => word.parse().ok().filter(|context| *context <= LAST_CONTEXT).map(Comm::Number),
+        }
     }
 
     /// The place of a body in the list, in which equal bodies stand once.
@@ -136,6 +199,10 @@ impl Job {
                 Step::Wait { req } | Step::Mrecv { req, .. } | Step::Cancel { req } => *req = moved(*req),
                 _ => {}
             }
+            *step = step.on(|comm| match comm {
+                Comm::Made { by, name } => Comm::Made { by: moved(by), name },
+                number => number,
+            });
         }
         steps.insert(at, Step::Stop);
         for condition in self.alternatives[rank].iter_mut().flatten().flatten() {
@@ -196,10 +263,6 @@ pub fn text(digits: &str) -> Option<String> {
 
 fn number<N: std::str::FromStr>(words: &mut SplitWhitespace) -> Option<N> {
     words.next()?.parse().ok()
-}
-
-fn context(words: &mut SplitWhitespace) -> Option<Context> {
-    number(words).filter(|context| *context <= LAST_CONTEXT)
 }
 
 fn number_or_any<N: std::str::FromStr>(words: &mut SplitWhitespace) -> Option<Option<N>> {

@@ -1,5 +1,6 @@
 """Made-up jobs: small ones, with what schedules can turn: stops, full inboxes, revocations, shrinks, agreements, receives and probes
-from any source, cancels, duplicates and acknowledgements; some with further duplicates and shrinks of one communicator."""
+from any source, cancels, duplicates and acknowledgements; some with further duplicates and shrinks of one communicator, and steps on what these
+made, by its name."""
 
 from . import reacting
 from .toml_text import job_text
@@ -20,9 +21,10 @@ class Maker:
         self.comms = {rank: [0] for rank in range(self.ranks)}
 
     def add(self, rank, op, **keys):
-        """One more step, whose number of its rank this gives."""
-        if keys.get("comm") == 0:
-            del keys["comm"]
+        """One more step, whose number of its rank this gives. A name that the rank has no step of is none of its communicators."""
+        comm = keys.get("comm", 0)
+        if comm == 0 or isinstance(comm, str) and not any(one == rank and more.get("name") == comm for one, _, more in self.steps):
+            keys.pop("comm", None)
         self.steps.append((rank, op, keys))
         return sum(1 for step in self.steps if step[0] == rank) - 1
 
@@ -102,13 +104,22 @@ class Maker:
         """The key of a step that asks for a further communicator, now and then."""
         return {"again": True} if self.of_more and self.of_more.random() < 0.7 else {}
 
+    def child(self, comm, number):
+        """The first duplicate or shrink of a communicator by its number, or that one, where it has a name, whose child has none."""
+        return comm if isinstance(comm, str) else 2 * comm + number
+
     def further(self):
-        """Duplicates or shrinks of one communicator in a row, by all or by some."""
+        """Duplicates or shrinks of one communicator in a row, by all or by some, with names for later steps; now and then one of them is revoked by
+        its name."""
         op, comm = self.of_more.choice(["dup", "shrink", "shrink"]), self.comm(self.rank())
-        for _ in range(2):
+        for _ in range(self.of_more.choice([1, 2])):
+            name = f"made-{len(self.steps)}"
             for rank in range(self.ranks):
                 if self.of_more.random() < 0.95:
-                    self.add(rank, op, comm=comm, again=self.of_more.random() < 0.9)
+                    self.add(rank, op, comm=comm, again=self.of_more.random() < 0.9, name=name)
+                    self.comms[rank].append(name)
+            if self.of_more.random() < 0.3:
+                self.add(self.rank(), "revoke", comm=name)
 
     def shrink(self):
         """A shrink by all or by some. Who stopped before takes no part."""
@@ -116,7 +127,7 @@ class Maker:
         for rank in range(self.ranks):
             if self.chance.random() < 0.9:
                 self.add(rank, "shrink", comm=comm, **self.again())
-                self.comms[rank].append(2 * comm + 2)
+                self.comms[rank].append(self.child(comm, 2))
 
     def agree(self):
         """An agreement by all or by some, now and then on what was revoked just before, and another one on the same communicator,
@@ -140,7 +151,7 @@ class Maker:
         for rank in range(self.ranks):
             if self.chance.random() < 0.6:
                 self.add(rank, "dup", comm=comm, **self.again())
-                self.comms[rank].append(2 * comm + 1)
+                self.comms[rank].append(self.child(comm, 1))
 
     def late_letter(self):
         """A letter of a rank that stops, and one of a rank that knows of the stop, both for any receive of a third."""

@@ -47,14 +47,16 @@ pub struct Rank {
     /// Whether the next step is a shrink or an agreement that was entered.
     pub is_open: bool,
     pub stopped: bool,
+    /// The communicators that answered steps made, by their numbers, as long as a step that is ahead names them.
+    pub made: BTreeMap<usize, Context>,
     /// The communicators that were made here.
     pub groups: BTreeMap<Context, Group>,
     /// The ranks that are known to have failed, in the order of their notices.
     pub known: Vec<Place>,
     /// How many failures were acknowledged for a communicator, where some were.
     pub acknowledged: BTreeMap<Context, u8>,
-    /// The contexts that are revoked here, a bit for each.
-    pub revoked: u64,
+    /// The contexts that are revoked here.
+    pub revoked: BTreeSet<Context>,
     /// The requests that weren't released, by the steps that posted them, and so in the order of the posts.
     pub requests: BTreeMap<u16, (Pattern, Fate)>,
     /// What probes found and no receive was given, by the steps that probed.
@@ -86,10 +88,11 @@ impl Rank {
             missed: BTreeSet::new(),
             is_open: false,
             stopped: false,
+            made: BTreeMap::new(),
             groups: BTreeMap::from([(0, Group::world(ranks))]),
             known: vec![],
             acknowledged: BTreeMap::new(),
-            revoked: 0,
+            revoked: BTreeSet::new(),
             requests: BTreeMap::new(),
             messages: BTreeMap::new(),
             kept: vec![],
@@ -120,6 +123,7 @@ impl Rank {
     pub fn forget(&mut self) {
         self.chosen.clear();
         self.missed.clear();
+        self.made.clear();
         self.groups.clear();
         self.known.clear();
         self.acknowledged.clear();

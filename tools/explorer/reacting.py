@@ -65,7 +65,7 @@ class Reactions:
         if self.chance.random() < 0.3:
             keys["expect"] = self.words(op)
         if self.chance.random() < 0.5:
-            keys["name"] = f"step-{len(self.before[rank])}"
+            keys.setdefault("name", f"step-{len(self.before[rank])}")
         self.before[rank].append((op, keys))
         return rank, op, keys
 

@@ -2,7 +2,7 @@
 //! is next. So a rank skips right behind the answer before, and its next step is always one that it plays.
 
 use crate::items::Answer;
-use crate::job::{Job, Step};
+use crate::job::{Comm, Context, Job, Step};
 use crate::rank::Rank;
 use crate::words::answer_words;
 use crate::world::World;
@@ -60,6 +60,25 @@ impl Rank {
         let chosen = &self.chosen;
         self.missed.retain(|(step, _)| *step > passed && !chosen.contains(step));
         self.answered += 1;
+        self.keep_made(job, answer);
+    }
+
+    /// Keeps the communicator that the step was answered which was passed, where a step that is ahead names it, and what earlier steps were answered as
+    /// long as one does.
+    fn keep_made(&mut self, job: &Job, answer: &Answer) {
+        if let Answer::Made(made) | Answer::Shrunk(made, ..) = answer {
+            self.made.insert(self.answered - 1, *made);
+        }
+        let ahead = &job.steps[self.me as usize][self.answered..];
+        self.made.retain(|number, _| ahead.iter().any(|step| step.names(*number)));
+    }
+
+    /// A step as it is played now. Where the step that it names was answered no communicator, it is on one that nobody ever makes.
+    fn played(&self, step: &Step<Comm>) -> Step {
+        step.on(|comm| match comm {
+            Comm::Number(number) => number,
+            Comm::Made { by, .. } => self.made.get(&(by as usize)).copied().unwrap_or(Context::MAX),
+        })
     }
 
     /// Whether a step that is ahead will be played, whatever is answered till then, unless the rank stops or hangs before.
@@ -75,7 +94,7 @@ impl Rank {
         self.is_chosen(job, step) || self.alternatives(job)[step].iter().enumerate().any(|(number, one)| is_open(number, one))
     }
 
-    fn steps<'a>(&self, job: &'a Job) -> &'a [Step] {
+    fn steps<'a>(&self, job: &'a Job) -> &'a [Step<Comm>] {
         &job.steps[self.me as usize]
     }
 
@@ -85,18 +104,18 @@ impl Rank {
 }
 
 impl World {
-    /// The next step of a rank that runs, if it has one left.
+    /// The next step of a rank that runs, if it has one left, as it is played now.
     pub fn next_step(&self, job: &Job, rank: usize) -> Option<Step> {
         let at = &self.ranks[rank];
         if at.stopped {
             return None;
         }
-        at.steps(job).get(at.answered).copied()
+        at.steps(job).get(at.answered).map(|step| at.played(step))
     }
 
     /// The steps of a rank that runs which aren't answered and may be played: up to the first `stop` that surely is, and none that
     /// surely is skipped. Later on they are some of those of now, whatever happens.
-    pub fn steps_ahead<'a>(&'a self, job: &'a Job, rank: usize) -> impl Iterator<Item = &'a Step> {
+    pub fn steps_ahead<'a>(&'a self, job: &'a Job, rank: usize) -> impl Iterator<Item = &'a Step<Comm>> {
         let at = &*self.ranks[rank];
         let steps = at.steps(job);
         let open = if at.stopped { steps.len()..steps.len() } else { at.answered..steps.len() };

@@ -6,7 +6,7 @@ use crate::rank::Rank;
 
 impl Rank {
     pub fn is_revoked(&self, context: Context) -> bool {
-        self.revoked >> context & 1 == 1
+        self.revoked.contains(&context)
     }
 
     /// Revokes a communicator that was made here. Again it changes nothing.
@@ -22,7 +22,7 @@ impl Rank {
         if self.is_revoked(context) {
             return;
         }
-        self.revoked |= 1 << context;
+        self.revoked.insert(context);
         self.end_waiting(Refusal::Revoked, |pattern| pattern.context == context);
         self.kept.retain(|letter| letter.context != context);
         let others = (0..self.outboxes.len() as Place)

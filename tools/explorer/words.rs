@@ -1,11 +1,11 @@
 //! Steps and answers in the words of the trace.
 
 use crate::items::{Answer, Refusal};
-use crate::job::{text, Job, Step};
+use crate::job::{text, Comm, Job, Step};
 
 /// The words of a step.
-pub fn step_words(job: &Job, step: &Step) -> String {
-    match *step {
+pub fn step_words(job: &Job, step: &Step<Comm>) -> String {
+    match step.on(|comm| comm_words(job, comm)) {
         Step::Send { to, tag, comm, .. } => format!("send {to} tag {tag} comm {comm}"),
         Step::Recv { from, tag, comm, .. } => {
             format!("recv {} tag {} comm {comm}", or_any(from), or_any(tag))
@@ -22,6 +22,14 @@ pub fn step_words(job: &Job, step: &Step) -> String {
         Step::Agree { flag, comm } => format!("agree {flag} comm {comm}"),
         Step::Note { text: label } => format!("note {}", text(&job.bodies[label as usize]).unwrap_or_default()),
         Step::Stop => "stop".to_string(),
+    }
+}
+
+/// The number of a communicator, or its name.
+fn comm_words(job: &Job, comm: Comm) -> String {
+    match comm {
+        Comm::Number(number) => number.to_string(),
+        Comm::Made { name, .. } => text(&job.bodies[name as usize]).unwrap_or_default(),
     }
 }
 

@@ -177,6 +177,14 @@ JOBS = [
         f"line 7, column 1: {FIRST}key 'falg' is unknown; did you mean 'flag'? agree has op, rank, flag, comm",
     ]),
     ("a number for again", step('op = "dup"; again = 1'), "J2 step 0", [f"line 7, column 1: {FIRST}key 'again' is the integer 1, and has to be true or false"]),
+    ("a list for a communicator", step('op = "dup"; comm = [0]'), "J2 step 0", [
+        f"line 7, column 1: {FIRST}key 'comm' is an array, and has to be an integer from 0 to 62, or the name of an earlier dup or shrink in quotes"]),
+    ("a communicator by a name that isn't there", step('op = "dup"; comm = "left"'), "J4 step 0", [
+        f"line 7, column 1: {FIRST}key 'comm' is 'left', and no earlier step of its rank has this name"]),
+    ("a communicator by a step that makes none", line('rank = 0, op = "revoke", name = "a"; rank = 0, op = "dup", comm = "a"'), "J4 step 1", [
+        "key 'comm' is 'a', and the step of this name is a revoke, which makes no communicator"]),
+    ("a communicator by a step of another rank", line('rank = 0, op = "dup", name = "a"; rank = 1, op = "dup", comm = "a"'), "J4 step 1", [
+        "key 'comm' is 'a', and no earlier step of its rank has this name"]),
     ("again of a revoke", step('op = "revoke"; again = true'), "J3 step 0", [f"line 7, column 1: {FIRST}key 'again' is unknown; revoke has op, rank, comm, name"]),
     ("a flag of a shrink", step('op = "shrink"; flag = 1'), "J3 step 0", [f"line 7, column 1: {FIRST}key 'flag' is unknown; shrink has op, rank, comm"]),
     ("a flag of a send", step('op = "send"; to = 1; tag = 5; body = ""; flag = 1'), "J3 step 0", [

@@ -1,5 +1,5 @@
 -- The trace: what is printed of the ranks' reports, line by line.
-use Rattle.std.specs.Prelude.{ℕ, ◌+◌, Bool, List, [], ◌∷◌, ◌++◌, codes, if◌then◌else◌, ◌==◌}
+use Rattle.std.specs.Prelude.{ℕ, ◌+◌, Bool, List, [], ◌∷◌, ◌++◌, Option, codes, if◌then◌else◌, ◌==◌}
 use Rattle.std.specs.Fmt.{decimal}
 use Rattle.std.specs.List.{flat_map}
 use Rattle.hex.specs.Hex.{encode_lower}
@@ -10,6 +10,8 @@ use Rattle.ulfm_answer.specs.declared.answer.StepReport.{StepReport}
 use Rattle.ulfm_answer.specs.declared.told_answer.ToldAnswer.{ToldAnswer}
 use Rattle.ulfm_answer.specs.declared.told_answer.ToldAnswer.TheVariants.{Sent, Posted, Done, Over, Pending, Found, Cancelled, Ranks, Acked, Revoked, Made, Shrunk, Agreed, Noted, Stopped, Unfinished, Skipped, Refused}
 use Rattle.ulfm_answer.specs.Told.{told_of}
+use Rattle.ulfm_job.specs.Job.{JobView}
+use Rattle.ulfm_job.specs.Naming.{called_at}
 use Rattle.ulfm_job.specs.Words.{step_text}
 use Rattle.ulfm_answer.specs.Report.{Report}
 
@@ -52,14 +54,14 @@ told_text (Refused e) = codes "refused " ++ error_text e
 abbrev pub answer_text : StepAnswer → List ℕ
 answer_text answer = told_text (told_of answer)
 
--- the line of a rank's step of this number
-abbrev pub step_line : ℕ → ℕ → StepReport → List ℕ
-step_line me k report = decimal me ++ codes " " ++ decimal k ++ codes " " ++ step_text report.step ++ codes ": " ++ answer_text report.answer ++ codes "\n"
+-- the line of a rank's step of this number, which may call its communicator by a name
+abbrev pub step_line : Option (List ℕ) → ℕ → ℕ → StepReport → List ℕ
+step_line called me k report = decimal me ++ codes " " ++ decimal k ++ codes " " ++ step_text called report.step ++ codes ": " ++ answer_text report.answer ++ codes "\n"
 
--- the lines of a rank's steps, the first of them numbered k
-abbrev pub step_lines : ℕ → ℕ → List StepReport → List ℕ
-step_lines me k [] = []
-step_lines me k (report ∷ reports) = step_line me k report ++ step_lines me (k + 1) reports
+-- the lines of a rank's steps, the first of them numbered k, by the names of a job
+abbrev pub step_lines : JobView → ℕ → ℕ → List StepReport → List ℕ
+step_lines j me k [] = []
+step_lines j me k (report ∷ reports) = step_line (called_at j me k) me k report ++ step_lines j me (k + 1) reports
 
 -- what a closing line says of turns without room, where there were any
 abbrev pub starved_text : ℕ → List ℕ
@@ -70,9 +72,9 @@ abbrev pub closing_line : ℕ → Bool → ℕ → List ℕ
 closing_line me has_stopped starved = decimal me ++ codes " end: " ++ (if has_stopped then codes "stopped" else codes "done") ++ starved_text starved ++ codes "\n"
 
 -- a rank's lines: its answered steps in order, then one that says how it ended
-abbrev pub rank_text : Report → List ℕ
-rank_text report = step_lines report.rank.me 0 report.steps ++ closing_line report.rank.me (is_stopped report.rank.log) report.starved
+abbrev pub rank_text : JobView → Report → List ℕ
+rank_text j report = step_lines j report.rank.me 0 report.steps ++ closing_line report.rank.me (is_stopped report.rank.log) report.starved
 
 -- the lines of all ranks, in the order of the reports
-abbrev pub trace_of : List Report → List ℕ
-trace_of reports = flat_map rank_text reports
+abbrev pub trace_of : JobView → List Report → List ℕ
+trace_of j reports = flat_map (rank_text j) reports

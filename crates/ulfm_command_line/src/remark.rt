@@ -51,8 +51,8 @@ impl StepTold {
     /// `AllocError` where a growth was refused.
     pub fn of(alloc: Global, asked: &Reading, rank: u8, at: usize) -> Result<StepTold, AllocError> {
         let mut call = String::new(alloc);
-        if let Some(step) = asked.job.step(rank, at) {
-            write!(call, "{step}")?;
+        if let Some(told) = asked.job.told(rank, at) {
+            write!(call, "{told}")?;
         }
         let name = match name_at(&asked.names, rank, at) {
             Some(name) => Some(String::from_str(alloc, name)?),

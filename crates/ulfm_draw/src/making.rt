@@ -37,7 +37,7 @@ pub(crate) fn picture_of<'a>(
     }
     if let Some(waits) = &schedule.waits {
         for wait in waits {
-            picture.waits.push(Wait::of(alloc, wait)?)?;
+            picture.waits.push(Wait::of(alloc, job, wait)?)?;
         }
     }
     Ok(picture)

@@ -6,7 +6,7 @@ use crate::row::Row;
 use crate::wait::Wait;
 use std::alloc::{AllocError, Global};
 use ulfm_forms::{Wording, push_call_in};
-use ulfm_job::{Job, Step};
+use ulfm_job::{CalledComm, Job, Step, StepWords};
 use ulfm_schedule::End;
 
 /// Moves in their order, items on their way, how ranks ended, and what they wait for.
@@ -41,9 +41,9 @@ impl<'a> Picture<'a> {
 
     /// The step of a rank in the picture's words.
     pub(crate) fn call(&self, alloc: Global, rank: u8, step: usize) -> Result<String, AllocError> {
-        match (self.wording, self.job.step(rank, step)) {
-            (Wording::Plain, Some(step)) => plain_call(alloc, rank, step),
-            (Wording::Mpi, Some(step)) => mpi_call(alloc, step),
+        match (self.wording, self.job.told(rank, step)) {
+            (Wording::Plain, Some(told)) => plain_call(alloc, rank, told),
+            (Wording::Mpi, Some(told)) => mpi_call(alloc, told),
             (_, None) => Ok(String::new(alloc)),
         }
     }
@@ -174,23 +174,27 @@ impl<'a> Picture<'a> {
 }
 
 /// A step of a rank in plain words. A bare number looks like that of a rank, so what it is stands before it.
-fn plain_call(alloc: Global, rank: u8, step: &Step) -> Result<String, AllocError> {
-    let op = step.op().name();
-    match step {
+fn plain_call(alloc: Global, rank: u8, told: StepWords<'_>) -> Result<String, AllocError> {
+    let op = told.step.op().name();
+    match told.step {
         Step::Wait { req } => format!(in alloc; "{op} for {rank}.{req}"),
         Step::Mrecv { req, .. } => format!(in alloc; "{op} of {rank}.{req}"),
         Step::Cancel { req } => format!(in alloc; "{op} {rank}.{req}"),
         Step::Ack { count, comm } => {
-            format!(in alloc; "{op} count {count} comm {}", comm.number)
+            let comm = CalledComm(told.called, *comm);
+            format!(in alloc; "{op} count {count} comm {comm}")
         }
-        Step::Agree { flag, comm } => { format!(in alloc; "{op} flag {flag} comm {}", comm.number) }
-        _ => format!(in alloc; "{step}"),
+        Step::Agree { flag, comm } => {
+            let comm = CalledComm(told.called, *comm);
+            format!(in alloc; "{op} flag {flag} comm {comm}")
+        }
+        _ => format!(in alloc; "{told}"),
     }
 }
 
 /// A step in MPI's words.
-fn mpi_call(alloc: Global, step: &Step) -> Result<String, AllocError> {
+fn mpi_call(alloc: Global, told: StepWords<'_>) -> Result<String, AllocError> {
     let mut text = String::new(alloc);
-    push_call_in(&mut text, Wording::Mpi, step)?;
+    push_call_in(&mut text, Wording::Mpi, told)?;
     Ok(text)
 }

@@ -1,6 +1,7 @@
 //! What steps wait for that stand open at the end, or were given up.
 
 use std::alloc::{AllocError, Global};
+use ulfm_job::Job;
 use ulfm_schedule::{Remark, push_bringing, push_needed};
 
 /// What a step waits for.
@@ -22,11 +23,15 @@ pub(crate) struct Wait {
 
 impl Wait {
     /// Of one of a schedule.
-    pub(crate) fn of(alloc: Global, wait: &ulfm_schedule::Wait) -> Result<Wait, AllocError> {
+    pub(crate) fn of(
+        alloc: Global,
+        job: &Job,
+        wait: &ulfm_schedule::Wait,
+    ) -> Result<Wait, AllocError> {
         let mut need = String::new(alloc);
         push_needed(&mut need, wait)?;
         let mut bearer = String::new(alloc);
-        push_bringing(&mut bearer, wait)?;
+        push_bringing(&mut bearer, job, wait)?;
         Ok(Wait {
             rank: wait.rank as usize,
             step: wait.step,

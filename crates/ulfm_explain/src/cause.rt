@@ -61,6 +61,8 @@ pub enum Cause {
     NameTaken(Shown, usize),
     /// A name that no earlier step of its rank has.
     NotNamed(Key, Shown),
+    /// The name of a step that makes no communicator.
+    NoMaker(Shown, Op),
     /// A name that no step has, where stops are to lie before the steps of that name, and the nearest that one has.
     NotThere(Shown, Option<Shown>),
     /// A number that is none of an earlier step of its rank.
@@ -192,6 +194,11 @@ impl Cause {
                 "key '{}' is '{}', and no earlier step of its rank has this name",
                 Part::Key(*key),
                 Part::Text(text.as_str()),
+            ),
+            Cause::NoMaker(text, op) => Line::Two(
+                "key 'comm' is '{}', and the step of this name is a {}, which makes no communicator",
+                Part::Text(text.as_str()),
+                Part::Op(*op),
             ),
             Cause::NotThere(text, Some(nearest)) => Line::Two(
                 "key 'before' is '{}', and no step has this name; did you mean '{}'?",

@@ -136,8 +136,8 @@ fn no_answer(
     words: &str,
 ) -> Result<String, AllocError> {
     let mut line = format!(in alloc; "rank {rank} step {at}")?;
-    if let Some(step) = asked.job.step(rank, at) {
-        write!(line, ", '{step}',")?;
+    if let Some(told) = asked.job.told(rank, at) {
+        write!(line, ", '{told}',")?;
     }
     write!(line, " has no answer that begins with '{words}'")?;
     let answers = answers_at(alloc, file, rank, at)?;

@@ -212,7 +212,7 @@ fn is_of_kind(value: &Value, kind: Kind) -> bool {
         | Kind::PeerOrAny(_, _) => value.is_integer(),
         Kind::Truth => value.is_bool(),
         Kind::Text | Kind::Name | Kind::Label | Kind::Called => value.is_str(),
-        Kind::Reference(_, _) => value.is_integer() || value.is_str(),
+        Kind::Reference(_, _) | Kind::Comm(_, _) => value.is_integer() || value.is_str(),
         Kind::Conditions | Kind::Expected => value.is_table() || value.is_array(),
         Kind::Texts => are_texts(value),
         Kind::Words | Kind::Together => value.is_array(),

@@ -24,6 +24,8 @@ pub enum Kind {
     Tables,
     /// An integer from the first to the second, or the name of an earlier step.
     Reference(i64, i64),
+    /// An integer from the first to the second, or the name of an earlier step that makes a communicator.
+    Comm(i64, i64),
     /// A name.
     Name,
     /// The text of a note.
@@ -56,6 +58,7 @@ impl Kind {
             Kind::Peer(least, most) => Some((least, most)),
             Kind::PeerOrAny(least, most) => Some((least, most)),
             Kind::Reference(least, most) => Some((least, most)),
+            Kind::Comm(least, most) => Some((least, most)),
             _ => None,
         }
     }
@@ -83,6 +86,7 @@ impl Kind {
             Kind::Text => "a text in quotes",
             Kind::Tables => "an array of tables",
             Kind::Reference(_, _) => ", or the name of an earlier step in quotes",
+            Kind::Comm(_, _) => ", or the name of an earlier dup or shrink in quotes",
             Kind::Name => " letters, digits, '_' and '-'",
             Kind::Label => " letters, digits, spaces, '_', '-' and '.'",
             Kind::Conditions => {

@@ -98,7 +98,7 @@ impl Key {
             Key::Req | Key::Earlier => Kind::Reference(0, i64::from(LAST_STEP)),
             Key::Count => Kind::Integer(0, i64::from(MOST_RANKS)),
             Key::Flag => Kind::Integer(0, i64::from(LAST_FLAG)),
-            Key::Comm => Kind::Integer(0, i64::from(LAST_COMM)),
+            Key::Comm => Kind::Comm(0, i64::from(LAST_COMM)),
             Key::Again => Kind::Truth,
             Key::Text => Kind::Label,
             Key::Name => Kind::Name,

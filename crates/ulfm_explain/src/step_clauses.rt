@@ -25,7 +25,7 @@ struct Asker<'a> {
     number: usize,
 }
 
-/// Tells what is wrong with a `req` that is a name, and then with `name`, `if` and `expect`.
+/// Tells what is wrong with a `req` or a `comm` that is a name, and then with `name`, `if` and `expect`.
 pub fn explain_asking<'a>(
     findings: &mut Findings<'_>,
     steps: &'a [Value],
@@ -45,6 +45,9 @@ pub fn explain_asking<'a>(
     };
     if let (Some(_), Some(value)) = (sheet.rules.find("req"), sheet.table.get("req")) {
         asker.explain_reference(findings, Key::Req, value)?;
+    }
+    if let (Some(_), Some(value)) = (sheet.rules.find("comm"), sheet.table.get("comm")) {
+        asker.explain_comm(findings, value)?;
     }
     asker.explain_name(findings)?;
     asker.explain_if(findings)?;
@@ -68,11 +71,32 @@ impl Asker<'_> {
         if let Some(name) = value.as_str() {
             if self.script.named(name, self.number).is_none() {
                 let shown = Shown::new(findings.alloc, name)?;
-                let at = if key == Key::Req { Key::Req } else { Key::If };
+                let at = match key {
+                    Key::Req | Key::Comm => key,
+                    _ => Key::If,
+                };
                 return self.tell(findings, at, Cause::NotNamed(key, shown));
             }
         }
         Ok(())
+    }
+
+    /// Tells of the name of a communicator that no earlier step has, or one that makes none.
+    fn explain_comm(&self, findings: &mut Findings<'_>, value: &Value) -> Result<(), AllocError> {
+        self.explain_reference(findings, Key::Comm, value)?;
+        let Some(name) = value.as_str() else {
+            return Ok(());
+        };
+        let Some(number) = self.script.named(name, self.number) else {
+            return Ok(());
+        };
+        match self.script.op(number) {
+            None | Some(Op::Dup | Op::Shrink) => Ok(()),
+            Some(op) => {
+                let shown = Shown::new(findings.alloc, name)?;
+                self.tell(findings, Key::Comm, Cause::NoMaker(shown, op))
+            }
+        }
     }
 
     /// Tells what is wrong with its name.

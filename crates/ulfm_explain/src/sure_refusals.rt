@@ -22,12 +22,20 @@ pub struct Placed<'a> {
     pub step: &'a Value,
 }
 
-/// The communicator of a step: the world where it names none.
-fn comm_of(step: &Value) -> i64 {
+/// Whether a step is on the communicator that an earlier one makes.
+fn is_by_name(step: &Value) -> bool {
     match step.as_table() {
-        Some(table) => integer_at(table, Key::Comm).unwrap_or(0),
-        None => 0,
+        Some(table) => text_at(table, Key::Comm).is_some(),
+        None => false,
     }
+}
+
+/// The number of the communicator of a step: that of the world where it has none. It isn't known where an earlier step makes it.
+fn comm_of(step: &Value) -> Option<i64> {
+    if is_by_name(step) {
+        return None;
+    }
+    Some(integer_at(step.as_table()?, Key::Comm).unwrap_or(0))
 }
 
 /// Whether a step makes a further communicator.
@@ -40,7 +48,7 @@ fn is_further(step: &Value) -> bool {
 
 /// The number of the communicator that a step makes, if it isn't refused.
 fn made_by(step: &Value) -> Option<u64> {
-    let of = match u64::try_from(comm_of(step)) {
+    let of = match u64::try_from(comm_of(step)?) {
         Ok(number) => Context::new(number)?,
         Err(_) => return None,
     };
@@ -51,8 +59,11 @@ fn made_by(step: &Value) -> Option<u64> {
     }
 }
 
-/// Whether a step makes this communicator, if it isn't refused.
+/// Whether a step makes this communicator, or may make it since it is on one that an earlier step makes, if it isn't refused.
 fn makes(step: &Value, comm: i64) -> bool {
+    if is_by_name(step) {
+        return matches!(op_of(step), Some(Op::Dup | Op::Shrink));
+    }
     match (made_by(step), u64::try_from(comm)) {
         (Some(made), Ok(comm)) => made == comm,
         _ => false,
@@ -144,13 +155,14 @@ impl<'a> Placed<'a> {
     fn is_second_to(&self, earlier: &Value) -> bool {
         !is_further(self.step)
             && op_of(earlier) == op_of(self.step)
-            && (comm_of(earlier) <= LAST_PARENT || is_further(earlier))
+            && (matches!(comm_of(earlier), Some(comm) if comm <= LAST_PARENT)
+                || is_further(earlier))
     }
 
     /// A communicator that isn't made, is revoked, or has its one duplicate or shrink. Where a step that makes it stands between,
     /// earlier calls on it say nothing, and neither does one that may be skipped.
     fn doom_of_comm(&self, op: Op) -> Option<Doom> {
-        let comm = comm_of(self.step);
+        let comm = comm_of(self.step)?;
         let is_making = matches!(op, Op::Dup | Op::Shrink);
         let mut is_made = comm == 0;
         let mut revoked = None;
@@ -162,7 +174,7 @@ impl<'a> Placed<'a> {
                 revoked = None;
                 again = None;
             }
-            if comm_of(earlier) == comm && !has_condition(earlier) {
+            if comm_of(earlier) == Some(comm) && !has_condition(earlier) {
                 let other = op_of(earlier);
                 if other == Some(Op::Revoke) {
                     revoked = Some(Doom::Revoked(comm, number));

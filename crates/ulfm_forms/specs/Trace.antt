@@ -1,10 +1,10 @@
 -- The trace as JSON, line by line.
-use Rattle.std.specs.Prelude.{ℕ, ◌+◌, Bool, List, [], ◌∷◌, ◌++◌, Option, Some, None, codes, if◌then◌else◌, slice_get}
+use Rattle.std.specs.Prelude.{ℕ, ◌+◌, Bool, List, [], ◌∷◌, ◌++◌, Option, Some, None, codes, if◌then◌else◌}
 use Rattle.std.specs.Fmt.{decimal}
 use Rattle.std.specs.List.{flat_map}
 use Rattle.ulfm_log.specs.Facts.{is_stopped}
-use Rattle.ulfm_job.specs.Job.{JobView, script_at}
-use Rattle.ulfm_job.specs.declared.step.Step.{Step}
+use Rattle.ulfm_job.specs.Job.{JobView}
+use Rattle.ulfm_job.specs.Words.{ToldStep, told_at}
 use Rattle.ulfm_answer.specs.declared.answer.StepAnswer.{StepAnswer}
 use Rattle.ulfm_answer.specs.declared.answer.StepReport.{StepReport}
 use Rattle.ulfm_answer.specs.Report.{Report}
@@ -19,26 +19,26 @@ name_json None = []
 name_json (Some name) = codes ",\"name\":\"" ++ name ++ codes "\""
 
 -- what a step asks for; a step that the job hasn't has no op
-abbrev pub asked_json : Option Step → List ℕ
+abbrev pub asked_json : Option ToldStep → List ℕ
 asked_json None = codes "\"op\":null"
 asked_json (Some step) = call_json step
 
 -- the beginning of the object of a step: its rank, its number, its name, and what it asks for
-abbrev pub head_json : List Name → ℕ → ℕ → Option Step → List ℕ
+abbrev pub head_json : List Name → ℕ → ℕ → Option ToldStep → List ℕ
 head_json names r k step = codes "{\"rank\":" ++ decimal r ++ codes ",\"step\":" ++ decimal k ++ name_json (name_at names r k) ++ codes "," ++ asked_json step
 
 -- the object of a step with its answer, but for its end
-abbrev pub answered_json : List Name → ℕ → ℕ → Option Step → StepAnswer → List ℕ
+abbrev pub answered_json : List Name → ℕ → ℕ → Option ToldStep → StepAnswer → List ℕ
 answered_json names r k step answer = head_json names r k step ++ codes ",\"answer\":" ++ answer_json answer
 
 -- the line of a step with its answer
-abbrev pub step_json : List Name → ℕ → ℕ → Option Step → StepAnswer → List ℕ
+abbrev pub step_json : List Name → ℕ → ℕ → Option ToldStep → StepAnswer → List ℕ
 step_json names r k step answer = answered_json names r k step answer ++ codes "}\n"
 
 -- the lines of a rank's answered steps, the first of them numbered k
 abbrev pub steps_json : List Name → JobView → ℕ → ℕ → List StepReport → List ℕ
 steps_json names job r k [] = []
-steps_json names job r k (report ∷ reports) = step_json names r k (slice_get (script_at job r) k) report.answer ++ steps_json names job r (k + 1) reports
+steps_json names job r k (report ∷ reports) = step_json names r k (told_at job r k) report.answer ++ steps_json names job r (k + 1) reports
 
 -- the object of how a rank ended, and of how many of its turns took nothing since memory ran out
 abbrev pub ended_json : ℕ → Bool → ℕ → List ℕ

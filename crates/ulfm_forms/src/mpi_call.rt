@@ -1,23 +1,25 @@
 //! Calls as MPI has them.
-ghost use Rattle.std.specs.Prelude.{◌≡◌, ◌++◌, Some, OnOk, string_bytes};
+ghost use Rattle.std.specs.Prelude.{◌≡◌, ◌++◌, Some, OnOk, option_map, string_bytes};
+ghost use Rattle.ulfm_job.specs.Words.{told_view};
 ghost use Rattle.ulfm_forms.specs.MpiCall.{mpi_call, mpi_comm, mpi_numbered, mpi_of, mpi_on, mpi_sought, mpi_source, mpi_tag};
 
 use std::alloc::AllocError;
 use std::fmt;
 use ulfm_base::{Context, Tag};
-use ulfm_job::Step;
+use ulfm_job::{Step, StepWords};
 
-/// A communicator: that of all ranks by its name, each other by its number.
+/// A communicator: that of all ranks by its name, each other by the name that a step calls it by, or by its number.
 #[derive(Clone, Copy)]
-struct MpiComm(Context);
+struct MpiComm<'a>(Option<&'a str>, Context);
 
-impl fmt::Display for MpiComm {
-    ghost output = { λ comm. Some (mpi_comm comm.0) };
+impl fmt::Display for MpiComm<'_> {
+    ghost output = { λ comm. Some (mpi_comm (option_map (λ name. name.now) comm.0) comm.1) };
 
     fn fmt<W: fmt::Write>(&self, f: &mut fmt::Formatter<W>) -> fmt::Result {
-        match self.0.number {
-            0 => f.write_str("MPI_COMM_WORLD"),
-            number => write!(f, "comm {number}"),
+        match (self.0, self.1.number) {
+            (Some(name), _) => write!(f, "comm {name}"),
+            (None, 0) => f.write_str("MPI_COMM_WORLD"),
+            (None, number) => write!(f, "comm {number}"),
         }
     }
 }
@@ -53,10 +55,9 @@ impl fmt::Display for MpiTag {
 }
 
 /// Puts a call of MPI that names a communicator alone.
-fn push_on_comm(text: &mut String, name: &str, comm: Context) -> Result<(), AllocError>
-    ensures { OnOk result (string_bytes text.new ≡ string_bytes text.old ++ (name.now ++ mpi_on comm)) }
+fn push_on_comm(text: &mut String, name: &str, comm: MpiComm<'_>) -> Result<(), AllocError>
+    ensures { OnOk result (string_bytes text.new ≡ string_bytes text.old ++ (name.now ++ mpi_on (option_map (λ name. name.now) comm.0) comm.1)) }
 {
-    let comm = MpiComm(comm);
     write!(text, "{name}({comm})")
 }
 
@@ -71,13 +72,12 @@ fn push_on_request(text: &mut String, name: &str, begun: &str, req: u16) -> Resu
 fn push_numbered(
     text: &mut String,
     name: &str,
-    comm: Context,
+    comm: MpiComm<'_>,
     key: &str,
     number: u32,
 ) -> Result<(), AllocError>
-    ensures { OnOk result (string_bytes text.new ≡ string_bytes text.old ++ (name.now ++ mpi_numbered comm key.now number)) }
+    ensures { OnOk result (string_bytes text.new ≡ string_bytes text.old ++ (name.now ++ mpi_numbered (option_map (λ name. name.now) comm.0) comm.1 key.now number)) }
 {
-    let comm = MpiComm(comm);
     write!(text, "{name}({comm}, {key} {number})")
 }
 
@@ -87,13 +87,12 @@ fn push_seeking(
     name: &str,
     from: Option<u8>,
     tag: Option<Tag>,
-    comm: Context,
+    comm: MpiComm<'_>,
 ) -> Result<(), AllocError>
-    ensures { OnOk result (string_bytes text.new ≡ string_bytes text.old ++ (name.now ++ mpi_sought from tag comm)) }
+    ensures { OnOk result (string_bytes text.new ≡ string_bytes text.old ++ (name.now ++ mpi_sought (option_map (λ name. name.now) comm.0) from tag comm.1)) }
 {
     let from = MpiSource(from);
     let tag = MpiTag(tag);
-    let comm = MpiComm(comm);
     write!(text, "{name}({from}, {tag}, {comm})")
 }
 
@@ -102,12 +101,13 @@ fn push_seeking(
 /// # Errors
 ///
 /// A growth was refused: a part of it may stand in the text then.
-pub(crate) fn push_mpi_call(text: &mut String, step: &Step) -> Result<(), AllocError>
-    ensures { OnOk result (string_bytes text.new ≡ string_bytes text.old ++ mpi_call step.now) }
+pub(crate) fn push_mpi_call(text: &mut String, told: StepWords<'_>) -> Result<(), AllocError>
+    ensures { OnOk result (string_bytes text.new ≡ string_bytes text.old ++ mpi_call (told_view told).called (told_view told).step) }
 {
-    match step {
+    let called = told.called;
+    match told.step {
         Step::Send { to, tag, comm, .. } => {
-            let comm = MpiComm(*comm);
+            let comm = MpiComm(called, *comm);
             write!(text, "MPI_Send(dest {to}, tag {}, {comm})", tag.number)
         }
         Step::Recv {
@@ -115,19 +115,37 @@ pub(crate) fn push_mpi_call(text: &mut String, step: &Step) -> Result<(), AllocE
             tag,
             comm,
             ..
-        } => push_seeking(text, "MPI_Irecv", *from, *tag, *comm),
+        } => push_seeking(text, "MPI_Irecv", *from, *tag, MpiComm(called, *comm)),
         Step::Wait { req } => push_on_request(text, "MPI_Wait", "request", *req),
-        Step::Probe { from, tag, comm } => push_seeking(text, "MPI_Mprobe", *from, *tag, *comm),
+        Step::Probe { from, tag, comm } => push_seeking(
+            text,
+            "MPI_Mprobe",
+            *from,
+            *tag,
+            MpiComm(called, *comm),
+        ),
         Step::Mrecv { req, .. } => push_on_request(text, "MPI_Mrecv", "message", *req),
         Step::Cancel { req } => push_on_request(text, "MPI_Cancel", "request", *req),
-        Step::Failed { comm } => push_on_comm(text, "MPIX_Comm_get_failed", *comm),
+        Step::Failed { comm } => push_on_comm(text, "MPIX_Comm_get_failed", MpiComm(called, *comm)),
         Step::Ack { count, comm } => {
-            push_numbered(text, "MPIX_Comm_ack_failed", *comm, "count", *count as u32)
+            push_numbered(
+                text,
+                "MPIX_Comm_ack_failed",
+                MpiComm(called, *comm),
+                "count",
+                *count as u32,
+            )
         }
-        Step::Revoke { comm } => push_on_comm(text, "MPIX_Comm_revoke", *comm),
-        Step::Dup { comm, .. } => push_on_comm(text, "MPI_Comm_dup", *comm),
-        Step::Shrink { comm, .. } => push_on_comm(text, "MPIX_Comm_shrink", *comm),
-        Step::Agree { flag, comm } => push_numbered(text, "MPIX_Comm_agree", *comm, "flag", *flag),
-        Step::Note { .. } | Step::Stop => write!(text, "{step}"),
+        Step::Revoke { comm } => push_on_comm(text, "MPIX_Comm_revoke", MpiComm(called, *comm)),
+        Step::Dup { comm, .. } => push_on_comm(text, "MPI_Comm_dup", MpiComm(called, *comm)),
+        Step::Shrink { comm, .. } => push_on_comm(text, "MPIX_Comm_shrink", MpiComm(called, *comm)),
+        Step::Agree { flag, comm } => push_numbered(
+            text,
+            "MPIX_Comm_agree",
+            MpiComm(called, *comm),
+            "flag",
+            *flag,
+        ),
+        Step::Note { .. } | Step::Stop => write!(text, "{told}"),
     }
 }

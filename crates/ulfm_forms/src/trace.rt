@@ -1,13 +1,14 @@
 //! The lines of a trace as JSON.
 ghost use Rattle.std.specs.Prelude.{◌≡◌, ◌++◌, option_map, OnOk, string_bytes};
 ghost use Rattle.std.specs.Option.{option_copied};
+ghost use Rattle.ulfm_job.specs.Words.{told_view};
 ghost use Rattle.ulfm_forms.specs.Trace.{answered_json, end_json, ended_json, head_json, name_json, step_json, steps_json};
 
 use crate::answer::push_answer;
 use crate::call::push_call;
 use std::alloc::AllocError;
 use ulfm_answer::{StepAnswer, StepReport};
-use ulfm_job::{Job, Step};
+use ulfm_job::{Job, StepWords};
 use ulfm_reader::{Name, name_at};
 
 /// The key of a step's name, where it has one.
@@ -26,9 +27,9 @@ pub fn push_head(
     names: &[Name],
     rank: u8,
     k: usize,
-    step: Option<&Step>,
+    step: Option<StepWords<'_>>,
 ) -> Result<(), AllocError>
-    ensures { OnOk result (string_bytes text.new ≡ string_bytes text.old ++ head_json names.now rank k (option_map (λ s. s.now) step.entry)) }
+    ensures { OnOk result (string_bytes text.new ≡ string_bytes text.old ++ head_json names.now rank k (option_map told_view step.entry)) }
 {
     write!(text, "{{\"rank\":{rank},\"step\":{k}")?;
     push_name(text, name_at(names, rank, k))?;
@@ -45,10 +46,10 @@ pub fn push_answered(
     names: &[Name],
     rank: u8,
     k: usize,
-    step: Option<&Step>,
+    step: Option<StepWords<'_>>,
     answer: &StepAnswer,
 ) -> Result<(), AllocError>
-    ensures { OnOk result (string_bytes text.new ≡ string_bytes text.old ++ answered_json names.now rank k (option_map (λ s. s.now) step.entry) answer.now) }
+    ensures { OnOk result (string_bytes text.new ≡ string_bytes text.old ++ answered_json names.now rank k (option_map told_view step.entry) answer.now) }
 {
     push_head(text, names, rank, k, step)?;
     text.push_str(",\"answer\":")?;
@@ -61,10 +62,10 @@ fn push_step(
     names: &[Name],
     rank: u8,
     k: usize,
-    step: Option<&Step>,
+    step: Option<StepWords<'_>>,
     answer: &StepAnswer,
 ) -> Result<(), AllocError>
-    ensures { OnOk result (string_bytes text.new ≡ string_bytes text.old ++ step_json names.now rank k (option_map (λ s. s.now) step.entry) answer.now) }
+    ensures { OnOk result (string_bytes text.new ≡ string_bytes text.old ++ step_json names.now rank k (option_map told_view step.entry) answer.now) }
 {
     push_answered(text, names, rank, k, step, answer)?;
     text.push_str("}\n")
@@ -81,7 +82,7 @@ pub fn push_steps(
     ensures { OnOk result (string_bytes text.new ≡ string_bytes text.old ++ steps_json names.now job.now rank 0 steps.now) }
 {
     for (k, report) in steps.iter().enumerate() {
-        push_step(text, names, rank, k, job.step(rank, k), &report.answer)?;
+        push_step(text, names, rank, k, job.told(rank, k), &report.answer)?;
     }
     Ok(())
 }

@@ -1,6 +1,7 @@
 //! Calls and answers in plain words, or in MPI's.
 ghost use Rattle.std.specs.Prelude.{◌≡◌, ◌++◌, OnOk, string_bytes};
 ghost use Rattle.ulfm_answer.specs.Told.{told_of};
+ghost use Rattle.ulfm_job.specs.Words.{told_view};
 ghost use Rattle.ulfm_forms.specs.MpiAnswer.{mpi_answer};
 ghost use Rattle.ulfm_forms.specs.Worded.{answer_in, call_in, told_in};
 
@@ -9,19 +10,23 @@ use crate::mpi_call::push_mpi_call;
 use crate::wording::Wording;
 use std::alloc::AllocError;
 use ulfm_answer::{StepAnswer, ToldAnswer, push_answer, push_code, push_told};
-use ulfm_job::Step;
+use ulfm_job::StepWords;
 
 /// Puts a step in these words.
 ///
 /// # Errors
 ///
 /// A growth was refused: a part of it may stand in the text then.
-pub fn push_call_in(text: &mut String, wording: Wording, step: &Step) -> Result<(), AllocError>
-    ensures { OnOk result (string_bytes text.new ≡ string_bytes text.old ++ call_in wording step.now) }
+pub fn push_call_in(
+    text: &mut String,
+    wording: Wording,
+    told: StepWords<'_>,
+) -> Result<(), AllocError>
+    ensures { OnOk result (string_bytes text.new ≡ string_bytes text.old ++ call_in wording (told_view told)) }
 {
     match wording {
-        Wording::Plain => write!(text, "{step}"),
-        Wording::Mpi => push_mpi_call(text, step),
+        Wording::Plain => write!(text, "{told}"),
+        Wording::Mpi => push_mpi_call(text, told),
     }
 }
 

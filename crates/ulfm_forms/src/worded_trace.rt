@@ -1,16 +1,21 @@
 //! The lines of a trace in plain words, or in MPI's.
 ghost use Rattle.std.specs.Prelude.{◌≡◌, ◌++◌, option_map, OnOk, string_bytes};
+ghost use Rattle.ulfm_job.specs.Words.{told_view};
 ghost use Rattle.ulfm_forms.specs.WordedTrace.{asked_in, call_at, line_in, lines_in};
 
 use crate::worded::{push_answer_in, push_call_in};
 use crate::wording::Wording;
 use std::alloc::AllocError;
 use ulfm_answer::{StepAnswer, StepReport};
-use ulfm_job::{Job, Step};
+use ulfm_job::{Job, StepWords};
 
 /// Puts a step in these words, if the job has it.
-fn push_asked_in(text: &mut String, wording: Wording, step: Option<&Step>) -> Result<(), AllocError>
-    ensures { OnOk result (string_bytes text.new ≡ string_bytes text.old ++ asked_in wording (option_map (λ s. s.now) step.entry)) }
+fn push_asked_in(
+    text: &mut String,
+    wording: Wording,
+    step: Option<StepWords<'_>>,
+) -> Result<(), AllocError>
+    ensures { OnOk result (string_bytes text.new ≡ string_bytes text.old ++ asked_in wording (option_map told_view step.entry)) }
 {
     match step {
         Some(step) => push_call_in(text, wording, step),
@@ -32,7 +37,7 @@ pub fn push_call_at(
 ) -> Result<(), AllocError>
     ensures { OnOk result (string_bytes text.new ≡ string_bytes text.old ++ call_at wording job.now r k) }
 {
-    push_asked_in(text, wording, job.step(r, k))
+    push_asked_in(text, wording, job.told(r, k))
 }
 
 /// Puts the line of an answered step in these words.

@@ -2,6 +2,8 @@ pub mod Common
 pub mod Same
 pub mod Scripts
 pub mod WithStop
+pub mod OnComm
+pub mod Sendings
 pub mod Beside
 pub mod Listed
 pub mod Inside

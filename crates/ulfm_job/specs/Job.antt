@@ -5,12 +5,13 @@ use Rattle.std.specs.declared.alloc.Global.{Global}
 use Rattle.ulfm_job.specs.declared.clause.Clause.{Clause}
 use Rattle.ulfm_job.specs.declared.condition.Condition.{Condition}
 use Rattle.ulfm_job.specs.declared.left_step.LeftStep.{LeftStep}
+use Rattle.ulfm_job.specs.declared.naming.Naming.{Naming}
 use Rattle.ulfm_job.specs.declared.step.Step.{Step}
 use Rattle.ulfm_base.specs.declared.context.Context.{Context}
-use Rattle.ulfm_job.specs.declared.step.Step.TheVariants.{Send, Wait, Mrecv, Cancel, Shrink, Agree, Stop}
+use Rattle.ulfm_job.specs.declared.step.Step.TheVariants.{Send, Wait, Mrecv, Cancel, Revoke, Shrink, Agree, Stop}
 
 -- how many ranks there are, the room of an inbox, the most polls of one step, the steps of each rank, on what conditions some are
--- played, what some expect of their answers, and which may be given up though polls are left
+-- played, what some expect of their answers, which may be given up though polls are left, and which are on communicators that earlier ones make
 pub record JobView : Type 0 where
   pub ranks : ℕ
   pub capacity : ℕ
@@ -19,6 +20,7 @@ pub record JobView : Type 0 where
   pub conditions : List Condition
   pub expected : List Clause
   pub left : List LeftStep
+  pub namings : List Naming
 
 -- how many steps there are in all
 abbrev pub step_count : List (List Step) → ℕ
@@ -28,7 +30,7 @@ step_count scripts = sum_by length scripts
 abbrev pub lists_of : List (Vec Step Global) → List (List Step)
 lists_of scripts = map (λ script. script.items) scripts
 
--- a job by its parts, of which no step may be given up early
+-- a job by its parts, of which no step may be given up early, nor names a communicator
 abbrev pub job_view : ℕ → ℕ → List (Vec Step Global) → List Condition → List Clause → JobView
 job_view capacity turns scripts conditions expected = record {
   ranks = length scripts;
@@ -38,11 +40,16 @@ job_view capacity turns scripts conditions expected = record {
   conditions = conditions;
   expected = expected;
   left = [];
+  namings = [];
 }
 
 -- a job of which these steps may be given up though polls are left, and no others
 abbrev pub leaving : List LeftStep → JobView → JobView
 leaving left j = record j { left = left }
+
+-- a job whose steps name these communicators, and no others
+abbrev pub naming : List Naming → JobView → JobView
+naming namings j = record j { namings = namings }
 
 -- a job with another number of turns
 abbrev pub with_turns : ℕ → JobView → JobView
@@ -81,6 +88,11 @@ moved_condition r at n c =
 abbrev pub moved_left : ℕ → ℕ → ℕ → LeftStep → LeftStep
 moved_left r at n l = if l.rank == r then record l { at = moved_number at n l.at } else l
 
+-- a naming, once a rank whose script has n steps has one more before its step `at`
+abbrev pub moved_naming : ℕ → ℕ → ℕ → Naming → Naming
+moved_naming r at n c =
+    if c.rank == r then record c { at = moved_number at n c.at; step = moved_number at n c.step } else c
+
 -- a job with one more step, a stop before the step `at` of the rank r
 abbrev pub with_stop : ℕ → ℕ → JobView → JobView
 with_stop r at j = record j {
@@ -88,6 +100,7 @@ with_stop r at j = record j {
   conditions = map (moved_condition r at (length (script_at j r))) j.conditions;
   expected = map (moved_clause r at (length (script_at j r))) j.expected;
   left = map (moved_left r at (length (script_at j r))) j.left;
+  namings = map (moved_naming r at (length (script_at j r))) j.namings;
 }
 
 -- the clause is of another step than the step `at` of the rank r
@@ -116,6 +129,11 @@ pub record IsJob (j : JobView) : Type 0 where
 abbrev pub is_stop_step : Step → Bool
 is_stop_step Stop = true
 is_stop_step _ = false
+
+-- the step is a revoke
+abbrev pub is_revoke_step : Step → Bool
+is_revoke_step (Revoke comm) = true
+is_revoke_step _ = false
 
 -- a step that has no body to carry
 abbrev pub bodiless : Step → Option Step

@@ -2,6 +2,7 @@ pub mod Job
 pub mod Begins
 pub mod Label
 pub mod Ops
+pub mod Naming
 pub mod Words
 pub mod Place
 pub mod Places

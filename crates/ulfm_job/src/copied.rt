@@ -3,7 +3,7 @@ ghost use Rattle.std.specs.Prelude.{◌≡◌, IfOk};
 ghost use Rattle.ulfm_job.specs.Job.{lists_of};
 ghost use Rattle.ulfm_job.specs.Place.{expecting};
 
-use crate::{Clause, Condition, Job, LeftStep, Step};
+use crate::{Clause, Condition, Job, LeftStep, Naming, Step};
 use std::alloc::Global;
 use ulfm_base::OutOfMemory;
 
@@ -26,7 +26,9 @@ pub fn expecting(alloc: Global, job: &Job, expected: Vec<Clause>) -> Result<Job,
     let scripts = copied_scripts(alloc, job)?;
     let conditions = copied_conditions(alloc, job.conditions())?;
     let left = copied_left(alloc, job.left())?;
-    Ok(Job::new(job.capacity(), job.turns(), scripts, conditions, expected).leaving(left))
+    let namings = copied_namings(alloc, job.namings())?;
+    let copy = Job::new(job.capacity(), job.turns(), scripts, conditions, expected);
+    Ok(copy.leaving(left).naming(namings))
 }
 
 /// The scripts of a job's ranks once more.
@@ -58,6 +60,17 @@ fn copied_left(alloc: Global, left: &[LeftStep]) -> Result<Vec<LeftStep>, OutOfM
     let mut copies = Vec::new(alloc);
     for step in left {
         copies.push(*step)?;
+    }
+    Ok(copies)
+}
+
+/// The same namings once more.
+fn copied_namings(alloc: Global, namings: &[Naming]) -> Result<Vec<Naming>, OutOfMemory>
+    ensures { IfOk result (λ copies. copies.items ≡ namings.now) }
+{
+    let mut copies = Vec::new(alloc);
+    for naming in namings {
+        copies.push(naming.copy())?;
     }
     Ok(copies)
 }

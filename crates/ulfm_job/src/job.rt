@@ -8,16 +8,18 @@ use crate::fault::JobFault;
 use crate::joint::{is_decided_together, is_left, without};
 use crate::left_step::LeftStep;
 use crate::limits::MOST_STEPS;
+use crate::naming::Naming;
 use crate::script_with_stop::{
-    copied_scripts, moved_clauses, moved_conditions, moved_left, stopped_at,
+    copied_scripts, moved_clauses, moved_conditions, moved_left, moved_namings, stopped_at,
 };
 use crate::step::Step;
+use crate::words::StepWords;
 use std::marker::Model;
 use ulfm_base::OutOfMemory;
 
 /// What 1 to 8 ranks are to do: the room of an inbox (1 to 64 items), the most polls of one step (1 to 10,000,000),
-/// the steps of each rank, 256 at most in all, on what conditions some are played, what some expect of their answers, and which may be
-/// given up early.
+/// the steps of each rank, 256 at most in all, on what conditions some are played, what some expect of their answers, which may be
+/// given up early, and which are on communicators that earlier ones make.
 #[derive(Drop)]
 pub struct Job {
     capacity: u8,
@@ -26,23 +28,26 @@ pub struct Job {
     conditions: Vec<Condition>,
     expected: Vec<Clause>,
     left: Vec<LeftStep>,
+    namings: Vec<Naming>,
 }
 
 impl Model for Job {
-    ghost use Rattle.ulfm_job.specs.Job.{JobView, IsJob, job_view, leaving};
+    ghost use Rattle.ulfm_job.specs.Job.{JobView, IsJob, job_view, leaving, naming};
 
     ghost Value = { JobView };
 
-    ghost view = { λ j. leaving j.left.items (job_view j.capacity j.turns j.scripts.items j.conditions.items j.expected.items) };
+    ghost view = { λ j. naming j.namings.items (leaving j.left.items (job_view j.capacity j.turns j.scripts.items j.conditions.items j.expected.items)) };
 
-    ghost invariant = { λ j. IsJob (leaving j.left.items (job_view j.capacity j.turns j.scripts.items j.conditions.items j.expected.items)) };
+    ghost invariant = { λ j. IsJob (naming j.namings.items (leaving j.left.items (job_view j.capacity j.turns j.scripts.items j.conditions.items j.expected.items))) };
 }
 
 impl Job {
-    ghost use Rattle.ulfm_job.specs.Job.{job_view, leaving, with_left, with_stop, with_turns};
+    ghost use Rattle.ulfm_job.specs.Job.{job_view, leaving, naming, with_left, with_stop, with_turns};
+    ghost use Rattle.ulfm_job.specs.Naming.{called_at, naming_at};
+    ghost use Rattle.ulfm_job.specs.Words.{told_at, told_view};
 
     /// The job of these scripts, one for each rank, of these conditions and of what is expected. All of them keep the limits of a job.
-    /// No step of it may be given up early.
+    /// No step of it may be given up early, nor names a communicator.
     pub fn new(
         capacity: u8,
         turns: u32,
@@ -54,6 +59,7 @@ impl Job {
         ensures { result ≡ job_view capacity turns scripts.items conditions.items expected.items }
     {
         let left = Vec::new(*scripts.allocator());
+        let namings = Vec::new(*scripts.allocator());
         Job {
             capacity,
             turns,
@@ -61,6 +67,7 @@ impl Job {
             conditions,
             expected,
             left,
+            namings,
         }
     }
 
@@ -75,6 +82,7 @@ impl Job {
             conditions,
             expected,
             left: _,
+            namings,
         } = self;
         Job {
             capacity,
@@ -83,6 +91,31 @@ impl Job {
             conditions,
             expected,
             left,
+            namings,
+        }
+    }
+
+    /// The same job, whose steps name these communicators, and no others.
+    pub fn naming(self, namings: Vec<Naming>) -> Job
+        ensures { result ≡ naming namings.items self }
+    {
+        let Job {
+            capacity,
+            turns,
+            scripts,
+            conditions,
+            expected,
+            left,
+            namings: _,
+        } = self;
+        Job {
+            capacity,
+            turns,
+            scripts,
+            conditions,
+            expected,
+            left,
+            namings,
         }
     }
 
@@ -99,8 +132,10 @@ impl Job {
             conditions,
             expected,
             left,
+            namings,
         } = self;
-        Job::new(capacity, turns, scripts, conditions, expected).leaving(left)
+        let job = Job::new(capacity, turns, scripts, conditions, expected);
+        job.leaving(left).naming(namings)
     }
 
     /// The job of which one more step may be given up though polls are left, if ranks decide it together, as by a rank that dies
@@ -119,14 +154,16 @@ impl Job {
             conditions,
             expected,
             mut left,
+            namings,
         } = self;
         left.push(LeftStep { rank, at })?;
         let others = without(expected, rank, at);
-        Ok(Job::new(capacity, turns, scripts, conditions, others).leaving(left))
+        let job = Job::new(capacity, turns, scripts, conditions, others);
+        Ok(job.leaving(left).naming(namings))
     }
 
     /// The job with one more step, a stop, before the step `at` of a rank, or after its last one. Later steps have a number more,
-    /// by which its waits, receives of probed letters, cancels and conditions then name them. The job itself stays as it is.
+    /// by which its waits, receives of probed letters, cancels, conditions and namings then name them. The job itself stays as it is.
     ///
     /// # Errors
     ///
@@ -150,7 +187,9 @@ impl Job {
         let mut scripts = copied_scripts(alloc, self.scripts.as_slice())?;
         scripts[rank as usize] = steps;
         let left = moved_left(alloc, self.left.as_slice(), rank, at, len)?;
-        Ok(Job::new(self.capacity, self.turns, scripts, conditions, expected).leaving(left))
+        let namings = moved_namings(alloc, self.namings.as_slice(), rank, at, len)?;
+        let job = Job::new(self.capacity, self.turns, scripts, conditions, expected);
+        Ok(job.leaving(left).naming(namings))
     }
 
     /// How many ranks there are, 1 to 8. Each has a script.
@@ -224,6 +263,37 @@ impl Job {
         ensures { result.now ≡ self.now.left }
     {
         &self.left
+    }
+
+    /// Which steps are on communicators that earlier steps make.
+    pub fn namings(&self) -> &[Naming]
+        ensures { result.now ≡ self.now.namings }
+    {
+        &self.namings
+    }
+
+    /// The naming of a step, if it has one.
+    pub fn naming_at(&self, rank: u8, place: usize) -> Option<&Naming>
+        ensures { option_map (λ naming. naming.now) result ≡ naming_at self.now rank place }
+    {
+        self.namings.iter().find(|naming| naming.is_of(rank, place))
+    }
+
+    /// The name by which a step calls its communicator, if it does.
+    pub fn called(&self, rank: u8, place: usize) -> Option<&str>
+        ensures { option_map (λ name. name.now) result ≡ called_at self.now rank place }
+    {
+        Some(self.naming_at(rank, place)?.name.as_str())
+    }
+
+    /// A step as it is told of, where there is one.
+    pub fn told(&self, rank: u8, place: usize) -> Option<StepWords<'_>>
+        ensures { option_map told_view result ≡ told_at self.now rank place }
+    {
+        Some(StepWords {
+            step: self.step(rank, place)?,
+            called: self.called(rank, place),
+        })
     }
 
     /// Whether ranks decide a step together: a shrink or an agreement.

@@ -1,7 +1,8 @@
 //! Jobs: what the ranks are to do, and where they stop.
 //!
 //! A [`Job`] has 1 to 8 ranks and 1 to 256 steps in all, or none. A [`Step`] is one call of a rank. A [`Condition`] is asked of an earlier answer
-//! for a step to be played, a [`Clause`] is what a step expects of its answer. A [`LeftStep`] may be given up while it stands open. `ulfm_reader`
+//! for a step to be played, a [`Clause`] is what a step expects of its answer. A [`LeftStep`] may be given up while it stands open. By a [`Naming`] a
+//! step is on the communicator that an earlier one was answered; [`Asked`] is a step as it is played, on that one. `ulfm_reader`
 //! reads a job from its text, and all that plays one stands on this crate:
 //!
 //!     for step in job.script(rank) { .. }
@@ -32,9 +33,9 @@
 //! - `job.rt`, `limits.rt`, `fault.rt`: a job, its limits, and why one is refused; `copied.rt`: a job once more
 //! - `op.rt`: the ops, by their names, their keys, and how their answers begin, in one table (Ops.antt)
 //! - `step.rt`: a step; `words.rt`: its words; `copying.rt`: it once more; `noted_step.rt`: as a report keeps it; `label.rt`, `text.rt`, `texts.rt`:
-//!   its texts
+//!   its texts; `asked.rt`: as it is played (Naming.antt)
 //! - `condition.rt`, `clause.rt`: what is asked of answers; `left_step.rt`, `joint.rt`: steps that may be given up, and those that ranks decide
-//!   together
+//!   together; `naming.rt`: those on communicators that earlier ones make
 //! - `place.rt`, `stop.rt`: where ranks stop; `place_text.rt`: a place as it is read; `digits.rt`: a number as it is read (Digits.antt);
 //!   `job_places.rt`: [`places`], all of a job; `job_stops.rt`: its own stops
 //! - `script_with_stop.rt`, `shifted_numbers.rt`: a script with one more stop, and the numbers of its steps then
@@ -42,6 +43,7 @@
 //! Not here: whether a job gets stuck, or what its steps are answered.
 #![tactic(auto)]
 
+mod asked;
 mod clause;
 mod condition;
 mod copied;
@@ -55,6 +57,7 @@ mod joint;
 mod label;
 mod left_step;
 pub mod limits;
+mod naming;
 mod noted_step;
 mod op;
 mod place;
@@ -67,6 +70,7 @@ mod text;
 mod texts;
 mod words;
 
+pub use asked::{Asked, Sending};
 pub use clause::Clause;
 pub use condition::Condition;
 pub use copied::expecting;
@@ -78,7 +82,8 @@ pub use job_stops::own_stops;
 pub use label::Label;
 pub use left_step::LeftStep;
 pub use limits::MOST_STEPS;
-pub use noted_step::NotedStep;
+pub use naming::Naming;
+pub use noted_step::{NotedStep, NotedWords};
 pub use op::{OPS, Op};
 pub use place::Place;
 pub use place_text::unstarred;
@@ -86,3 +91,4 @@ pub use step::Step;
 pub use stop::Stop;
 pub use text::Text;
 pub use texts::Texts;
+pub use words::{CalledComm, StepWords};

@@ -1,10 +1,11 @@
 //! Steps as a report keeps them.
-ghost use Rattle.std.specs.Prelude.{◌≡◌, Some};
+ghost use Rattle.std.specs.Prelude.{◌≡◌, Some, option_map};
 ghost use Rattle.ulfm_job.specs.Words.{step_text};
 
+use crate::asked::Asked;
 use crate::step::Step;
 use crate::text::Text;
-use crate::words::BodilessSend;
+use crate::words::{BodilessSend, StepWords};
 use std::fmt;
 use std::marker::Model;
 use ulfm_base::{Context, Noted, OutOfMemory, Tag};
@@ -44,26 +45,20 @@ impl NotedStep {
     ghost use Rattle.ulfm_job.specs.Job.{decides_on, is_agreement_step};
 
     /// What a report keeps of a step. It never answers out of memory.
-    pub fn of(step: &Step) -> NotedStep
-        ensures { result ≡ step.now }
+    pub fn of(asked: &Asked<'_>) -> NotedStep
+        ensures { result ≡ asked.now }
     {
-        if let Step::Send {
-            to,
-            tag,
-            body,
-            comm,
-        } = step
-        {
+        if let Some(send) = asked.sending() {
             return NotedStep {
                 kept: Kept::Send {
-                    to: *to,
-                    tag: *tag,
-                    body: Noted::of(body),
-                    comm: *comm,
+                    to: send.to,
+                    tag: send.tag,
+                    body: Noted::of(send.body),
+                    comm: send.comm,
                 },
             };
         }
-        match step.bodiless() {
+        match asked.bodiless() {
             Some(step) => NotedStep {
                 kept: Kept::Other(step),
             },
@@ -117,17 +112,34 @@ impl Clone for NotedStep {
     }
 }
 
+/// A step in a report, and the name by which it calls its communicator, where it does.
+#[derive(Clone, Copy)]
+pub struct NotedWords<'a> {
+    pub step: &'a NotedStep,
+    pub called: Option<&'a str>,
+}
+
 /// The words of the step.
-impl fmt::Display for NotedStep {
-    ghost output = { λ step. Some (step_text step) };
+impl fmt::Display for NotedWords<'_> {
+    ghost output = { λ told. Some (step_text (option_map (λ name. name.now) told.called) told.step.now) };
 
     fn fmt<W: fmt::Write>(&self, f: &mut fmt::Formatter<W>) -> fmt::Result {
-        match &self.kept {
+        let called = self.called;
+        match &self.step.kept {
             Kept::Send { to, tag, comm, .. } => {
                 let (to, tag, comm) = (*to, *tag, *comm);
-                write!(f, "{}", BodilessSend { to, tag, comm })
+                write!(
+                    f,
+                    "{}",
+                    BodilessSend {
+                        called,
+                        to,
+                        tag,
+                        comm
+                    }
+                )
             }
-            Kept::Other(step) => write!(f, "{step}"),
+            Kept::Other(step) => write!(f, "{}", StepWords { step, called }),
         }
     }
 }

@@ -1,11 +1,12 @@
 //! A script with one more stop.
 ghost use Rattle.std.specs.Prelude.{◌≡◌, ◌≤◌, IfErr, IfOk, length, map};
-ghost use Rattle.ulfm_job.specs.Job.{lists_of, moved_clause, moved_condition, moved_left, moved_number, moved_on, stopped_at};
+ghost use Rattle.ulfm_job.specs.Job.{lists_of, moved_clause, moved_condition, moved_left, moved_naming, moved_number, moved_on, stopped_at};
 
 use crate::clause::Clause;
 use crate::condition::Condition;
 use crate::fault::JobFault;
 use crate::left_step::LeftStep;
+use crate::naming::Naming;
 use crate::step::Step;
 use std::alloc::Global;
 use ulfm_base::OutOfMemory;
@@ -160,6 +161,38 @@ fn one_moved(step: LeftStep, rank: u8, at: u16, len: usize) -> LeftStep
     let mut moved = step;
     if moved.rank == rank {
         moved.at = moved_number(moved.at, at, len);
+    }
+    moved
+}
+
+/// Namings, once a rank whose script had `len` steps has one more before the step `at`.
+pub(crate) fn moved_namings(
+    alloc: Global,
+    namings: &[Naming],
+    rank: u8,
+    at: u16,
+    len: usize,
+) -> Result<Vec<Naming>, JobFault>
+    requires { len ≤ 256 }
+    ensures exact { IfOk result (λ moved. moved.items ≡ map (moved_naming rank at len) namings.now) }
+    ensures memory { IfErr result (λ fault. fault ≡ JobFault.OutOfMemory) }
+{
+    let mut moved = Vec::new(alloc);
+    for naming in namings {
+        moved.push(moved_naming(naming, rank, at, len))?;
+    }
+    Ok(moved)
+}
+
+/// One of these namings.
+fn moved_naming(naming: &Naming, rank: u8, at: u16, len: usize) -> Naming
+    requires { len ≤ 256 }
+    ensures { result ≡ moved_naming rank at len naming.now }
+{
+    let mut moved = naming.copy();
+    if moved.rank == rank {
+        moved.at = moved_number(moved.at, at, len);
+        moved.step = moved_number(moved.step, at, len);
     }
     moved
 }

@@ -85,6 +85,7 @@ const _: () = prove!(size_of::<Step>() <= 48);
 
 impl Step {
     ghost use Rattle.ulfm_job.specs.Job.{decides_on, is_agreement_step};
+    ghost use Rattle.ulfm_job.specs.Naming.{on_comm};
     ghost use Rattle.ulfm_job.specs.Ops.{op_of};
 
     /// Its op.
@@ -134,6 +135,43 @@ impl Step {
         ensures { result ≡ is_agreement_step self.now }
     {
         matches!(self, Step::Agree { .. })
+    }
+
+    /// The step on another communicator, where it is on one.
+    pub fn on(self, other: Context) -> Step
+        ensures { result ≡ on_comm other self }
+    {
+        match self {
+            Step::Send { to, tag, body, .. } => Step::Send {
+                to,
+                tag,
+                body,
+                comm: other,
+            },
+            Step::Recv {
+                from,
+                tag,
+                room,
+                ..
+            } => Step::Recv {
+                from,
+                tag,
+                room,
+                comm: other,
+            },
+            Step::Probe { from, tag, .. } => Step::Probe {
+                from,
+                tag,
+                comm: other,
+            },
+            Step::Failed { .. } => Step::Failed { comm: other },
+            Step::Ack { count, .. } => Step::Ack { count, comm: other },
+            Step::Revoke { .. } => Step::Revoke { comm: other },
+            Step::Dup { again, .. } => Step::Dup { comm: other, again },
+            Step::Shrink { again, .. } => Step::Shrink { comm: other, again },
+            Step::Agree { flag, .. } => Step::Agree { flag, comm: other },
+            step => step,
+        }
     }
 
     /// Whether two steps are the same.

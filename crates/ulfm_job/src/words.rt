@@ -1,6 +1,6 @@
 //! The words in which steps are printed.
-ghost use Rattle.std.specs.Prelude.{Some};
-ghost use Rattle.ulfm_job.specs.Words.{again_text, send_text, source_text, step_text, tag_text};
+ghost use Rattle.std.specs.Prelude.{Some, option_map};
+ghost use Rattle.ulfm_job.specs.Words.{again_text, comm_text, send_text, source_text, tag_text, told_text, told_view};
 
 use crate::step::Step;
 use std::fmt;
@@ -52,33 +52,67 @@ impl fmt::Display for Again {
     }
 }
 
+/// A communicator, by the name that a step calls it by, or by its number.
+#[derive(Clone, Copy)]
+pub struct CalledComm<'a>(pub Option<&'a str>, pub Context);
+
+impl fmt::Display for CalledComm<'_> {
+    ghost output = { λ comm. Some (comm_text (option_map (λ name. name.now) comm.0) comm.1) };
+
+    fn fmt<W: fmt::Write>(&self, f: &mut fmt::Formatter<W>) -> fmt::Result {
+        match self.0 {
+            Some(name) => f.write_str(name),
+            None => write!(f, "{}", self.1.number),
+        }
+    }
+}
+
 /// A send without its body.
 #[derive(Clone, Copy)]
-pub(crate) struct BodilessSend {
+pub(crate) struct BodilessSend<'a> {
+    pub called: Option<&'a str>,
     pub to: u8,
     pub tag: Tag,
     pub comm: Context,
 }
 
 /// The words of a send, as `send 1 tag 5 comm 0`.
-impl fmt::Display for BodilessSend {
-    ghost output = { λ send. Some (send_text send.to send.tag send.comm) };
+impl fmt::Display for BodilessSend<'_> {
+    ghost output = { λ send. Some (send_text (option_map (λ name. name.now) send.called) send.to send.tag send.comm) };
 
     fn fmt<W: fmt::Write>(&self, f: &mut fmt::Formatter<W>) -> fmt::Result {
         let tag = self.tag.number;
-        write!(f, "send {} tag {tag} comm {}", self.to, self.comm.number)
+        let comm = CalledComm(self.called, self.comm);
+        write!(f, "send {} tag {tag} comm {comm}", self.to)
     }
 }
 
+/// A step, and the name by which it calls its communicator, where it does.
+#[derive(Clone, Copy)]
+pub struct StepWords<'a> {
+    pub step: &'a Step,
+    pub called: Option<&'a str>,
+}
+
 /// The words of a step, as `recv any tag 5 comm 0`.
-impl fmt::Display for Step {
-    ghost output = { λ step. Some (step_text step) };
+impl fmt::Display for StepWords<'_> {
+    ghost output = { λ told. Some (told_text (told_view told)) };
 
     fn fmt<W: fmt::Write>(&self, f: &mut fmt::Formatter<W>) -> fmt::Result {
-        match self {
+        let called = self.called;
+        match self.step {
             Step::Send { to, tag, comm, .. } => {
                 let (to, tag, comm) = (*to, *tag, *comm);
-                write!(f, "{}", BodilessSend { to, tag, comm })
+                write!(
+                    f,
+                    "{}",
+                    BodilessSend {
+                        called,
+                        to,
+                        tag,
+                        comm
+                    }
+                )
             }
             Step::Recv {
                 from,
@@ -88,24 +122,40 @@ impl fmt::Display for Step {
             } => {
                 let from = AnySource(*from);
                 let tag = AnyTag(*tag);
-                write!(f, "recv {from} tag {tag} comm {}", comm.number)
+                write!(
+                    f,
+                    "recv {from} tag {tag} comm {}",
+                    CalledComm(called, *comm)
+                )
             }
             Step::Wait { req } => write!(f, "wait {req}"),
             Step::Probe { from, tag, comm } => {
                 let from = AnySource(*from);
                 let tag = AnyTag(*tag);
-                write!(f, "probe {from} tag {tag} comm {}", comm.number)
+                write!(
+                    f,
+                    "probe {from} tag {tag} comm {}",
+                    CalledComm(called, *comm)
+                )
             }
             Step::Mrecv { req, .. } => write!(f, "mrecv {req}"),
             Step::Cancel { req } => write!(f, "cancel {req}"),
-            Step::Failed { comm } => write!(f, "failed comm {}", comm.number),
-            Step::Ack { count, comm } => write!(f, "ack {count} comm {}", comm.number),
-            Step::Revoke { comm } => write!(f, "revoke comm {}", comm.number),
-            Step::Dup { comm, again } => write!(f, "dup comm {}{}", comm.number, Again(*again)),
-            Step::Shrink { comm, again } => {
-                write!(f, "shrink comm {}{}", comm.number, Again(*again))
+            Step::Failed { comm } => write!(f, "failed comm {}", CalledComm(called, *comm)),
+            Step::Ack { count, comm } => {
+                write!(f, "ack {count} comm {}", CalledComm(called, *comm))
             }
-            Step::Agree { flag, comm } => write!(f, "agree {flag} comm {}", comm.number),
+            Step::Revoke { comm } => write!(f, "revoke comm {}", CalledComm(called, *comm)),
+            Step::Dup { comm, again } => {
+                let comm = CalledComm(called, *comm);
+                write!(f, "dup comm {comm}{}", Again(*again))
+            }
+            Step::Shrink { comm, again } => {
+                let comm = CalledComm(called, *comm);
+                write!(f, "shrink comm {comm}{}", Again(*again))
+            }
+            Step::Agree { flag, comm } => {
+                write!(f, "agree {flag} comm {}", CalledComm(called, *comm))
+            }
             Step::Note { text } => {
                 let text = text.as_str();
                 write!(f, "note {text}")

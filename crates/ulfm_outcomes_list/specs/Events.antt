@@ -1,10 +1,11 @@
 -- What ranks do in a schedule: an object each.
-use Rattle.std.specs.Prelude.{ℕ, List, [], ◌++◌, Option, Some, None, codes, slice_get}
+use Rattle.std.specs.Prelude.{ℕ, List, [], ◌++◌, Option, Some, None, codes}
 use Rattle.std.specs.Fmt.{decimal}
 use Rattle.ulfm_answer.specs.declared.answer.StepAnswer.{StepAnswer}
 use Rattle.ulfm_base.specs.declared.context.Context.{Context}
 use Rattle.ulfm_base.specs.declared.tag.Tag.{Tag}
-use Rattle.ulfm_job.specs.Job.{JobView, script_at}
+use Rattle.ulfm_job.specs.Job.{JobView}
+use Rattle.ulfm_job.specs.Words.{told_at}
 use Rattle.ulfm_forms.specs.Call.{comm_json}
 use Rattle.ulfm_forms.specs.Trace.{answered_json, head_json}
 use Rattle.ulfm_schedule.specs.declared.cargo.Cargo.{Cargo}
@@ -40,11 +41,11 @@ took_json r s cargo = codes "{\"rank\":" ++ decimal r ++ codes ",\"event\":\"too
 
 -- the step k of the rank r that is opened
 abbrev pub opened_json : List Name → JobView → ℕ → ℕ → List ℕ
-opened_json names job r k = head_json names r k (slice_get (script_at job r) k) ++ codes ",\"event\":\"opened\""
+opened_json names job r k = head_json names r k (told_at job r k) ++ codes ",\"event\":\"opened\""
 
 -- the step k of the rank r that is answered
 abbrev pub done_json : List Name → JobView → ℕ → ℕ → StepAnswer → List ℕ
-done_json names job r k answer = answered_json names r k (slice_get (script_at job r) k) answer ++ codes ",\"event\":\"answered\""
+done_json names job r k answer = answered_json names r k (told_at job r k) answer ++ codes ",\"event\":\"answered\""
 
 -- what the rank r does, but for the end of the object
 abbrev pub deed_json : List Name → JobView → ℕ → Deed → List ℕ

@@ -1,12 +1,13 @@
 -- A schedule as an array of objects: its events, the trace that it leaves, and what steps wait for that stand open.
-use Rattle.std.specs.Prelude.{ℕ, ◌+◌, true, false, List, [], ◌∷◌, ◌++◌, Option, Some, None, Vec, codes, length, map, slice_get}
+use Rattle.std.specs.Prelude.{ℕ, ◌+◌, true, false, List, [], ◌∷◌, ◌++◌, Option, Some, None, Vec, codes, length, map}
 use Rattle.std.specs.Fmt.{decimal}
 use Rattle.std.specs.List.{flat_map}
 use Rattle.std.specs.declared.alloc.Global.{Global}
 use Rattle.ulfm_answer.specs.declared.answer.StepAnswer.{StepAnswer}
 use Rattle.ulfm_answer.specs.declared.answer.StepAnswer.TheVariants.{Unfinished}
 use Rattle.ulfm_answer.specs.declared.answer.StepReport.{StepReport}
-use Rattle.ulfm_job.specs.Job.{JobView, script_at}
+use Rattle.ulfm_job.specs.Job.{JobView}
+use Rattle.ulfm_job.specs.Words.{told_at}
 use Rattle.ulfm_job.specs.declared.step.Step.{Step}
 use Rattle.ulfm_forms.specs.Parts.{objects_json}
 use Rattle.ulfm_forms.specs.Trace.{answered_json, ended_json}
@@ -21,7 +22,7 @@ use Rattle.ulfm_outcomes_list.specs.Waits.{wait_json}
 
 -- the step k of the rank r with its answer
 abbrev pub step_object : List Name → JobView → ℕ → ℕ → StepAnswer → List ℕ
-step_object names job r k answer = answered_json names r k (slice_get (script_at job r) k) answer ++ codes "}"
+step_object names job r k answer = answered_json names r k (told_at job r k) answer ++ codes "}"
 
 -- the answered steps of a rank, the first of them numbered k
 abbrev pub step_objects : List Name → JobView → ℕ → ℕ → List StepReport → List (List ℕ)

@@ -47,9 +47,9 @@ course_in wording job c = lines_in wording job c.rank 0 c.steps.items ++ left_in
 
 -- a schedule of a job in MPI's words
 abbrev pub mpi_schedule : JobView → Schedule → List ℕ
-mpi_schedule job s = codes "events:\n" ++ flat_map (move_in Mpi job) s.moves.items ++ codes "trace:\n" ++ flat_map (course_in Mpi job) s.courses.items ++ open_text s.waits
+mpi_schedule job s = codes "events:\n" ++ flat_map (move_in Mpi job) s.moves.items ++ codes "trace:\n" ++ flat_map (course_in Mpi job) s.courses.items ++ open_text job s.waits
 
 -- a schedule of a job in these words
 abbrev pub schedule_in : Wording → JobView → Schedule → List ℕ
-schedule_in Plain job s = schedule_text s
+schedule_in Plain job s = schedule_text job s
 schedule_in Mpi job s = mpi_schedule job s

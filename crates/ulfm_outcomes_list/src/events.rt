@@ -1,6 +1,6 @@
 //! What ranks do in a schedule, as objects.
-ghost use Rattle.std.specs.Prelude.{◌≡◌, ◌++◌, IfOk, OnOk, slice_get, string_bytes};
-ghost use Rattle.ulfm_job.specs.Job.{script_at};
+ghost use Rattle.std.specs.Prelude.{◌≡◌, ◌++◌, IfOk, OnOk, string_bytes};
+ghost use Rattle.ulfm_job.specs.Words.{told_at};
 ghost use Rattle.ulfm_forms.specs.Trace.{answered_json, head_json};
 ghost use Rattle.ulfm_outcomes_list.specs.Events.{cargo_json, deed_json, done_json, kind_json, left_json, letter_json, message_json, move_json, opened_json, took_json};
 
@@ -75,10 +75,10 @@ pub(crate) fn push_step_head(
     r: u8,
     k: usize,
 ) -> Result<(), AllocError>
-    ensures { OnOk result (string_bytes text.new ≡ string_bytes text.old ++ head_json asked.now.names.items r k (slice_get (script_at asked.now.job r) k)) }
+    ensures { OnOk result (string_bytes text.new ≡ string_bytes text.old ++ head_json asked.now.names.items r k (told_at asked.now.job r k)) }
 {
     let names = asked.names.as_slice();
-    push_head(text, names, r, k, asked.job.step(r, k))
+    push_head(text, names, r, k, asked.job.told(r, k))
 }
 
 /// Begins the object of the step `k` of the rank `r` with its answer, but for the end of the object.
@@ -89,10 +89,10 @@ pub(crate) fn push_step_answered(
     k: usize,
     answer: &StepAnswer,
 ) -> Result<(), AllocError>
-    ensures { OnOk result (string_bytes text.new ≡ string_bytes text.old ++ answered_json asked.now.names.items r k (slice_get (script_at asked.now.job r) k) answer.now) }
+    ensures { OnOk result (string_bytes text.new ≡ string_bytes text.old ++ answered_json asked.now.names.items r k (told_at asked.now.job r k) answer.now) }
 {
     let names = asked.names.as_slice();
-    push_answered(text, names, r, k, asked.job.step(r, k), answer)
+    push_answered(text, names, r, k, asked.job.told(r, k), answer)
 }
 
 /// Puts the step `k` of the rank `r`, which is opened.

@@ -1,10 +1,11 @@
 //! The steps of a job, in the order of the trace.
 ghost use Rattle.std.specs.Prelude.{◌≡◌, ◌++◌, IfOk, OnOk, map};
+ghost use Rattle.ulfm_job.specs.Job.{script_at};
 ghost use Rattle.ulfm_outcomes_list.specs.Listed.{all_steps, script_steps, step_view};
 
 use std::alloc::Global;
 use ulfm_base::OutOfMemory;
-use ulfm_job::{Job, Step};
+use ulfm_job::{Job, StepWords};
 
 /// A step of a job, and where it stands there.
 #[derive(Clone, Copy)]
@@ -13,8 +14,8 @@ pub struct JobStep<'a> {
     pub rank: u8,
     /// Its number.
     pub number: usize,
-    /// The step.
-    pub step: &'a Step,
+    /// The step, as it is told of.
+    pub step: StepWords<'a>,
 }
 
 /// All steps of a job: those of the first rank, then those of the next.
@@ -23,25 +24,23 @@ pub struct JobStep<'a> {
 ///
 /// `OutOfMemory` where a growth was refused.
 pub fn steps_of(alloc: Global, job: &Job) -> Result<Vec<JobStep<'_>>, OutOfMemory>
-    ensures { IfOk result (λ steps. map step_view steps.items ≡ all_steps 0 job.now.scripts) }
+    ensures { IfOk result (λ steps. map step_view steps.items ≡ all_steps job.now) }
 {
     let mut steps = Vec::new(alloc);
     for rank in 0..job.ranks() {
-        push_script(&mut steps, rank, job.script(rank))?;
+        push_script(&mut steps, job, rank)?;
     }
     Ok(steps)
 }
 
 /// Puts the steps of a rank behind others.
-fn push_script<'a>(
-    steps: &mut Vec<JobStep<'a>>,
-    rank: u8,
-    script: &'a [Step],
-) -> Result<(), OutOfMemory>
-    ensures { OnOk result (map step_view steps.new.items ≡ map step_view steps.old.items ++ script_steps rank 0 script.now) }
+fn push_script<'a>(steps: &mut Vec<JobStep<'a>>, job: &'a Job, rank: u8) -> Result<(), OutOfMemory>
+    ensures { OnOk result (map step_view steps.new.items ≡ map step_view steps.old.items ++ script_steps job.now rank 0 (script_at job.now rank)) }
 {
-    for (number, step) in script.iter().enumerate() {
-        steps.push(JobStep { rank, number, step })?;
+    for number in 0..job.script_len(rank) {
+        if let Some(step) = job.told(rank, number) {
+            steps.push(JobStep { rank, number, step })?;
+        }
     }
     Ok(())
 }

@@ -144,7 +144,7 @@ fn push_mpi_schedule(text: &mut String, job: &Job, schedule: &Schedule) -> Resul
     push_moves(text, Wording::Mpi, job, schedule.moves.as_slice())?;
     text.push_str("trace:\n")?;
     push_courses(text, Wording::Mpi, job, schedule.courses.as_slice())?;
-    push_waits(text, &schedule.waits)
+    push_waits(text, job, &schedule.waits)
 }
 
 /// Puts a schedule of a job in these words: its moves, a line each; the trace that it leaves; and what steps wait for, if that is told.
@@ -157,7 +157,7 @@ pub fn push_schedule_in(
     ensures { OnOk result (string_bytes text.new ≡ string_bytes text.old ++ schedule_in wording job.now schedule.now) }
 {
     match wording {
-        Wording::Plain => push_schedule(text, schedule),
+        Wording::Plain => push_schedule(text, job, schedule),
         Wording::Mpi => push_mpi_schedule(text, job, schedule),
     }
 }

@@ -94,4 +94,4 @@ module _ (job : JobView) (limit : ℕ) (found : List (List ℕ)) (list : HasList
 -- and so may the one that is drawn
 pub left_possible : (drawn : Option Style) (job : JobView) (limit : ℕ) (found : List (List ℕ)) (left : Unmet) → HasList job limit found → left_drawn drawn job found ≡ Some left → Judges job (Some left)
 left_possible None job limit found left list same = absurd (none-some left same)
-left_possible (Some style) job limit found left list same = first job limit found list (all_steps 0 job.scripts) left same
+left_possible (Some style) job limit found left list same = first job limit found list (all_steps job) left same

@@ -59,15 +59,15 @@ is_note _ = false
 
 -- the line of a step is asked for, where the text that names steps has these parts: all are, or notes are and it is one, or it is named
 abbrev pub is_chosen : ChoiceView → List (List ℕ) → List Name → StepView → Bool
-is_chosen choice parts names s = is_all choice || (choice.has_notes && is_note s.step) || are_called parts (labels names s)
+is_chosen choice parts names s = is_all choice || (choice.has_notes && is_note s.step.step) || are_called parts (labels names s)
 
 -- the steps whose lines are asked for
 abbrev pub chosen : ChoiceView → Asked → List StepView
-chosen choice asked = filter (is_chosen choice (parts_of choice.only) asked.names) (all_steps 0 asked.job.scripts)
+chosen choice asked = filter (is_chosen choice (parts_of choice.only) asked.names) (all_steps asked.job)
 
 -- the first part that names no step
 abbrev pub unknown_part : ChoiceView → Asked → Option (List ℕ)
-unknown_part choice asked = find (λ part. not (is_called (flat_map (labels asked.names) (all_steps 0 asked.job.scripts)) part)) (parts_of choice.only)
+unknown_part choice asked = find (λ part. not (is_called (flat_map (labels asked.names) (all_steps asked.job)) part)) (parts_of choice.only)
 
 -- the list of an exploration of a job, which comes to this, in this form
 abbrev pub list_in : Form → ChoiceView → Asked → Judgement → Reached → List ℕ

@@ -29,7 +29,7 @@ first_left found (s ∷ steps) = option_or (left_of found s) (first_left found s
 -- that of a job, where a picture is asked for
 abbrev pub left_drawn : Option Style → JobView → List (List ℕ) → Option Unmet
 left_drawn None job found = None
-left_drawn (Some style) job found = first_left found (all_steps 0 job.scripts)
+left_drawn (Some style) job found = first_left found (all_steps job)
 
 -- The status, and what is written of a step that never ends: with 0 a picture of a schedule in which it never ends, with 7 that there are more
 -- states than the limit.

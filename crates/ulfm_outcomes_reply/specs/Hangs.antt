@@ -29,8 +29,8 @@ hangs_somewhere is_strict asked steps listed = list_any (λ (one : Listed). hang
 
 -- what the list of a job comes to
 abbrev pub judgement_alone : Bool → Asked → List (List ℕ) → Judgement
-judgement_alone is_strict asked found = good_judgement (hangs_at is_strict asked (all_steps 0 asked.job.scripts) Nowhere found) (asks asked)
+judgement_alone is_strict asked found = good_judgement (hangs_at is_strict asked (all_steps asked.job) Nowhere found) (asks asked)
 
 -- what the lists of places do
 abbrev pub judgement_of_all : Bool → Asked → List Listed → Judgement
-judgement_of_all is_strict asked listed = good_judgement (hangs_somewhere is_strict asked (all_steps 0 asked.job.scripts) listed) (asks asked)
+judgement_of_all is_strict asked listed = good_judgement (hangs_somewhere is_strict asked (all_steps asked.job) listed) (asks asked)

@@ -129,7 +129,7 @@ fn is_chosen(
 ) -> Result<bool, AllocError>
     ensures { IfOk result (λ is. is ≡ is_chosen (choice_view choice.entry) (map (λ p. p.now) parts.now) names.now (step_view at.now)) }
 {
-    if is_all(choice) || (choice.has_notes && is_note(at.step)) {
+    if is_all(choice) || (choice.has_notes && is_note(at.step.step)) {
         return Ok(true);
     }
     let mut labels = Vec::new(alloc);

@@ -5,7 +5,7 @@ use Rattle.toml.specs.Data.{Members, get_member}
 use Rattle.ulfm_job.specs.Ops.{op_keys, op_named}
 use Rattle.ulfm_job.specs.declared.op.Op.{Op}
 use Rattle.ulfm_job.specs.declared.op.Op.TheVariants as op
-use Rattle.ulfm_reader.specs.Keys.{only_keys, optional_bool, optional_number, required_number, required_text}
+use Rattle.ulfm_reader.specs.Keys.{only_keys, optional_bool, optional_comm, optional_number, required_number, required_text}
 use Rattle.ulfm_reader.specs.Plan.{Order, PlannedStep}
 use Rattle.ulfm_reader.specs.Reacting.{required_reference}
 use Rattle.ulfm_reader.specs.StepText.{ack_step, agree_step, known, making_step, mrecv_step, note_step, probe_step, recv_step, send_step, step_of, step_of_op, step_on_comm, step_on_req, stop_step}
@@ -19,7 +19,7 @@ send_plain ranks ms s is =
     let to = ok_first (required_number (codes "to") ms) _ s rank.2 in
     let tag = ok_first (required_number (codes "tag") ms) _ s to.2 in
     let body = ok_first (required_text (codes "body") ms) _ s tag.2 in
-    let comm = ok_first (optional_number (codes "comm") ms) _ s body.2 in
+    let comm = ok_first (optional_comm ms) _ s body.2 in
     let keys = ok_first (only_keys (op_keys op.Send) ms) _ s comm.2 in
     plain ms rank.0 rank.1 (op_keys op.Send) keys.0 keys.1 (number_no_text (get_member (codes "to") ms) to.0 to.1)
     (gone_text ms rank.0 rank.1 (op_keys op.Send) keys.0 keys.1 (codes "from") refl) refl refl
@@ -31,7 +31,7 @@ recv_plain ranks ms s is =
     let from = ok_first (optional_number (codes "from") ms) _ s rank.2 in
     let tag = ok_first (optional_number (codes "tag") ms) _ s from.2 in
     let room = ok_first (optional_number (codes "room") ms) _ s tag.2 in
-    let comm = ok_first (optional_number (codes "comm") ms) _ s room.2 in
+    let comm = ok_first (optional_comm ms) _ s room.2 in
     let keys = ok_first (only_keys (op_keys op.Recv) ms) _ s comm.2 in
     plain ms rank.0 rank.1 (op_keys op.Recv) keys.0 keys.1 (gone_text ms rank.0 rank.1 (op_keys op.Recv) keys.0 keys.1 (codes "to") refl)
     (no_text (get_member (codes "from") ms) from.0 from.1) refl refl
@@ -42,7 +42,7 @@ probe_plain ranks ms s is =
     let rank = ok_first (required_number (codes "rank") ms) _ s is in
     let from = ok_first (optional_number (codes "from") ms) _ s rank.2 in
     let tag = ok_first (optional_number (codes "tag") ms) _ s from.2 in
-    let comm = ok_first (optional_number (codes "comm") ms) _ s tag.2 in
+    let comm = ok_first (optional_comm ms) _ s tag.2 in
     let keys = ok_first (only_keys (op_keys op.Probe) ms) _ s comm.2 in
     plain ms rank.0 rank.1 (op_keys op.Probe) keys.0 keys.1 (gone_text ms rank.0 rank.1 (op_keys op.Probe) keys.0 keys.1 (codes "to") refl)
     (no_text (get_member (codes "from") ms) from.0 from.1) refl refl
@@ -59,7 +59,7 @@ comm_plain : (o : Op) (order_on : ℕ → Order) (ranks : ℕ) (ms : Members) (s
 unfolding step_on_comm
 comm_plain o order_on ranks ms s lacks is =
     let rank = ok_first (required_number (codes "rank") ms) _ s is in
-    let comm = ok_first (optional_number (codes "comm") ms) _ s rank.2 in
+    let comm = ok_first (optional_comm ms) _ s rank.2 in
     let keys = ok_first (only_keys (op_keys o) ms) _ s comm.2 in
     other_plain ms rank.0 (op_keys o) keys.0 rank.1 keys.1 lacks.0 lacks.1 lacks.2 lacks.3
 
@@ -67,7 +67,7 @@ making_plain : (o : Op) (order_on : ℕ → Bool → Order) (ranks : ℕ) (ms : 
 unfolding making_step
 making_plain o order_on ranks ms s lacks is =
     let rank = ok_first (required_number (codes "rank") ms) _ s is in
-    let comm = ok_first (optional_number (codes "comm") ms) _ s rank.2 in
+    let comm = ok_first (optional_comm ms) _ s rank.2 in
     let again = ok_first (optional_bool (codes "again") ms) _ s comm.2 in
     let keys = ok_first (only_keys (op_keys o) ms) _ s again.2 in
     other_plain ms rank.0 (op_keys o) keys.0 rank.1 keys.1 lacks.0 lacks.1 lacks.2 lacks.3
@@ -86,7 +86,7 @@ unfolding ack_step
 ack_plain ranks ms s is =
     let rank = ok_first (required_number (codes "rank") ms) _ s is in
     let count = ok_first (required_number (codes "count") ms) _ s rank.2 in
-    let comm = ok_first (optional_number (codes "comm") ms) _ s count.2 in
+    let comm = ok_first (optional_comm ms) _ s count.2 in
     let keys = ok_first (only_keys (op_keys op.Ack) ms) _ s comm.2 in
     other_plain ms rank.0 (op_keys op.Ack) keys.0 rank.1 keys.1 refl refl refl refl
 
@@ -95,7 +95,7 @@ unfolding agree_step
 agree_plain ranks ms s is =
     let rank = ok_first (required_number (codes "rank") ms) _ s is in
     let flag = ok_first (required_number (codes "flag") ms) _ s rank.2 in
-    let comm = ok_first (optional_number (codes "comm") ms) _ s flag.2 in
+    let comm = ok_first (optional_comm ms) _ s flag.2 in
     let keys = ok_first (only_keys (op_keys op.Agree) ms) _ s comm.2 in
     other_plain ms rank.0 (op_keys op.Agree) keys.0 rank.1 keys.1 refl refl refl refl
 

@@ -172,7 +172,7 @@ fn push_row(
 
 /// Puts a step in words.
 fn push_step(page: &mut String, job: &Job, rank: u8, step: usize) -> Result<(), AllocError> {
-    match job.step(rank, step) {
+    match job.told(rank, step) {
         Some(call) => write!(page, "{rank}.{step} {call}"),
         None => Ok(()),
     }

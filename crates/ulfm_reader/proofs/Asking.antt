@@ -75,7 +75,7 @@ module _ (read : ℕ → List Condition → Option Members → Result (List Cond
   tables-done before vs i le = rw (drop_all i vs le) refl
 
 -- nothing was read
-pub blank-view : (d : CodedDraft) (ranks : ℕ) → lists_of d.scripts.items ≡ replicate ranks [] → d.names.items ≡ [] → d.filed.items ≡ [] → d.conditions.items ≡ [] → d.expected.items ≡ [] → d.provisos.items ≡ [] → draft_view d ≡ blank ranks
-blank-view d ranks scripts names filed conditions expected provisos =
+pub blank-view : (d : CodedDraft) (ranks : ℕ) → lists_of d.scripts.items ≡ replicate ranks [] → d.names.items ≡ [] → d.filed.items ≡ [] → d.namings.items ≡ [] → d.conditions.items ≡ [] → d.expected.items ≡ [] → d.provisos.items ≡ [] → draft_view d ≡ blank ranks
+blank-view d ranks scripts names filed namings conditions expected provisos =
     let orders : map (map order_of) (lists_of d.scripts.items) ≡ replicate ranks [] = ap (map (map order_of)) scripts ∙ orders-empty ranks in
-    cc (orders, names, filed, conditions, expected, provisos)
+    cc (orders, names, filed, namings, conditions, expected, provisos)

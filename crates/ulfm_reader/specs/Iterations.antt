@@ -90,7 +90,7 @@ refer_if block rank i ms = put_if_some (codes "if") (referred_if block rank i (g
 -- what names steps, where the step has a rank
 abbrev pub refer_for : List Data → ℕ → Members → Option ℤ → Members
 refer_for block i ms None = ms
-refer_for block i ms (Some rank) = refer_if block rank i (refer block rank i (codes "req") ms)
+refer_for block i ms (Some rank) = refer_if block rank i (refer block rank i (codes "comm") (refer block rank i (codes "req") ms))
 
 -- a step of a block in its iteration of this number
 abbrev pub iterated : List Data → ℕ → Members → Members

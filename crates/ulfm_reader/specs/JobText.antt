@@ -12,6 +12,7 @@ use Rattle.ulfm_reader.specs.Members.{listed}
 use Rattle.ulfm_reader.specs.Keys.{◌>>=◌, required_number, only_keys, in_range}
 use Rattle.ulfm_job.specs.declared.clause.Clause.{Clause}
 use Rattle.ulfm_job.specs.declared.condition.Condition.{Condition}
+use Rattle.ulfm_job.specs.declared.naming.Naming.{Naming}
 use Rattle.ulfm_reader.specs.declared.filed.Filed.{Filed}
 use Rattle.ulfm_reader.specs.declared.name.Name.{Name}
 use Rattle.ulfm_reader.specs.declared.proviso.Proviso.{Proviso}
@@ -20,7 +21,7 @@ use Rattle.std.specs.declared.alloc.Global.{Global}
 use Rattle.ulfm_reader.specs.Never.{never_items, never_out, rows_in}
 use Rattle.ulfm_reader.specs.Plan.{Order, PlannedStep, Plan, plan_of}
 use Rattle.ulfm_reader.specs.Provisos.{provisos_in, step_provisos}
-use Rattle.ulfm_reader.specs.Reacting.{names_in, conditions_in, expected_in}
+use Rattle.ulfm_reader.specs.Reacting.{names_in, namings_in, conditions_in, expected_in}
 use Rattle.ulfm_reader.specs.StepText.{step_of}
 
 -- a fault of the job's own keys
@@ -33,19 +34,20 @@ abbrev pub in_step : {A : Type 0} → ℕ → Result A Fault → Result A JobFau
 in_step k (Ok x) = Ok x
 in_step k (Err f) = Err (refused.InStep f k)
 
--- what was read of the steps: those of each rank, their names, their numbers in the file, their conditions, what they expect, and of which that
--- holds only before the steps of a name
+-- what was read of the steps: those of each rank, their names, their numbers in the file, the communicators that they name, their conditions, what
+-- they expect, and of which that holds only before the steps of a name
 pub record Draft : Type 0 where
   pub scripts : List (List Order)
   pub names : List Name
   pub filed : List Filed
+  pub namings : List Naming
   pub conditions : List Condition
   pub expected : List Clause
   pub provisos : List Proviso
 
 -- nothing was read of so many ranks
 abbrev pub blank : ℕ → Draft
-blank ranks = record { scripts = replicate ranks []; names = []; filed = []; conditions = []; expected = []; provisos = [] }
+blank ranks = record { scripts = replicate ranks []; names = []; filed = []; namings = []; conditions = []; expected = []; provisos = [] }
 
 -- one more step comes last in the script of its rank
 abbrev pub placed_in : List (List Order) → PlannedStep → List (List Order)
@@ -55,14 +57,16 @@ placed_in scripts s = slice_set scripts s.rank (slice_index_or scripts s.rank []
 abbrev pub filed_at : ℕ → ℕ → ℕ → Filed
 filed_at k rank at = record { rank = rank; at = at; place = k }
 
--- a draft with one more step, that of a place of the file: its name, then its conditions, and then what it expects, and where
+-- a draft with one more step, that of a place of the file: its name, then its conditions, then what it expects, and where, and then its communicator,
+-- where it names one
 unfoldable pub drafted : ℕ → Draft → Members → PlannedStep → Result Draft Fault
 drafted k draft ms s = do
   names ← names_in draft.names s.rank (length (slice_index_or draft.scripts s.rank [])) (get_member (codes "name") ms)
   conditions ← conditions_in (record { rank = s.rank; at = length (slice_index_or draft.scripts s.rank []); script = slice_index_or draft.scripts s.rank []; names = draft.names }) draft.conditions (get_member (codes "if") ms)
   provisos ← step_provisos s.rank (length (slice_index_or draft.scripts s.rank [])) draft.provisos (get_member (codes "expect") ms)
   expected ← expected_in s.rank (length (slice_index_or draft.scripts s.rank [])) s.order draft.expected (get_member (codes "expect") ms)
-  Ok (record { scripts = placed_in draft.scripts s; names = names; filed = draft.filed ++ filed_at k s.rank (length (slice_index_or draft.scripts s.rank [])) ∷ []; conditions = conditions; expected = expected; provisos = provisos })
+  namings ← namings_in (record { rank = s.rank; at = length (slice_index_or draft.scripts s.rank []); script = slice_index_or draft.scripts s.rank []; names = draft.names }) draft.namings (get_member (codes "comm") ms)
+  Ok (record { scripts = placed_in draft.scripts s; names = names; filed = draft.filed ++ filed_at k s.rank (length (slice_index_or draft.scripts s.rank [])) ∷ []; namings = namings; conditions = conditions; expected = expected; provisos = provisos })
 
 -- a draft with the step of a table, at a place of the file
 abbrev pub draft_of : ℕ → ℕ → Draft → Members → Result Draft Fault
@@ -133,6 +137,7 @@ planned_as h draft = record {
   conditions = draft.conditions;
   expected = draft.expected;
   left = [];
+  namings = draft.namings;
 }
 
 -- what a text asks for: the plan of its job, the rows of answers of which no run may have all, the names of steps, the place in the file

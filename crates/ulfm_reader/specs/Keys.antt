@@ -1,5 +1,5 @@
 -- What the keys of a TOML table hold, and what is wrong with them.
-use Rattle.std.specs.Prelude.{ℕ, ◌+◌, ℤ, pos, negsuc, List, [], ◌∷◌, Bool, ◌&&◌, nat_le, Option, Some, None, Result, Ok, Err, if◌then◌else◌}
+use Rattle.std.specs.Prelude.{ℕ, ◌+◌, ℤ, pos, negsuc, List, [], ◌∷◌, Bool, ◌&&◌, nat_le, Option, Some, None, Result, Ok, Err, codes, if◌then◌else◌}
 use Rattle.std.specs.List.{list_any, list_all}
 use Rattle.std.specs.Option.{ok_or}
 use Rattle.std.specs.Str.{bytes_eq}
@@ -37,6 +37,21 @@ required_number key ms = required as_integer (get_member key ms)
 -- the number of a key, where it is there
 abbrev pub optional_number : List ℕ → Members → Result (Option ℤ) Fault
 optional_number key ms = optional as_integer (get_member key ms)
+
+-- a number, or nothing for a text
+abbrev pub number_or_text : Option ℤ → Option (List ℕ) → Result (Option ℤ) Fault
+number_or_text (Some number) text = Ok (Some number)
+number_or_text None (Some text) = Ok None
+number_or_text None None = Err BadKey
+
+-- the number of what names a communicator, which may be a name too
+abbrev pub comm_number : Option Data → Result (Option ℤ) Fault
+comm_number None = Ok None
+comm_number (Some d) = number_or_text (as_integer d) (as_str d)
+
+-- the number of a communicator, where one stands at its key; a name may stand there too
+abbrev pub optional_comm : Members → Result (Option ℤ) Fault
+optional_comm ms = comm_number (get_member (codes "comm") ms)
 
 -- whether a key says so, where it is there
 abbrev pub optional_bool : List ℕ → Members → Result (Option Bool) Fault

@@ -3,6 +3,7 @@ use Rattle.std.specs.Prelude.{ℕ, Bool, List, Option, map, option_map}
 use Rattle.ulfm_job.specs.declared.clause.Clause.{Clause}
 use Rattle.ulfm_job.specs.declared.condition.Condition.{Condition}
 use Rattle.ulfm_job.specs.declared.left_step.LeftStep.{LeftStep}
+use Rattle.ulfm_job.specs.declared.naming.Naming.{Naming}
 use Rattle.ulfm_job.specs.declared.op.Op.{Op}
 use Rattle.ulfm_job.specs.declared.op.Op.TheVariants as op
 use Rattle.ulfm_job.specs.declared.step.Step.{Step}
@@ -48,7 +49,8 @@ pub record PlannedStep : Type 0 where
   pub rank : ℕ
   pub order : Order
 
--- ranks, room of an inbox, most polls of a step, the steps of each rank, what steps ask of answers, and which may be given up early
+-- ranks, room of an inbox, most polls of a step, the steps of each rank, what steps ask of answers, which may be given up early, and which
+-- are on communicators that earlier ones make
 pub record Plan : Type 0 where
   pub ranks : ℕ
   pub capacity : ℕ
@@ -57,6 +59,7 @@ pub record Plan : Type 0 where
   pub conditions : List Condition
   pub expected : List Clause
   pub left : List LeftStep
+  pub namings : List Naming
 
 -- a step as the order that it keeps
 abbrev pub order_of : Step → Order
@@ -77,4 +80,4 @@ order_of Stop = stop
 
 -- the plan of a job
 abbrev pub plan_of : JobView → Plan
-plan_of j = record { ranks = j.ranks; capacity = j.capacity; turns = j.turns; scripts = map (map order_of) j.scripts; conditions = j.conditions; expected = j.expected; left = j.left }
+plan_of j = record { ranks = j.ranks; capacity = j.capacity; turns = j.turns; scripts = map (map order_of) j.scripts; conditions = j.conditions; expected = j.expected; left = j.left; namings = j.namings }

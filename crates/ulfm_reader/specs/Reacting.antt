@@ -1,5 +1,5 @@
 -- The names of steps, their conditions, and what they expect, by cases in the order of the checks.
-use Rattle.std.specs.Prelude.{ℕ, ℤ, ◌==◌, nat_lt, nat_le, ◌+◌, Bool, ◌&&◌, ◌||◌, List, [], ◌∷◌, ◌++◌, length, Option, Some, None, option_map, is_none, is_some, find, map, Result, Ok, Err, slice_get, if◌then◌else◌, codes}
+use Rattle.std.specs.Prelude.{ℕ, ℤ, ◌==◌, nat_lt, nat_le, ◌+◌, Bool, true, false, ◌&&◌, ◌||◌, List, [], ◌∷◌, ◌++◌, length, Option, Some, None, option_map, is_none, is_some, find, map, Result, Ok, Err, slice_get, if◌then◌else◌, codes}
 use Rattle.std.specs.List.{list_all}
 use Rattle.std.specs.Option.{ok_or}
 use Rattle.std.specs.Str.{bytes_eq}
@@ -8,10 +8,11 @@ use Rattle.ulfm_job.specs.declared.clause.Clause.{Clause}
 use Rattle.ulfm_job.specs.declared.condition.Condition.{Condition}
 use Rattle.ulfm_job.specs.declared.fault.Fault.{Fault}
 use Rattle.ulfm_job.specs.declared.fault.Fault.TheVariants.{BadKey, OutOfRange}
+use Rattle.ulfm_job.specs.declared.naming.Naming.{Naming}
 use Rattle.ulfm_reader.specs.declared.name.Name.{Name}
 use Rattle.ulfm_reader.specs.Beginnings.{may_ask, may_expect}
-use Rattle.ulfm_reader.specs.Keys.{◌>>=◌, items_len, required, only_keys, in_range}
-use Rattle.ulfm_reader.specs.Plan.{Order}
+use Rattle.ulfm_reader.specs.Keys.{◌>>=◌, items_len, label_in, required, only_keys, in_range}
+use Rattle.ulfm_reader.specs.Plan.{Order, dup, shrink}
 use Rattle.ulfm_reader.specs.Provisos.{items_by}
 
 -- a letter, a digit, `_` or `-`
@@ -177,6 +178,31 @@ any_conditions asker before None list = listed_conditions asker before list
 abbrev pub conditions_in : Asker → List Condition → Option Data → Result (List Condition) Fault
 conditions_in asker before None = Ok before
 conditions_in asker before (Some d) = any_conditions asker before (as_table d) (as_array d)
+
+-- the step makes a communicator
+abbrev pub makes_comm : Order → Bool
+makes_comm (dup comm again) = true
+makes_comm (shrink comm again) = true
+makes_comm _ = false
+
+-- that a step is on the communicator that an earlier one makes
+abbrev pub naming_of : Asker → List ℕ → ℕ × Order → Result Naming Fault
+naming_of asker name found =
+    if makes_comm found.1 then Ok (record { rank = asker.rank; at = asker.at; step = found.0; name = name }) else Err OutOfRange
+
+-- so by its name
+abbrev pub naming_in : Asker → List ℕ → Result Naming Fault
+naming_in asker text = label_in text >>= (λ name. earlier_in asker (by_name text) >>= naming_of asker name)
+
+-- namings, and behind them that of a text, where there is one
+abbrev pub namings_by : Asker → List Naming → Option (List ℕ) → Result (List Naming) Fault
+namings_by asker before None = Ok before
+namings_by asker before (Some text) = naming_in asker text >>= (λ n. Ok (before ++ n ∷ []))
+
+-- by the key `comm`, where it is there
+abbrev pub namings_in : Asker → List Naming → Option Data → Result (List Naming) Fault
+namings_in asker before None = Ok before
+namings_in asker before (Some d) = namings_by asker before (as_str d)
 
 -- clauses, and behind them one for each of these words, of a step's own answer
 abbrev pub clauses_with : ℕ → ℕ → List Clause → List (List ℕ) → List Clause

@@ -6,7 +6,7 @@ use Rattle.ulfm_job.specs.declared.op.Op.TheVariants as op
 use Rattle.toml.specs.Data.{Members}
 use Rattle.ulfm_job.specs.declared.fault.Fault.{Fault}
 use Rattle.ulfm_job.specs.declared.fault.Fault.TheVariants.{UnknownOp}
-use Rattle.ulfm_reader.specs.Keys.{◌>>=◌, label_in, required_number, optional_number, optional_bool, required_text, only_keys, in_range, in_range_if_some}
+use Rattle.ulfm_reader.specs.Keys.{◌>>=◌, label_in, required_number, optional_number, optional_comm, optional_bool, required_text, only_keys, in_range, in_range_if_some}
 use Rattle.ulfm_reader.specs.declared.name.Name.{Name}
 use Rattle.ulfm_reader.specs.Reacting.{required_reference, req_in}
 use Rattle.ulfm_reader.specs.Plan.{Order, PlannedStep, send, recv, wait, probe, mrecv, cancel, failed, ack, revoke, dup, shrink, agree, note, stop}
@@ -18,7 +18,7 @@ send_step ranks ms = do
   to_key ← required_number (codes "to") ms
   tag_key ← required_number (codes "tag") ms
   body ← required_text (codes "body") ms
-  comm_key ← optional_number (codes "comm") ms
+  comm_key ← optional_comm ms
   keys ← only_keys (op_keys op.Send) ms
   rank ← in_range 0 (ranks - 1) rank_key
   to ← in_range 0 7 to_key
@@ -33,7 +33,7 @@ recv_step ranks ms = do
   from_key ← optional_number (codes "from") ms
   tag_key ← optional_number (codes "tag") ms
   room_key ← optional_number (codes "room") ms
-  comm_key ← optional_number (codes "comm") ms
+  comm_key ← optional_comm ms
   keys ← only_keys (op_keys op.Recv) ms
   rank ← in_range 0 (ranks - 1) rank_key
   from ← in_range_if_some 7 from_key
@@ -58,7 +58,7 @@ probe_step ranks ms = do
   rank_key ← required_number (codes "rank") ms
   from_key ← optional_number (codes "from") ms
   tag_key ← optional_number (codes "tag") ms
-  comm_key ← optional_number (codes "comm") ms
+  comm_key ← optional_comm ms
   keys ← only_keys (op_keys op.Probe) ms
   rank ← in_range 0 (ranks - 1) rank_key
   from ← in_range_if_some 7 from_key
@@ -82,7 +82,7 @@ mrecv_step ranks names ms = do
 unfoldable pub step_on_comm : Op → (ℕ → Order) → ℕ → Members → Result PlannedStep Fault
 step_on_comm op order_on ranks ms = do
   rank_key ← required_number (codes "rank") ms
-  comm_key ← optional_number (codes "comm") ms
+  comm_key ← optional_comm ms
   keys ← only_keys (op_keys op) ms
   rank ← in_range 0 (ranks - 1) rank_key
   comm ← in_range 0 62 (unwrap_or comm_key (pos 0))
@@ -92,7 +92,7 @@ step_on_comm op order_on ranks ms = do
 unfoldable pub making_step : Op → (ℕ → Bool → Order) → ℕ → Members → Result PlannedStep Fault
 making_step op order_on ranks ms = do
   rank_key ← required_number (codes "rank") ms
-  comm_key ← optional_number (codes "comm") ms
+  comm_key ← optional_comm ms
   again_key ← optional_bool (codes "again") ms
   keys ← only_keys (op_keys op) ms
   rank ← in_range 0 (ranks - 1) rank_key
@@ -104,7 +104,7 @@ unfoldable pub ack_step : ℕ → Members → Result PlannedStep Fault
 ack_step ranks ms = do
   rank_key ← required_number (codes "rank") ms
   count_key ← required_number (codes "count") ms
-  comm_key ← optional_number (codes "comm") ms
+  comm_key ← optional_comm ms
   keys ← only_keys (op_keys op.Ack) ms
   rank ← in_range 0 (ranks - 1) rank_key
   count ← in_range 0 8 count_key
@@ -116,7 +116,7 @@ unfoldable pub agree_step : ℕ → Members → Result PlannedStep Fault
 agree_step ranks ms = do
   rank_key ← required_number (codes "rank") ms
   flag_key ← required_number (codes "flag") ms
-  comm_key ← optional_number (codes "comm") ms
+  comm_key ← optional_comm ms
   keys ← only_keys (op_keys op.Agree) ms
   rank ← in_range 0 (ranks - 1) rank_key
   flag ← in_range 0 4294967295 flag_key

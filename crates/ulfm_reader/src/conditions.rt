@@ -19,13 +19,16 @@ use ulfm_job::{Condition, Fault, JobFault, Step, Texts};
 
 /// An earlier step with its number.
 #[derive(Clone, Copy)]
-struct Earlier<'a> {
-    number: u16,
-    step: &'a Step,
+pub(crate) struct Earlier<'a> {
+    pub(crate) number: u16,
+    pub(crate) step: &'a Step,
 }
 
 /// The earlier step that a condition names.
-fn earlier_in<'a>(asker: &Asker<'a>, reference: &Reference<'_>) -> Result<Earlier<'a>, Fault>
+pub(crate) fn earlier_in<'a>(
+    asker: &Asker<'a>,
+    reference: &Reference<'_>,
+) -> Result<Earlier<'a>, Fault>
     ensures { map_ok (λ found. (found.number, order_of found.step.now)) result ≡ earlier_in (asker_view asker.now) (reference_view reference.now) }
 {
     let number = req_in(asker.names, asker.rank, reference)?;

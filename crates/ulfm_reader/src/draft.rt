@@ -13,20 +13,22 @@ use crate::conditions::push_conditions;
 use crate::fields::value_at;
 use crate::filed::Filed;
 use crate::name::{Name, is_new_name};
+use crate::namings::push_naming;
 use crate::ops::step_of;
 use crate::placed::Placed;
 use crate::proviso::{Proviso, push_step_proviso};
 use std::alloc::Global;
 use toml::{Table, Value};
-use ulfm_job::{Clause, Condition, Fault, JobFault, Label, Step};
+use ulfm_job::{Clause, Condition, Fault, JobFault, Label, Naming, Step};
 
-/// The steps of each rank that were read, their names and places in the file, on what conditions some are played, what some expect, and
-/// of which that holds only before the steps of a name.
+/// The steps of each rank that were read, their names and places in the file, the communicators that some name, on what conditions some are played,
+/// what some expect, and of which that holds only before the steps of a name.
 #[derive(Drop)]
 pub struct Draft {
     pub scripts: Vec<Vec<Step>>,
     pub names: Vec<Name>,
     pub filed: Vec<Filed>,
+    pub namings: Vec<Naming>,
     pub conditions: Vec<Condition>,
     pub expected: Vec<Clause>,
     pub provisos: Vec<Proviso>,
@@ -43,6 +45,7 @@ impl Draft {
             scripts: empty_scripts(alloc, ranks)?,
             names: Vec::new(alloc),
             filed: Vec::new(alloc),
+            namings: Vec::new(alloc),
             conditions: Vec::new(alloc),
             expected: Vec::new(alloc),
             provisos: Vec::new(alloc),
@@ -71,7 +74,7 @@ impl Draft {
         }
     }
 
-    /// Puts a step at the end of its rank's script, with its name, its conditions, and what it expects.
+    /// Puts a step at the end of its rank's script, with its name, its conditions, what it expects, and the communicator that it names.
     #[tactic(auto, unfolding(crate::specs::JobText::drafted))]
     fn put(&mut self, place: u16, placed: Placed<'_>, table: &Table) -> Result<(), JobFault>
         requires inside { placed.rank < length self.old.scripts.items }
@@ -99,6 +102,7 @@ impl Draft {
         push_conditions(&mut self.conditions, &asker, table)?;
         push_step_proviso(&mut self.provisos, &asker, table)?;
         push_expected(&mut self.expected, &asker, &step, table)?;
+        push_naming(&mut self.namings, &asker, table)?;
         push_name(&mut self.names, rank, at, name)?;
         self.filed.push(Filed { rank, at, place })?;
         push_step(&mut self.scripts, rank, step)?;

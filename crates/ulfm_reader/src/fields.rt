@@ -6,7 +6,7 @@ ghost use Rattle.std.specs.Str.{bytes_eq};
 ghost use Rattle.toml.specs.Data.{as_array, get_member};
 ghost use Rattle.toml.specs.View.{view, table_view, items_view};
 ghost use Rattle.ulfm_reader.specs.inside.Reading.{map_ok, reference_view};
-ghost use Rattle.ulfm_reader.specs.Keys.{required, required_number, optional_number, optional_bool, required_text, only_keys, in_range, in_range_if_some};
+ghost use Rattle.ulfm_reader.specs.Keys.{required, required_number, optional_number, optional_comm, optional_bool, required_text, only_keys, in_range, in_range_if_some};
 ghost use Rattle.ulfm_reader.specs.Reacting.{reference_in, required_reference};
 
 use crate::reference::Reference;
@@ -38,6 +38,20 @@ pub fn optional_number(table: &Table, key: &str) -> Result<Option<i64>, Fault>
         Some(value) => match value.as_integer() {
             Some(number) => Ok(Some(number)),
             None => Err(Fault::BadKey),
+        },
+        None => Ok(None),
+    }
+}
+
+/// The number of a communicator, where one stands at its key. A name may stand there too, or the key be left out.
+pub fn optional_comm(table: &Table) -> Result<Option<i64>, Fault>
+    ensures { result ≡ optional_comm (table_view table.now) }
+{
+    match value_at(table, "comm") {
+        Some(value) => match (value.as_integer(), value.as_str()) {
+            (Some(number), _) => Ok(Some(number)),
+            (None, Some(_)) => Ok(None),
+            (None, None) => Err(Fault::BadKey),
         },
         None => Ok(None),
     }

@@ -132,6 +132,7 @@ fn refer_for(
 {
     if let Some(rank) = rank {
         refer(alloc, block, rank, i, "req", table)?;
+        refer(alloc, block, rank, i, "comm", table)?;
         refer_if(alloc, block, rank, i, table)?;
     }
     Ok(())

@@ -7,7 +7,7 @@ ghost use Rattle.ulfm_reader.specs.Plan.{Order, order_of};
 ghost use Rattle.ulfm_reader.specs.StepText.{send_step, recv_step, step_on_req, probe_step, mrecv_step};
 
 use crate::fields::{
-    only_keys, optional_number, required_number, required_reference, required_text,
+    only_keys, optional_comm, optional_number, required_number, required_reference, required_text,
 };
 use crate::name::Name;
 use crate::placed::{Placed, ReadStep};
@@ -26,7 +26,7 @@ pub fn send_of(ranks: u8, table: &Table) -> Result<Placed<'_>, Fault>
     let to = required_number(table, "to")?;
     let tag = required_number(table, "tag")?;
     let body = required_text(table, "body")?;
-    let comm = optional_number(table, "comm")?;
+    let comm = optional_comm(table)?;
     only_keys(table, Op::Send.keys())?;
     let rank = rank_in(ranks, rank)?;
     let to = to_in(to)?;
@@ -54,7 +54,7 @@ pub fn recv_of(ranks: u8, table: &Table) -> Result<Placed<'_>, Fault>
     let from = optional_number(table, "from")?;
     let tag = optional_number(table, "tag")?;
     let room = optional_number(table, "room")?;
-    let comm = optional_number(table, "comm")?;
+    let comm = optional_comm(table)?;
     only_keys(table, Op::Recv.keys())?;
     let rank = rank_in(ranks, rank)?;
     let from = from_if_some(from)?;
@@ -107,7 +107,7 @@ pub fn probe_of(ranks: u8, table: &Table) -> Result<Placed<'_>, Fault>
     let rank = required_number(table, "rank")?;
     let from = optional_number(table, "from")?;
     let tag = optional_number(table, "tag")?;
-    let comm = optional_number(table, "comm")?;
+    let comm = optional_comm(table)?;
     only_keys(table, Op::Probe.keys())?;
     let rank = rank_in(ranks, rank)?;
     let from = from_if_some(from)?;

@@ -25,7 +25,8 @@
 //!
 //! - a text: `stream.rt` (all of an input), `reading.rt` ([`Reading`], the job of a text), `head.rt` (the keys of a job), `fields.rt`, `members.rt`
 //!   (keys one by one), `draft.rt` (what was read of the steps), `filed.rt` (where steps stand in the file)
-//! - a step as it is read: `ops.rt`, `letters.rt` (by its op), `placed.rt`, `ranges.rt`, `name.rt`, `reference.rt` (how it names an earlier one)
+//! - a step as it is read: `ops.rt`, `letters.rt` (by its op), `placed.rt`, `ranges.rt`, `name.rt`, `reference.rt` (how it names an earlier one),
+//!   `namings.rt` (whose communicator it is on)
 //! - what is asked of answers: `conditions.rt`, `clauses.rt`, `claim.rt`, `asker.rt`, `beginnings.rt`, `answers.rt`, `goals.rt`; `rows.rt` (of
 //!   `never`); `proviso.rt`, `subject.rt` (only where stops lie before a step)
 //! - steps written out: `steps_written_out.rt` ([`written_out`]), `line.rt`, `unwritten.rt` (why they aren't), `shared.rt`, `ranks.rt` (steps for several
@@ -56,6 +57,7 @@ mod letters;
 mod line;
 mod members;
 mod name;
+mod namings;
 mod ops;
 mod placed;
 mod proviso;

@@ -8,7 +8,7 @@ ghost use Rattle.ulfm_reader.specs.Plan.{Order, order_of};
 ghost use Rattle.ulfm_reader.specs.StepText.{step_on_comm, making_step, ack_step, agree_step, note_step, stop_step, known, step_of_op, step_of};
 
 use crate::fields::{
-    in_range, only_keys, optional_bool, optional_number, required_number, required_text,
+    in_range, only_keys, optional_bool, optional_comm, required_number, required_text,
 };
 use crate::letters::{mrecv_of, on_req, probe_of, recv_of, send_of};
 use crate::name::Name;
@@ -33,7 +33,7 @@ fn on_comm<F: FnOnce(Context) -> Step>(
     ensures below { IfOk result (λ placed. placed.rank < ranks) }
 {
     let rank = required_number(table, "rank")?;
-    let comm = optional_number(table, "comm")?;
+    let comm = optional_comm(table)?;
     only_keys(table, op.keys())?;
     let rank = rank_in(ranks, rank)?;
     let comm = comm_in(comm)?;
@@ -57,7 +57,7 @@ fn making<F: FnOnce(Context, bool) -> Step>(
     ensures below { IfOk result (λ placed. placed.rank < ranks) }
 {
     let rank = required_number(table, "rank")?;
-    let comm = optional_number(table, "comm")?;
+    let comm = optional_comm(table)?;
     let again = optional_bool(table, "again")?;
     only_keys(table, op.keys())?;
     let rank = rank_in(ranks, rank)?;
@@ -76,7 +76,7 @@ fn ack_of(ranks: u8, table: &Table) -> Result<Placed<'_>, Fault>
 {
     let rank = required_number(table, "rank")?;
     let count = required_number(table, "count")?;
-    let comm = optional_number(table, "comm")?;
+    let comm = optional_comm(table)?;
     only_keys(table, Op::Ack.keys())?;
     let rank = rank_in(ranks, rank)?;
     let count = in_range(count, 0, u32::from(MOST_RANKS))? as u8;
@@ -95,7 +95,7 @@ fn agree_of(ranks: u8, table: &Table) -> Result<Placed<'_>, Fault>
 {
     let rank = required_number(table, "rank")?;
     let flag = required_number(table, "flag")?;
-    let comm = optional_number(table, "comm")?;
+    let comm = optional_comm(table)?;
     only_keys(table, Op::Agree.keys())?;
     let rank = rank_in(ranks, rank)?;
     let flag = flag_in(flag)?;

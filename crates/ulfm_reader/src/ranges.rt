@@ -40,7 +40,7 @@ pub fn tag_if_some(number: Option<i64>) -> Result<Option<Tag>, Fault>
     }
 }
 
-/// A communicator, named by its context: the world's where it is left out.
+/// A communicator, named by its context: the world's where it is left out, or where an earlier step makes it, by whose name it is called.
 pub fn comm_in(number: Option<i64>) -> Result<Context, Fault>
     ensures { map_ok (λ c. c.number) result ≡ in_range 0 62 (unwrap_or number (pos 0)) }
 {

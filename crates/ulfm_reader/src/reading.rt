@@ -49,8 +49,8 @@ pub trait ReadJob: Sized {
     /// In this order: `TooLarge` where there are more than 1,048,576 bytes; `NotToml` where they are no UTF-8 or no TOML
     /// document; `InJob` for the job's own keys, with `BadKey`, then `UnknownKey`, then `OutOfRange`; `TooLarge` where
     /// there are more than 256 steps, written out; `InStep` with the place in the file of the first step that has a fault, and its
-    /// first fault: `BadKey` for its `op`, `UnknownOp`, `BadKey`, `UnknownKey`, `OutOfRange`; then those of its `name`, its `if` and
-    /// its `expect`; then `InJob` for the tables among the rows of `never`, then with `OutOfRange` for the names before whose steps some is asked, and
+    /// first fault: `BadKey` for its `op`, `UnknownOp`, `BadKey`, `UnknownKey`, `OutOfRange`; then those of its `name`, its `if`, its
+    /// `expect`, and of a `comm` by name; then `InJob` for the tables among the rows of `never`, then with `OutOfRange` for the names before whose steps some is asked, and
     /// for the rows. `OutOfMemory` comes in place of any answer, where a growth was refused.
     fn read(alloc: Global, bytes: &[u8]) -> Result<Self, JobFault>;
 }
@@ -164,11 +164,13 @@ fn with_rows(
         scripts,
         names,
         filed,
+        namings,
         conditions,
         expected,
         provisos,
     } = draft;
-    let job = Job::new(head.capacity, head.turns, scripts, conditions, expected);
+    let plain = Job::new(head.capacity, head.turns, scripts, conditions, expected);
+    let job = plain.naming(namings);
     Ok(Reading {
         job,
         never,

@@ -7,6 +7,8 @@ use Rattle.std.proofs.lemmas.List.Sums.{count_by-le-length, get_or-le-sum_by, su
 use Rattle.ulfm_base.specs.Lists.{at}
 use Rattle.ulfm_report_laws.proofs.Mail.{flat-push}
 use Rattle.ulfm_answer.specs.Report.{Report}
+use Rattle.ulfm_script.proofs.MeantAlong.{length-played}
+use Rattle.ulfm_script.specs.Meant.{played_script}
 use Rattle.ulfm_script.specs.Script.{is_played_stop, reported_step, through_stop}
 use Rattle.ulfm_replay.specs.declared.line.SweepLine.{SweepLine}
 
@@ -32,8 +34,9 @@ steps_few j reports is h =
     few : (k : ℕ) (report : Report) → k < length reports → at reports k report → length report.steps ≤ 256
     few k report lt here =
         let follows = h.lawful.scripts k report here in
-        let same : length report.steps ≡ length (through_stop report.steps (script_at j k)) = sym (length-map report.steps reported_step) ∙ ap length follows.steps in
-        omega (arith, same, length-through_stop report.steps (script_at j k), script_few j k is (omega (arith, h.lawful.each, lt)))
+        let script = played_script j k report.steps in
+        let same : length report.steps ≡ length (through_stop report.steps script) = sym (length-map report.steps reported_step) ∙ ap length follows.steps in
+        omega (arith, same, length-through_stop report.steps script, length-played j k report.steps, script_few j k is (omega (arith, h.lawful.each, lt)))
 
 -- the places of one more rank
 pub next_rank : (j : JobView) (n : ℕ) → flat_map (places_in j) (range_with_len 0 (n + 1)) ≡ flat_map (places_in j) (range_with_len 0 n) ++ places_in j n

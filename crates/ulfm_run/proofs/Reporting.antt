@@ -1,12 +1,13 @@
 -- From what the threads gave back to the report of a run.
 use Rattle.std.proofs.Common.{◌≡◌, ◌≤◌, ℕ, List, ◌++◌, length, map, refl, ap, sym, ◌∙◌, subst, arith, All, Some, Option, inl, inr}
 use Rattle.ulfm_board.specs.Known.{OneBoard}
+use Rattle.ulfm_script.specs.Meant.{played_script}
 use Rattle.ulfm_script.specs.Played.{FollowsScript}
 use Rattle.ulfm_answer.specs.Reacting.{SkipsRightly}
 use Rattle.ulfm_script.specs.Script.{through_stop, GivesUpRightly}
 use Rattle.ulfm_report_laws.specs.Answers.{AllAgree, AllFollowScripts}
 use Rattle.ulfm_report_laws.specs.Lawful.{AreProduced}
-use Rattle.ulfm_run.proofs.Common.{at, cases_lt, Global, InPlace, IsGathered, IsPlayed, Item, Keeps, Known, length-map, Report, slice_get_within, Vec, WorldRank, items_from, Flows, there, AreTrue, Ran, NameOneBoard, report_in, end_in, decider_in, WerePlayed, GaveAnswers, JobView, script_at}
+use Rattle.ulfm_run.proofs.Common.{at, cases_lt, Global, InPlace, IsGathered, IsPlayed, Item, Keeps, Known, length-map, Report, slice_get_within, Vec, WorldRank, items_from, Flows, there, AreTrue, Ran, NameOneBoard, report_in, end_in, decider_in, WerePlayed, GaveAnswers, JobView}
 use Rattle.ulfm_run.specs.Fault.{ShowUntrue, Fits}
 use Rattle.ulfm_report_laws.specs.Decisions.{NoneIsForeign}
 use Rattle.ulfm_report_laws.specs.Order.{HaveOneOrder}
@@ -49,7 +50,7 @@ module _ {E D N : Type 0} {name : E → N} {place count : E → ℕ} {pushed tak
       subst (λ (x : Report). FollowsScript job k x) a.2 (record {
         counted = p.counted;
         within = λ s l. p.joined.within s (omega (arith, l, p.counted));
-        steps = p.steps ∙ ap (λ i. through_stop a.0.report.steps (script_at job i)) (placed k e.0 e.1);
+        steps = p.steps ∙ ap (λ i. through_stop a.0.report.steps (played_script job i a.0.report.steps)) (placed k e.0 e.1);
         patient = p.patient;
         gives = subst (λ i. GivesUpRightly job i a.0.report.steps) (placed k e.0 e.1) p.gives;
         skips = subst (λ i. SkipsRightly job.conditions i a.0.report.steps) (placed k e.0 e.1) p.skips;

@@ -1,6 +1,7 @@
 -- A rank at work.
 use Rattle.std.proofs.Common.{◌≡◌, ℕ, ◌+◌, ◌-◌, ◌<◌, true, false, List, length, map, refl, ap, sym, subst, ◌∙◌, arith, Bool, inl, inr, ◌⊎◌, All}
 use Rattle.ulfm_answer.specs.declared.answer.StepReport.{StepReport}
+use Rattle.ulfm_script.specs.Meant.{played_script}
 use Rattle.ulfm_script.specs.Script.{reported_step, through_stop, GivesUpRightly, IsPatient, HasFinished}
 use Rattle.ulfm_rank.specs.inside.Quiet.{Quiet}
 use Rattle.ulfm_rank.proofs.Joining.{joined-quiet}
@@ -118,7 +119,7 @@ module _ {E N : Type 0} {name : E → N} {place count : E → ℕ} {pushed taken
         joined = subst (λ (r : State). IsJoined place count pushed taken ready r e) (sym rank) h.joined;
         named = ap (λ (r : State). r.me) rank ∙ h.named ∙ sym at;
         counted = ap (λ (r : State). r.ranks) rank ∙ h.counted;
-        steps = ap (map reported_step) steps ∙ answered.steps ∙ ap (λ (xs : List StepReport). through_stop xs (script_at job me)) (sym steps) ∙ ap (λ i. through_stop report.steps (script_at job i)) (sym at);
+        steps = ap (map reported_step) steps ∙ answered.steps ∙ ap (λ (xs : List StepReport). through_stop xs (played_script job me xs)) (sym steps) ∙ ap (λ i. through_stop report.steps (played_script job i report.steps)) (sym at);
         patient = subst (λ (xs : List StepReport). All (IsPatient job.turns) xs) (sym steps) answered.patient;
         gives = subst (λ i. GivesUpRightly job i report.steps) (sym at) (subst (GivesUpRightly job me) (sym steps) answered.gives);
         skips = subst (λ i. SkipsRightly job.conditions i report.steps) (sym at) (subst (SkipsRightly job.conditions me) (sym steps) answered.skips);

@@ -107,7 +107,7 @@ impl<R: Wait, E: Ends, D: Decider> Hands for AtWork<'_, R, E, D> {
         if worker.player.is_stopped() {
             return Ok(None);
         }
-        let Some(step) = next_played(self.job, self.me, &mut worker.player) else {
+        let Some(asked) = next_played(self.job, self.me, &mut worker.player) else {
             return Ok(None);
         };
         let answered = poll(
@@ -115,7 +115,7 @@ impl<R: Wait, E: Ends, D: Decider> Hands for AtWork<'_, R, E, D> {
             self.me,
             &mut worker.player,
             &mut worker.decider,
-            step,
+            &asked,
         );
         Ok(Some(answered))
     }

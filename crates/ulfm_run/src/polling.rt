@@ -1,5 +1,5 @@
 //! The polls of a rank's steps.
-ghost use Rattle.std.specs.Prelude.{◌≡◌, ◌≤◌, ◌+◌, length, slice_get, Some, true, false, IfSome, IfNone};
+ghost use Rattle.std.specs.Prelude.{◌≡◌, ◌≤◌, ◌+◌, length, Some, true, false, IfSome, IfNone};
 ghost use Rattle.std.specs.Bool.{OnTrue};
 ghost use Rattle.ulfm_log.specs.Facts.{is_stopped};
 ghost use Rattle.ulfm_log.specs.State.{IsState};
@@ -9,31 +9,32 @@ ghost use Rattle.ulfm_script.specs.inside.SoFar.{AnswersFollowSoFar, IsUndecided
 ghost use Rattle.ulfm_run.specs.inside.Joined.{Polls, SkipsOn};
 ghost use Rattle.ulfm_script.specs.inside.Underway.{GoesThrough};
 ghost use Rattle.ulfm_answer.specs.Reacting.{is_played};
+ghost use Rattle.ulfm_script.specs.Meant.{next_step};
 
 use ulfm_board::Decider;
-use ulfm_job::{Job, Step};
-use ulfm_script::{Called, Decided, Player};
+use ulfm_job::{Asked, Job};
+use ulfm_script::{Called, Decided, Player, next_step};
 
 /// The next step of a rank that is to be played. The steps before it are skipped, since none of their conditions holds: they take no
 /// poll. It never answers out of memory.
-pub(crate) fn next_played<'a>(job: &'a Job, me: u8, player: &mut Player) -> Option<&'a Step>
+pub(crate) fn next_played<'a>(job: &'a Job, me: u8, player: &mut Player) -> Option<Asked<'a>>
     requires mine { player.old.player.rank.me ≡ me }
     requires follows { GoesThrough job.now me player.old.player }
     requires room { length (script_at job.now me) ≤ player.old.room + length player.old.player.done }
     requires running { is_stopped player.old.player.rank.log ≡ false }
     ensures skips { SkipsOn job.now me player.old player.new }
-    ensures next { IfSome result (λ step. slice_get (script_at job.now me) (length player.new.player.done) ≡ Some step.now) }
+    ensures next { IfSome result (λ asked. next_step job.now me player.new.player.done ≡ Some asked) }
     ensures played { IfSome result (λ _. is_played job.now.conditions me player.new.player.done ≡ true) }
     ensures none { IfNone result (length (script_at job.now me) ≤ length player.new.player.done) }
     ensures honest { (known : Known) → AnswersFollowSoFar known player.old.player → AnswersFollowSoFar known player.new.player }
 {
     // It tells the limits that each job keeps.
     let _ = job.turns();
-    while let Some(step) = job.step(me, player.answered()) {
+    while let Some(asked) = next_step(job, me, player.done()) {
         if player.is_next_played(job.conditions()) {
-            return Some(step);
+            return Some(asked);
         }
-        player.skip(step);
+        player.skip(&asked);
     }
     None
 }
@@ -45,30 +46,36 @@ pub(crate) fn poll<D: Decider>(
     me: u8,
     player: &mut Player,
     decider: &mut D,
-    step: &Step,
+    asked: &Asked<'_>,
 ) -> bool
     requires sound { IsState player.old.player.rank }
     requires follows { GoesThrough job.now me player.old.player }
     requires room { length (script_at job.now me) ≤ player.old.room + length player.old.player.done }
     requires running { is_stopped player.old.player.rank.log ≡ false }
-    requires next { slice_get (script_at job.now me) (length player.old.player.done) ≡ Some step.now }
+    requires next { next_step job.now me player.old.player.done ≡ Some asked.now }
     requires played { is_played job.now.conditions me player.old.player.done ≡ true }
     ensures polls { Polls job.now me player.old player.new }
     ensures honest { AnswersFollowSoFar (D.known decider.old) player.old.player → AnswersFollowSoFar (D.known decider.new) player.new.player }
     ensures board { D.board decider.new ≡ D.board decider.old }
 {
-    if decide(job, me, player, decider, step) {
+    if decide(job, me, player, decider, asked) {
         return true;
     }
-    call(job, me, player, step)
+    call(job, me, player, asked)
 }
 
 /// The decision of a step that stands open and has a proposal: a shrink or an agreement. Whether it was decided.
-fn decide<D: Decider>(job: &Job, me: u8, player: &mut Player, decider: &mut D, step: &Step) -> bool
+fn decide<D: Decider>(
+    job: &Job,
+    me: u8,
+    player: &mut Player,
+    decider: &mut D,
+    asked: &Asked<'_>,
+) -> bool
     requires sound { IsState player.old.player.rank }
     requires follows { GoesThrough job.now me player.old.player }
     requires running { is_stopped player.old.player.rank.log ≡ false }
-    requires next { slice_get (script_at job.now me) (length player.old.player.done) ≡ Some step.now }
+    requires next { next_step job.now me player.old.player.done ≡ Some asked.now }
     ensures polls { OnTrue result (Polls job.now me player.old player.new) }
     ensures honest { OnTrue result (AnswersFollowSoFar (D.known decider.old) player.old.player → AnswersFollowSoFar (D.known decider.new) player.new.player) }
     ensures undecided { result ≡ false → IsUndecided player.old.player }
@@ -80,7 +87,7 @@ fn decide<D: Decider>(job: &Job, me: u8, player: &mut Player, decider: &mut D, s
     // Which step of which rank is polled stands in the clauses alone.
     let _ = job;
     let _ = me;
-    let Some(comm) = step.decides_on() else {
+    let Some(comm) = asked.decides_on() else {
         return false;
     };
     match player.decide(comm, decider) {
@@ -91,18 +98,18 @@ fn decide<D: Decider>(job: &Job, me: u8, player: &mut Player, decider: &mut D, s
 
 /// One poll of a step by `call`; it is given up where this was its last poll, or the first of one that may be given up early, and left it
 /// open. Whether it is answered.
-fn call(job: &Job, me: u8, player: &mut Player, step: &Step) -> bool
+fn call(job: &Job, me: u8, player: &mut Player, asked: &Asked<'_>) -> bool
     requires sound { IsState player.old.player.rank }
     requires follows { GoesThrough job.now me player.old.player }
     requires room { length (script_at job.now me) ≤ player.old.room + length player.old.player.done }
     requires running { is_stopped player.old.player.rank.log ≡ false }
-    requires next { slice_get (script_at job.now me) (length player.old.player.done) ≡ Some step.now }
+    requires next { next_step job.now me player.old.player.done ≡ Some asked.now }
     requires played { is_played job.now.conditions me player.old.player.done ≡ true }
     ensures polls { Polls job.now me player.old player.new }
     ensures honest { (known : Known) → AnswersFollowSoFar known player.old.player → IsUndecided player.old.player → AnswersFollowSoFar known player.new.player }
 {
     let turns = job.turns_at(me, player.answered());
-    match player.call(step) {
+    match player.call(asked) {
         Called::Answered => return true,
         Called::NotYet => {}
     }

@@ -9,6 +9,7 @@ use Rattle.ulfm_answer.specs.Trace.{closing_line}
 use Rattle.ulfm_answer.specs.declared.answer.StepAnswer.{StepAnswer}
 use Rattle.ulfm_answer.specs.declared.answer.StepAnswer.TheVariants.{Unfinished}
 use Rattle.ulfm_job.specs.Job.{JobView, script_at}
+use Rattle.ulfm_job.specs.Words.{told_at}
 use Rattle.ulfm_forms.specs.Form.{trace_in}
 use Rattle.ulfm_forms.specs.Trace.{end_json, step_json}
 use Rattle.ulfm_forms.specs.WordedTrace.{line_in}
@@ -42,7 +43,7 @@ spots job = flat_map (rank_spots job) (range_with_len 0 job.ranks)
 -- the line of a step with this answer, in this form
 abbrev pub step_line_in : Form → List Name → JobView → ℕ → ℕ → StepAnswer → List ℕ
 step_line_in (Words wording) names job rank k answer = line_in wording job rank k answer
-step_line_in Json names job rank k answer = step_json names rank k (slice_get (script_at job rank) k) answer
+step_line_in Json names job rank k answer = step_json names rank k (told_at job rank k) answer
 
 -- the line of how a rank ended
 abbrev pub end_line_in : Form → ℕ → Report → List ℕ

@@ -1,6 +1,6 @@
 //! The line of a trace at a place: of a rank's step, or of how a rank ended.
-ghost use Rattle.std.specs.Prelude.{◌≡◌, ◌++◌, option_map, slice_get, IfOk, OnOk, string_bytes};
-ghost use Rattle.ulfm_job.specs.Job.{script_at};
+ghost use Rattle.std.specs.Prelude.{◌≡◌, ◌++◌, option_map, IfOk, OnOk, string_bytes};
+ghost use Rattle.ulfm_job.specs.Words.{told_at};
 ghost use Rattle.ulfm_forms.specs.Trace.{step_json};
 ghost use Rattle.ulfm_run_reply.specs.Brief.{end_line_in, line_at, line_of, step_line_in};
 
@@ -84,14 +84,14 @@ fn push_object(
     step: usize,
     answer: &StepAnswer,
 ) -> Result<(), AllocError>
-    ensures { OnOk result (string_bytes text.new ≡ string_bytes text.old ++ step_json asked.now.names.items rank step (slice_get (script_at asked.now.job rank) step) answer.now) }
+    ensures { OnOk result (string_bytes text.new ≡ string_bytes text.old ++ step_json asked.now.names.items rank step (told_at asked.now.job rank step) answer.now) }
 {
     push_answered(
         text,
         &asked.names,
         rank,
         step,
-        asked.job.step(rank, step),
+        asked.job.told(rank, step),
         answer,
     )?;
     text.push_str("}\n")

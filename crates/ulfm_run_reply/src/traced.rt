@@ -44,7 +44,7 @@ fn trace_words(
     ensures { IfOk result (λ text. string_bytes text ≡ words_of wording job.now reports.now) }
 {
     match wording {
-        Wording::Plain => trace_text(alloc, reports),
+        Wording::Plain => trace_text(alloc, job, reports),
         Wording::Mpi => mpi_trace(alloc, job, reports),
     }
 }

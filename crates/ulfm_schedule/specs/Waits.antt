@@ -1,8 +1,8 @@
 -- What a step that stands open waits for, and who would have to bring it.
-use Rattle.std.specs.Prelude.{ℕ, ◌+◌, ◌==◌, ◌&&◌, ◌||◌, not, Bool, true, false, List, [], ◌∷◌, ◌++◌, Option, Some, None, length, codes, drop, filter, slice_get, if◌then◌else◌}
+use Rattle.std.specs.Prelude.{ℕ, ◌+◌, ◌==◌, ◌&&◌, ◌||◌, not, Bool, true, false, List, [], ◌∷◌, ◌++◌, Option, Some, None, length, codes, drop, filter, nat_lt, slice_get, if◌then◌else◌}
 use Rattle.std.specs.Fmt.{decimal}
 use Rattle.std.specs.List.{list_any}
-use Rattle.std.specs.Option.{option_or}
+use Rattle.std.specs.Option.{option_and_then, option_map, option_or}
 use Rattle.ulfm_base.specs.Group.{rank_in}
 use Rattle.ulfm_base.specs.Topic.{is_topic}
 use Rattle.ulfm_base.specs.declared.context.Context.{Context}
@@ -15,22 +15,47 @@ use Rattle.ulfm_log.specs.Proposal.{last_agreement, last_shrink}
 use Rattle.ulfm_log.specs.State.{State}
 use Rattle.ulfm_log.specs.declared.entry.Entry.{Entry}
 use Rattle.ulfm_log.specs.declared.entry.Entry.TheVariants.{Took}
-use Rattle.ulfm_job.specs.Words.{step_text, tag_text}
+use Rattle.ulfm_job.specs.Job.{JobView, bodiless, script_at}
+use Rattle.ulfm_job.specs.Naming.{naming_at, played_on}
+use Rattle.ulfm_job.specs.Words.{ToldStep, tag_text, told_at, told_text}
+use Rattle.ulfm_job.specs.declared.naming.Naming.{Naming}
 use Rattle.ulfm_job.specs.declared.step.Step.{Step}
 use Rattle.ulfm_job.specs.declared.step.Step.TheVariants.{Send, Recv, Wait, Probe, Shrink, Agree}
 use Rattle.ulfm_answer.specs.Trace.{answer_text}
+use Rattle.ulfm_script.specs.Meant.{meant_by, nowhere, played_at}
 use Rattle.ulfm_answer.specs.declared.answer.StepAnswer.{StepAnswer}
 use Rattle.ulfm_answer.specs.declared.answer.StepAnswer.TheVariants.{Sent, Shrunk, Agreed}
 use Rattle.ulfm_answer.specs.declared.answer.StepReport.{StepReport}
 
--- a step: its rank, its number, and its words
-abbrev pub named_step : ℕ → ℕ → Step → List ℕ
-named_step r k step = decimal r ++ codes "." ++ decimal k ++ codes " " ++ step_text step
+-- a step, where there is one: its rank, its number, and its words
+abbrev pub named_by : ℕ → ℕ → Option ToldStep → List ℕ
+named_by r k None = []
+named_by r k (Some told) = decimal r ++ codes "." ++ decimal k ++ codes " " ++ told_text told
 
--- by which step a rank waits: a wait by the receive that it names, and any other step by itself
-abbrev pub need_of : List Step → Step → Option Step
-need_of script (Wait req) = slice_get script req
-need_of script asked = Some asked
+-- the step k of the rank r of a job so
+abbrev pub named_step : JobView → ℕ → ℕ → List ℕ
+named_step j r k = named_by r k (told_at j r k)
+
+-- by which step a rank waits, as it is played: a wait by the receive that it names, and any other step by itself
+abbrev pub need_of : JobView → ℕ → List StepReport → Step → Option Step
+need_of j r done (Wait req) = option_and_then bodiless (played_at j r done req)
+need_of j r done asked = bodiless asked
+
+-- the communicator of a step by which a rank waits
+abbrev pub wanted_by : Step → Context
+wanted_by (Recv source tag room comm) = comm
+wanted_by (Probe source tag comm) = comm
+wanted_by (Shrink comm again) = comm
+wanted_by (Agree flag comm) = comm
+wanted_by _ = nowhere
+
+-- the communicator that a step names, behind these answers: where the named one isn't answered yet, it may be the one that is wanted
+abbrev pub may_be : List StepReport → Context → Naming → Context
+may_be done wanted n = if nat_lt n.step (length done) then meant_by done n else wanted
+
+-- the step k of the rank s as it may be played behind these answers
+abbrev pub may_mean : JobView → ℕ → List StepReport → Context → ℕ → Step → Step
+may_mean j s done wanted k asked = played_on (option_map (may_be done wanted) (naming_at j s k)) asked
 
 -- the tag is the one that is asked for, or none is
 abbrev pub fits_tag : Option Tag → Tag → Bool
@@ -67,32 +92,29 @@ abbrev pub is_due : Step → Option ℕ → Step → Option StepReport → Bool
 is_due need position step report = would_bring need position step && not (has_brought report)
 
 -- the first such step, from the one numbered k
-abbrev pub due_from : Step → Option ℕ → List StepReport → ℕ → List Step → Option ℕ
-due_from need position done k [] = None
-due_from need position done k (step ∷ steps) = if is_due need position step (slice_get done k) then Some k else due_from need position done (k + 1) steps
+abbrev pub due_from : JobView → ℕ → Step → Option ℕ → List StepReport → ℕ → List Step → Option ℕ
+due_from j s need position done k [] = None
+due_from j s need position done k (step ∷ steps) =
+    if is_due need position (may_mean j s done (wanted_by need) k step) (slice_get done k) then Some k else due_from j s need position done (k + 1) steps
 
--- the step of a rank, of which so many steps are answered, that would bring it: the first that stands open or isn't reached, or else the first that was answered, and didn't
-abbrev pub due_in : Step → Option ℕ → List StepReport → List Step → Option ℕ
-due_in need position done script = option_or (due_from need position done (length done) (drop (length done) script)) (due_from need position done 0 script)
+-- the step of the rank s with these answers that would bring it: the first that stands open or isn't reached, or else the first that was answered, and didn't
+abbrev pub due_in : JobView → ℕ → Step → Option ℕ → List StepReport → Option ℕ
+due_in j s need position done =
+    option_or (due_from j s need position done (length done) (drop (length done) (script_at j s))) (due_from j s need position done 0 (script_at j s))
 
 -- what came of the step k of a rank, of which so many have an answer and the next stands open or not: its answer, or that it is this one, or isn't reached
 abbrev pub fate_text : ℕ → Bool → ℕ → Option StepReport → List ℕ
 fate_text answered is_open k (Some report) = answer_text report.answer
 fate_text answered is_open k None = if is_open && k == answered then codes "open" else codes "not reached"
 
--- a step of a script, where there is one
-abbrev pub step_there : ℕ → ℕ → Option Step → List ℕ
-step_there s k None = []
-step_there s k (Some step) = named_step s k step
-
 -- the step k of the rank s, and what came of it
-abbrev pub due_text : ℕ → List StepReport → Bool → List Step → ℕ → List ℕ
-due_text s done is_open script k = step_there s k (slice_get script k) ++ codes ": " ++ fate_text (length done) is_open k (slice_get done k)
+abbrev pub due_text : JobView → ℕ → List StepReport → Bool → ℕ → List ℕ
+due_text j s done is_open k = named_step j s k ++ codes ": " ++ fate_text (length done) is_open k (slice_get done k)
 
 -- who would bring it: a step of the rank s, or none
-abbrev pub bearer_text : ℕ → List StepReport → Bool → List Step → Option ℕ → List ℕ
-bearer_text s done is_open script None = codes "no step of " ++ decimal s ++ codes " would bring it"
-bearer_text s done is_open script (Some k) = due_text s done is_open script k
+abbrev pub bearer_text : JobView → ℕ → List StepReport → Bool → Option ℕ → List ℕ
+bearer_text j s done is_open None = codes "no step of " ++ decimal s ++ codes " would bring it"
+bearer_text j s done is_open (Some k) = due_text j s done is_open k
 
 -- a message of the rank s
 abbrev pub message_text : ℕ → Option Tag → Context → List ℕ
@@ -158,5 +180,5 @@ position_by r (Probe source tag comm) = rank_in (group_in r comm) r.me
 position_by r _ = None
 
 -- the words of what a rank waits for by its step k, which needs it, of the rank s, and of who would bring it
-unfoldable pub wait_words : ℕ → ℕ → Step → ℕ → List StepReport → Bool → List Step → Option ℕ → List ℕ
-wait_words r k need s done is_open script due = decimal r ++ codes "." ++ decimal k ++ codes " waits for " ++ need_text need s ++ codes ": " ++ bearer_text s done is_open script due
+unfoldable pub wait_words : JobView → ℕ → ℕ → Step → ℕ → List StepReport → Bool → Option ℕ → List ℕ
+wait_words j r k need s done is_open due = decimal r ++ codes "." ++ decimal k ++ codes " waits for " ++ need_text need s ++ codes ": " ++ bearer_text j s done is_open due

@@ -7,6 +7,8 @@ use Rattle.ulfm_base.specs.declared.item.Item.{Item}
 use Rattle.ulfm_base.specs.declared.item.Item.TheVariants.{Letter as Mail, Gone, Revoke, Enter}
 use Rattle.ulfm_base.specs.declared.topic.Purpose.{Purpose}
 use Rattle.ulfm_base.specs.declared.topic.Purpose.TheVariants.{Shrink, Agree}
+use Rattle.ulfm_job.specs.Job.{JobView}
+use Rattle.ulfm_job.specs.Naming.{called_at}
 use Rattle.ulfm_job.specs.declared.step.Step.{Step}
 use Rattle.ulfm_script.specs.Player.{step_report}
 use Rattle.ulfm_answer.specs.Trace.{answer_text, closing_line, step_line, step_lines}
@@ -55,32 +57,32 @@ abbrev pub passed_text : ℕ → Bool → ℕ → Cargo → List ℕ
 passed_text s is_taken d cargo = decimal s ++ arrow_text is_taken ++ decimal d ++ codes ": " ++ cargo_text s cargo ++ codes "\n"
 
 -- the line of a step that is opened
-abbrev pub opened_text : ℕ → ℕ → Step → List ℕ
-opened_text r k step = named_step r k step ++ codes ": open\n"
+abbrev pub opened_text : JobView → ℕ → ℕ → List ℕ
+opened_text j r k = named_step j r k ++ codes ": open\n"
 
 -- the line of a step that has its answer
-abbrev pub answered_text : ℕ → ℕ → StepReport → List ℕ
-answered_text r k report = named_step r k report.step ++ codes ": " ++ answer_text report.answer ++ codes "\n"
+abbrev pub answered_text : JobView → ℕ → ℕ → StepReport → List ℕ
+answered_text j r k report = named_step j r k ++ codes ": " ++ answer_text report.answer ++ codes "\n"
 
 -- the line of what the rank r does
-abbrev pub deed_text : ℕ → Deed → List ℕ
-deed_text r (Left d cargo) = passed_text r false d cargo
-deed_text r (Took s cargo) = passed_text s true r cargo
-deed_text r (Opened k step) = opened_text r k step
-deed_text r (Answered k report) = answered_text r k report
+abbrev pub deed_text : JobView → ℕ → Deed → List ℕ
+deed_text j r (Left d cargo) = passed_text r false d cargo
+deed_text j r (Took s cargo) = passed_text s true r cargo
+deed_text j r (Opened k step) = opened_text j r k
+deed_text j r (Answered k report) = answered_text j r k report
 
 -- the line of a move
-abbrev pub move_text : Move → List ℕ
-move_text m = deed_text m.rank m.deed
+abbrev pub move_text : JobView → Move → List ℕ
+move_text j m = deed_text j m.rank m.deed
 
 -- the lines of moves
-abbrev pub moves_text : List Move → List ℕ
-moves_text moves = flat_map move_text moves
+abbrev pub moves_text : JobView → List Move → List ℕ
+moves_text j moves = flat_map (move_text j) moves
 
--- the line of a step that stands open, as of one that is given up
-abbrev pub open_line : ℕ → ℕ → Option Step → List ℕ
-open_line r k None = []
-open_line r k (Some asked) = step_line r k (step_report asked Unfinished 0 0)
+-- the line of a step that stands open, as of one that is given up, which may call its communicator by a name
+abbrev pub open_line : Option (List ℕ) → ℕ → ℕ → Option Step → List ℕ
+open_line called r k None = []
+open_line called r k (Some asked) = step_line called r k (step_report asked Unfinished 0 0)
 
 -- how a rank ended, or that its end isn't reached
 abbrev pub end_text : ℕ → End → List ℕ
@@ -89,14 +91,14 @@ end_text r Stopped = closing_line r true 0
 end_text r Unreached = decimal r ++ codes " end: not reached\n"
 
 -- the lines of a rank
-abbrev pub course_text : Course → List ℕ
-course_text c = step_lines c.rank 0 c.steps.items ++ open_line c.rank (length c.steps.items) c.open ++ end_text c.rank c.end
+abbrev pub course_text : JobView → Course → List ℕ
+course_text j c = step_lines j c.rank 0 c.steps.items ++ open_line (called_at j c.rank (length c.steps.items)) c.rank (length c.steps.items) c.open ++ end_text c.rank c.end
 
 -- the lines of what steps wait for, if that is told
-abbrev pub open_text : Option (Vec Wait Global) → List ℕ
-open_text None = []
-open_text (Some waits) = codes "open steps:\n" ++ flat_map wait_text waits.items
+abbrev pub open_text : JobView → Option (Vec Wait Global) → List ℕ
+open_text j None = []
+open_text j (Some waits) = codes "open steps:\n" ++ flat_map (wait_text j) waits.items
 
--- a schedule in words
-abbrev pub schedule_text : Schedule → List ℕ
-schedule_text s = codes "events:\n" ++ moves_text s.moves.items ++ codes "trace:\n" ++ flat_map course_text s.courses.items ++ open_text s.waits
+-- a schedule of a job in words
+abbrev pub schedule_text : JobView → Schedule → List ℕ
+schedule_text j s = codes "events:\n" ++ moves_text j s.moves.items ++ codes "trace:\n" ++ flat_map (course_text j) s.courses.items ++ open_text j s.waits

@@ -5,7 +5,7 @@ ghost use Rattle.ulfm_schedule.specs.Values.{bearer_words, bringer_words, fate_w
 
 use std::alloc::AllocError;
 use ulfm_answer::{StepAnswer, StepReport};
-use ulfm_job::{NotedStep, Step};
+use ulfm_job::Job;
 
 /// What came of a step.
 #[derive(Drop)]
@@ -23,8 +23,6 @@ pub enum Fate {
 pub struct Bearer {
     /// Its number, from 0.
     pub step: usize,
-    /// What it asks for.
-    pub call: NotedStep,
     /// What came of it.
     pub fate: Fate,
 }
@@ -42,40 +40,37 @@ fn fate_of(done: &[StepReport], is_open: bool, k: usize) -> Result<Fate, AllocEr
     Ok(Fate::Unreached)
 }
 
-/// The step `k` of the rank `s`, and what came of it.
+/// The step `k` of the rank `s` of a job, and what came of it.
 fn bearer_at(
+    job: &Job,
     s: u8,
     done: &[StepReport],
     is_open: bool,
-    script: &[Step],
     k: usize,
 ) -> Result<Bearer, AllocError>
-    ensures { IfOk result (λ bearer. bearer_words s bearer ≡ due_text s done.now is_open script.now k) }
+    ensures { IfOk result (λ bearer. bearer_words job.now s bearer ≡ due_text job.now s done.now is_open k) }
 {
-    // Of whose script it is stands in the clause alone.
+    // Of which job and whose it is stands in the clause alone.
+    let _ = job;
     let _ = s;
-    let Some(step) = script.get(k) else {
-        return Err(AllocError);
-    };
     Ok(Bearer {
         step: k,
-        call: NotedStep::of(step),
         fate: fate_of(done, is_open, k)?,
     })
 }
 
-/// Who would bring it: a step of the rank `s`, or none.
+/// Who would bring it: a step of the rank `s` of a job, or none.
 pub(crate) fn bearer_of(
+    job: &Job,
     s: u8,
     done: &[StepReport],
     is_open: bool,
-    script: &[Step],
     due: Option<usize>,
 ) -> Result<Option<Bearer>, AllocError>
-    ensures { IfOk result (λ bearer. bringer_words s bearer ≡ bearer_text s done.now is_open script.now due) }
+    ensures { IfOk result (λ bearer. bringer_words job.now s bearer ≡ bearer_text job.now s done.now is_open due) }
 {
     match due {
-        Some(k) => Ok(Some(bearer_at(s, done, is_open, script, k)?)),
+        Some(k) => Ok(Some(bearer_at(job, s, done, is_open, k)?)),
         None => Ok(None),
     }
 }

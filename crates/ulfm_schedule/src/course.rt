@@ -1,10 +1,11 @@
 //! What came of a rank.
 ghost use Rattle.std.specs.Prelude.{◌≡◌, ◌++◌, OnOk, string_bytes};
+ghost use Rattle.ulfm_job.specs.Naming.{called_at};
 ghost use Rattle.ulfm_schedule.specs.Words.{course_text, end_text, open_line};
 
 use std::alloc::AllocError;
 use ulfm_answer::{StepReport, push_closing, push_steps};
-use ulfm_job::NotedStep;
+use ulfm_job::{Job, NotedStep, NotedWords};
 
 /// How a rank ended.
 #[derive(Clone, Copy, Debug, PartialEq, Eq)]
@@ -31,11 +32,24 @@ pub struct Course {
 }
 
 /// Puts the line of a step that stands open, as of one that is given up.
-fn push_open(text: &mut String, r: u8, k: usize, open: &Option<NotedStep>) -> Result<(), AllocError>
-    ensures { OnOk result (string_bytes text.new ≡ string_bytes text.old ++ open_line r k open.now) }
+fn push_open(
+    text: &mut String,
+    job: &Job,
+    r: u8,
+    k: usize,
+    open: &Option<NotedStep>,
+) -> Result<(), AllocError>
+    ensures { OnOk result (string_bytes text.new ≡ string_bytes text.old ++ open_line (called_at job.now r k) r k open.now) }
 {
     match open {
-        Some(step) => write!(text, "{r} {k} {step}: unfinished\n"),
+        Some(step) => {
+            let called = job.called(r, k);
+            write!(
+                text,
+                "{r} {k} {}: unfinished\n",
+                NotedWords { step, called }
+            )
+        }
         None => Ok(()),
     }
 }
@@ -55,11 +69,11 @@ pub fn push_end(text: &mut String, r: u8, end: End) -> Result<(), AllocError>
     }
 }
 
-/// Puts the lines of a rank.
-pub(crate) fn push_course(text: &mut String, course: &Course) -> Result<(), AllocError>
-    ensures { OnOk result (string_bytes text.new ≡ string_bytes text.old ++ course_text course.now) }
+/// Puts the lines of a rank of a job.
+pub(crate) fn push_course(text: &mut String, job: &Job, course: &Course) -> Result<(), AllocError>
+    ensures { OnOk result (string_bytes text.new ≡ string_bytes text.old ++ course_text job.now course.now) }
 {
-    push_steps(text, course.rank, course.steps.as_slice())?;
-    push_open(text, course.rank, course.steps.len(), &course.open)?;
+    push_steps(text, job, course.rank, course.steps.as_slice())?;
+    push_open(text, job, course.rank, course.steps.len(), &course.open)?;
     push_end(text, course.rank, course.end)
 }

@@ -8,7 +8,7 @@ use ulfm_answer::StepAnswer;
 use ulfm_base::OutOfMemory;
 use ulfm_job::{Job, Step};
 use ulfm_log::{Entry, tells_gone};
-use ulfm_script::RankReport;
+use ulfm_script::{RankReport, played_at};
 
 /// A step that was given up, or answered only by what others did behind such steps.
 #[derive(Drop)]
@@ -17,8 +17,8 @@ pub(crate) struct GivenUp<'a> {
     pub(crate) report: &'a RankReport,
     /// Its number.
     pub(crate) step: usize,
-    /// The step by which it waits: of a wait the receive.
-    pub(crate) need: &'a Step,
+    /// The step by which it waits, as it is played: of a wait the receive.
+    pub(crate) need: Step,
     /// At which position of its communicator the rank stands.
     pub(crate) position: Option<u8>,
     /// So much stood in the log of the rank.
@@ -27,9 +27,10 @@ pub(crate) struct GivenUp<'a> {
 
 impl<'a> GivenUp<'a> {
     /// The step of a number, where it waits for something.
-    pub(crate) fn of(job: &'a Job, report: &'a RankReport, step: usize) -> Option<GivenUp<'a>> {
-        let script = job.script(report.me().number);
-        let need = need_of(script, script.get(step)?)?;
+    pub(crate) fn of(job: &Job, report: &'a RankReport, step: usize) -> Option<GivenUp<'a>> {
+        let me = report.me().number;
+        let asked = played_at(job, me, report.steps(), step)?.bodiless()?;
+        let need = need_of(job, me, report.steps(), &asked)?;
         let answered = report.steps().get(step)?;
         let known = match answered.answer {
             // It was open before the item that was taken then.
@@ -41,8 +42,8 @@ impl<'a> GivenUp<'a> {
         Some(GivenUp {
             report,
             step,
+            position: position_by(report.rank(), &need),
             need,
-            position: position_by(report.rank(), need),
             known,
         })
     }
@@ -138,7 +139,7 @@ fn known_by(log: &[Entry], at: usize) -> usize {
 
 /// The other members of the communicator of a shrink or an agreement.
 pub(crate) fn members(alloc: Global, given: &GivenUp<'_>) -> Result<Vec<u8>, OutOfMemory> {
-    awaited(alloc, given.report.rank(), &[], given.need)
+    awaited(alloc, given.report.rank(), &[], &given.need)
 }
 
 /// Of which ranks it waits for something.
@@ -146,8 +147,8 @@ fn ranks_of(alloc: Global, given: &GivenUp<'_>) -> Result<Vec<u8>, OutOfMemory> 
     let rank = given.report.rank();
     let log = given.report.log();
     match log.get(..given.known) {
-        Some(log) => awaited(alloc, rank, log, given.need),
-        None => awaited(alloc, rank, log, given.need),
+        Some(log) => awaited(alloc, rank, log, &given.need),
+        None => awaited(alloc, rank, log, &given.need),
     }
 }
 
@@ -162,14 +163,14 @@ fn wait_on(
     let missed = missed_step(job, given, source);
     let due = match missed {
         Some(missed) => Some(missed.step),
-        None => due_of(given.need, given.position, job, s, source.steps()),
+        None => due_of(&given.need, given.position, job, s, source.steps()),
     };
     let waiting = WaitingStep {
         rank: given.report.me().number,
         step: given.step,
-        need: given.need,
+        need: &given.need,
     };
-    let mut wait = Wait::of(&waiting, s, source.steps(), false, job.script(s), due)?;
+    let mut wait = Wait::of(&waiting, job, s, source.steps(), false, due)?;
     wait.remark = match missed {
         Some(missed) => Some(lateness(held, s, missed)),
         None => notice(given, source),

@@ -1,6 +1,6 @@
 //! Schedules as values: what ranks do one after another, which message each receive gets, what came of each rank, and what open steps wait for.
 //!
-//!     push_schedule(&mut text, &schedule)?;
+//!     push_schedule(&mut text, &job, &schedule)?;
 //!     let needed = awaited(alloc, rank, rank.log(), need)?;
 //!
 //! A [`Schedule`] is made of a world by `ulfm_replay`, which also says by contracts that its text is the one of that world. Words, JSON and the

@@ -6,7 +6,7 @@ use crate::would_bring;
 use ulfm_base::Topic;
 use ulfm_job::{Job, Step};
 use ulfm_log::Entry;
-use ulfm_script::RankReport;
+use ulfm_script::{RankReport, played_at};
 
 /// A step that brought what was waited for, after that was given up.
 #[derive(Clone, Copy)]
@@ -18,7 +18,7 @@ pub(crate) struct Missed {
 
 /// The first step of a rank that brought what is waited for when this was given up, if there is one.
 pub(crate) fn missed_step(job: &Job, given: &GivenUp<'_>, source: &RankReport) -> Option<Missed> {
-    match given.need {
+    match &given.need {
         Step::Recv { .. } | Step::Probe { .. } => missed_send(job, given, source),
         _ => missed_entry(job, given, source),
     }
@@ -26,8 +26,8 @@ pub(crate) fn missed_step(job: &Job, given: &GivenUp<'_>, source: &RankReport) -
 
 /// Whether a step of a rank would bring it.
 fn brings(job: &Job, given: &GivenUp<'_>, source: &RankReport, step: usize) -> bool {
-    match job.script(source.me().number).get(step) {
-        Some(step) => would_bring(given.need, given.position, step),
+    match played_at(job, source.me().number, source.steps(), step) {
+        Some(step) => would_bring(&given.need, given.position, &step),
         None => false,
     }
 }

@@ -7,7 +7,7 @@ use crate::parcel::Parcel;
 use crate::push_named;
 use std::alloc::AllocError;
 use ulfm_answer::{StepReport, push_answer};
-use ulfm_job::NotedStep;
+use ulfm_job::{Job, NotedStep};
 
 /// What a rank does in a move.
 #[derive(Drop)]
@@ -59,30 +59,37 @@ pub fn push_passed(
 }
 
 /// Puts the line of a step that is opened.
-fn push_opened(text: &mut String, r: u8, k: usize, step: &NotedStep) -> Result<(), AllocError>
-    ensures { OnOk result (string_bytes text.new ≡ string_bytes text.old ++ opened_text r k step.now) }
+fn push_opened(text: &mut String, job: &Job, r: u8, k: usize) -> Result<(), AllocError>
+    ensures { OnOk result (string_bytes text.new ≡ string_bytes text.old ++ opened_text job.now r k) }
 {
-    push_named(text, r, k, step)?;
+    push_named(text, job, r, k)?;
     text.push_str(": open\n")
 }
 
 /// Puts the line of a step that has its answer.
-fn push_answered(text: &mut String, r: u8, k: usize, report: &StepReport) -> Result<(), AllocError>
-    ensures { OnOk result (string_bytes text.new ≡ string_bytes text.old ++ answered_text r k report.now) }
+fn push_answered(
+    text: &mut String,
+    job: &Job,
+    r: u8,
+    k: usize,
+    report: &StepReport,
+) -> Result<(), AllocError>
+    ensures { OnOk result (string_bytes text.new ≡ string_bytes text.old ++ answered_text job.now r k report.now) }
 {
-    write!(text, "{r}.{k} {}: ", report.step)?;
+    push_named(text, job, r, k)?;
+    text.push_str(": ")?;
     push_answer(text, &report.answer)?;
     text.push_str("\n")
 }
 
-/// Puts the line of what the rank `r` does.
-pub(crate) fn push_deed(text: &mut String, r: u8, deed: &Deed) -> Result<(), AllocError>
-    ensures { OnOk result (string_bytes text.new ≡ string_bytes text.old ++ deed_text r deed.now) }
+/// Puts the line of what the rank `r` of a job does.
+pub(crate) fn push_deed(text: &mut String, job: &Job, r: u8, deed: &Deed) -> Result<(), AllocError>
+    ensures { OnOk result (string_bytes text.new ≡ string_bytes text.old ++ deed_text job.now r deed.now) }
 {
     match deed {
         Deed::Left(d, cargo) => push_passed(text, r, *d, false, *cargo),
         Deed::Took(s, cargo) => push_passed(text, *s, r, true, *cargo),
-        Deed::Opened(k, step) => push_opened(text, r, *k, step),
-        Deed::Answered(k, report) => push_answered(text, r, *k, report),
+        Deed::Opened(k, _) => push_opened(text, job, r, *k),
+        Deed::Answered(k, report) => push_answered(text, job, r, *k, report),
     }
 }

@@ -8,7 +8,7 @@ use crate::need::Need;
 use crate::remark::Remark;
 use std::alloc::AllocError;
 use ulfm_answer::StepReport;
-use ulfm_job::Step;
+use ulfm_job::{Job, Step};
 
 /// What a step of a rank waits for.
 #[derive(Drop)]
@@ -34,7 +34,7 @@ pub struct WaitingStep<'a> {
     pub rank: u8,
     /// Its number, from 0.
     pub step: usize,
-    /// What it asks for; of a wait, the receive that it names.
+    /// What it asks for, as it is played; of a wait, the receive that it names.
     pub need: &'a Step,
 }
 
@@ -48,13 +48,13 @@ impl Wait {
     #[tactic(auto, using(crate::proofs::Waiting::wait_is))]
     pub fn of(
         waiting: &WaitingStep<'_>,
+        job: &Job,
         s: u8,
         done: &[StepReport],
         is_open: bool,
-        script: &[Step],
         due: Option<usize>,
     ) -> Result<Wait, AllocError>
-        ensures { IfOk result (λ wait. wait_text wait ≡ wait_words waiting.now.rank waiting.now.step waiting.now.need.now s done.now is_open script.now due ++ codes "\n") }
+        ensures { IfOk result (λ wait. wait_text job.now wait ≡ wait_words job.now waiting.now.rank waiting.now.step waiting.now.need.now s done.now is_open due ++ codes "\n") }
     {
         let Some(need) = Need::of(waiting.need) else {
             return Err(AllocError);
@@ -64,7 +64,7 @@ impl Wait {
             step: waiting.step,
             need,
             on: s,
-            bearer: bearer_of(s, done, is_open, script, due)?,
+            bearer: bearer_of(job, s, done, is_open, due)?,
             remark: None,
         })
     }

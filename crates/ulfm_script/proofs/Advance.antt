@@ -1,10 +1,12 @@
 -- What a poll moves at a player, and what falls with it.
 use Rattle.std.proofs.Common.{◌≡◌, ℕ, ◌^◌, ◌<◌, ◌≤◌, Bool, true, false, List, length, refl, ap, sym, subst, ◌∙◌, arith, inl, inr, ◌⊎◌, Option, Some, None, MatchOption, slice_get, if◌then◌else◌}
-use Rattle.ulfm_job.specs.Job.{JobView, IsJob, script_at, is_stop_step, may_leave, turns_at}
+use Rattle.ulfm_job.specs.Job.{JobView, IsJob, is_stop_step, may_leave, turns_at}
 use Rattle.ulfm_script.proofs.Common.{is_stopped, Shrink, Agree, State, SkipsStep, Step, StepAnswer, StepReport, Skipped, Unfinished, Wait, Player, AnswersStep, StaysOpen, awaits_decision, IsCalled, GivesUpStep, PollAnswers, PollOpens, with_rank, answered, polled, step_report, FollowsSoFar, polls_left, same_Some, slice_get_within}
 use Rattle.ulfm_answer.specs.Report.{is_skipped, is_unfinished}
 use Rattle.ulfm_script.specs.Script.{IsPolled, IsPatient, is_played_stop}
 use Rattle.ulfm_script.proofs.Polls.{Adds, answers_add, opens_add, opens_go_on, stopped-adds}
+use Rattle.ulfm_script.proofs.MeantAlong.{next-played}
+use Rattle.ulfm_script.specs.Meant.{next_step, played_script}
 use Rattle.ulfm_script.proofs.Progress.{closed, follows-closed, follows-polled, left-closed, left_polled, polls_small}
 
 -- what a player has before a poll of its next step
@@ -16,13 +18,13 @@ pub record Ready (script : List Step) (turns : ℕ) (p : Player) (asked : Step) 
   pub inside : length p.done < length script
 
 -- a running player that has a step left is ready for its next poll
-pub ready-at : (job : JobView) (me : ℕ) (p : Player) (asked : Step) → IsJob job → FollowsSoFar (script_at job me) job.turns p → is_stopped p.rank.log ≡ false → slice_get (script_at job me) (length p.done) ≡ Some asked → Ready (script_at job me) job.turns p asked
+pub ready-at : (job : JobView) (me : ℕ) (p : Player) (asked : Step) → IsJob job → FollowsSoFar (played_script job me p.done) job.turns p → is_stopped p.rank.log ≡ false → next_step job me p.done ≡ Some asked → Ready (played_script job me p.done) job.turns p asked
 ready-at job me p asked is_job h running next = record {
   follows = h;
   running = running;
-  few = polls_small (script_at job me) job.turns p h is_job.some_turn;
-  next = next;
-  inside = slice_get_within (script_at job me) (length p.done) asked next;
+  few = polls_small (played_script job me p.done) job.turns p h is_job.some_turn;
+  next = next-played job me p.done ∙ next;
+  inside = slice_get_within (played_script job me p.done) (length p.done) asked (next-played job me p.done ∙ next);
 }
 
 -- it goes on through its script, fewer polls are left, and its log has one more entry of its own at most

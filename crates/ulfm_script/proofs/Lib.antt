@@ -2,6 +2,9 @@ pub mod Common
 pub mod Adopting
 pub mod Proposals
 pub mod Waits
+pub mod MeantAlong
+pub mod Nowhere
+pub mod Bodiless
 pub mod Progress
 pub mod Says
 pub mod Polls

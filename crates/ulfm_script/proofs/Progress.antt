@@ -1,6 +1,7 @@
 -- A player that goes on through its script.
-use Rattle.std.proofs.Common.{◌≡◌, ℕ, ◌+◌, ◌-◌, ◌*◌, ◌^◌, ◌<◌, ◌≤◌, min, Bool, true, false, cond, List, [], ◌∷◌, ◌++◌, length, map, refl, ap, sym, ◌∙◌, arith, append-nil, append_assoc, length-append, inl, inr, ◌⊎◌, Option, Some, None, MatchOption, slice_get}
-use Rattle.std.proofs.lemmas.List.{map_push, length-map, nil_from_length}
+use Rattle.std.proofs.Common.{◌≡◌, ℕ, ◌+◌, ◌-◌, ◌*◌, ◌^◌, ◌<◌, ◌≤◌, min, Bool, true, false, cond, List, [], ◌∷◌, ◌++◌, length, map, take, drop, refl, ap, sym, subst, ◌∙◌, arith, append-nil, append_assoc, length-append, inl, inr, ◌⊎◌, Option, Some, None, MatchOption, slice_get}
+use Rattle.std.proofs.Math.Seq.{take-append_seam}
+use Rattle.std.proofs.lemmas.List.{length-drop, map_push, length-map, nil_from_length, take-append-drop}
 use Rattle.ulfm_script.proofs.Common.{All-nil, All-push, is_stopped, same_Some, slice_get_within, State, Step, StepReport, false≢true, Player, with_rank, polled, IsFree, start_player, has_stop, FollowsSoFar, polls_left}
 use Rattle.ulfm_script.specs.Script.{reported_step, steps_done, is_played_stop, through_stop, IsPatient}
 
@@ -140,3 +141,43 @@ follows-start script turns me n = record {
   running = λ k. refl;
   stopped = λ k. absurd (false≢true k);
 }
+
+-- a script through which so many steps were gone is these, and others behind them
+front-of : (xs rest script other : List Step) (n : ℕ) → xs ++ rest ≡ script → length xs ≡ n → take n other ≡ take n script → xs ++ drop n other ≡ other
+front-of xs rest script other n split many same =
+    let front : take n script ≡ xs = ap (take n) (sym split) ∙ ap (λ (k : ℕ). take k (xs ++ rest)) (sym many) ∙ take-append_seam xs rest in
+    ap (λ (ys : List Step). ys ++ drop n other) (sym (same ∙ front)) ∙ take-append-drop n other
+
+-- a stop that was played ends both
+through-same : (xs : List StepReport) (one other : List Step) → has_stop xs ≡ true → through_stop xs (map reported_step xs ++ one) ≡ through_stop xs (map reported_step xs ++ other)
+through-same [] one other h = absurd (false≢true h)
+through-same (x ∷ xs) one other h = by (is_played_stop x) refl
+  where
+    by : (b : Bool) → is_played_stop x ≡ b → through_stop (x ∷ xs) (map reported_step (x ∷ xs) ++ one) ≡ through_stop (x ∷ xs) (map reported_step (x ∷ xs) ++ other)
+    by true is = rw is refl
+    by false is = rw is (ap (λ (ys : List Step). x.step ∷ ys) (through-same xs one other (rw is at h)))
+
+-- a player between two steps that goes through a script goes through each of the same length that begins with the same steps
+pub follows-moved : (one other : List Step) (turns : ℕ) (p : Player) → FollowsSoFar one turns p → p.current ≡ None → length other ≡ length one → take (length p.done) other ≡ take (length p.done) one → FollowsSoFar other turns p
+follows-moved one other turns p h none long same =
+    let many : length (steps_done p) ≡ length p.done = length-map p.done reported_step in
+    let split : steps_done p ++ drop (length p.done) other ≡ other = front-of (steps_done p) h.rest one other (length p.done) h.split many same in
+    record {
+      rest = drop (length p.done) other;
+      split = split;
+      patient = h.patient;
+      current = subst (λ (o : Option Step). MatchOption o (p.polls ≡ 0) (λ asked. (slice_get other (length p.done) ≡ Some asked) × (p.polls < turns))) (sym none) (subst (λ (o : Option Step). MatchOption o (p.polls ≡ 0) (λ asked. (slice_get one (length p.done) ≡ Some asked) × (p.polls < turns))) none h.current);
+      running = h.running;
+      stopped = λ k. (by (has_stop p.done) refl split k, none);
+    }
+  where
+    rests : has_stop p.done ≡ false → is_stopped p.rank.log ≡ true → length one ≡ length p.done
+    rests runs k =
+        let all : steps_done p ≡ one = (h.stopped k).0 ∙ ap (through_stop p.done) (sym h.split) ∙ through-none p.done h.rest runs ∙ h.split in
+        sym (ap length all) ∙ length-map p.done reported_step
+
+    by : (b : Bool) → has_stop p.done ≡ b → steps_done p ++ drop (length p.done) other ≡ other → is_stopped p.rank.log ≡ true → steps_done p ≡ through_stop p.done other
+    by true is split k = (h.stopped k).0 ∙ ap (through_stop p.done) (sym h.split) ∙ through-same p.done h.rest (drop (length p.done) other) is ∙ ap (through_stop p.done) split
+    by false is split k =
+        let over : drop (length p.done) other ≡ [] = nil_from_length (drop (length p.done) other) (omega (arith, rests is k, long, length-drop (length p.done) other)) in
+        sym (append-nil (steps_done p)) ∙ ap (λ (ys : List Step). steps_done p ++ ys) (sym over) ∙ sym (through-none p.done (drop (length p.done) other) is) ∙ ap (through_stop p.done) split

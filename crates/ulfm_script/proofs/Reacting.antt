@@ -1,5 +1,5 @@
 -- A player that plays a step exactly where it is to be played.
-use Rattle.std.proofs.Common.{◌≡◌, ◌⊎◌, ℕ, ◌≤◌, true, false, not, List, [], ◌∷◌, ◌++◌, length, take, refl, ap, sym, subst, ◌∙◌, arith, inl, inr, MatchOption, Option, Some, None}
+use Rattle.std.proofs.Common.{◌≡◌, ◌⊎◌, ℕ, ◌+◌, ◌≤◌, true, false, not, List, [], ◌∷◌, ◌++◌, length, take, refl, ap, ap₂, sym, subst, ◌∙◌, arith, length-append, inl, inr, MatchOption, Option, Some, None}
 use Rattle.std.proofs.lemmas.Bool.{false≢true}
 use Rattle.std.proofs.lemmas.List.{take-append-le}
 use Rattle.std.proofs.Math.Seq.{take-append_seam}
@@ -13,7 +13,9 @@ use Rattle.ulfm_answer.specs.Report.{is_skipped, is_unfinished}
 use Rattle.ulfm_script.specs.Script.{GivesUpRightly, HasFinished}
 use Rattle.ulfm_script.proofs.Advance.{given_by_poll, not_skipped, not_unfinished}
 use Rattle.ulfm_script.proofs.Decisions.{given_by_decision}
-use Rattle.ulfm_script.proofs.Progress.{answered_running, follows-rank, follows-start, none_open}
+use Rattle.ulfm_script.proofs.MeantAlong.{length-played, prefix-played}
+use Rattle.ulfm_script.specs.Meant.{played_script}
+use Rattle.ulfm_script.proofs.Progress.{answered_running, follows-moved, follows-rank, follows-start, none_open}
 
 -- one more step, skipped exactly where it isn't to be played
 skips-push : (conditions : List Condition) (r : ℕ) (done : List StepReport) (x : StepReport) → SkipsRightly conditions r done → is_skipped x.answer ≡ not (is_played conditions r done) → SkipsRightly conditions r (done ++ x ∷ [])
@@ -35,23 +37,31 @@ gives-push j r done x h e k report g given = elim (get_cases done x k report g) 
       (subst (λ (y : StepReport). (y.polls ≡ j.turns) ⊎ (may_leave j r (length done) ≡ true)) last.1 (e (ap (λ (y : StepReport). is_unfinished y.answer) last.1 ∙ given)))
 ]
 
+-- a player between two steps goes through its script as it is played by one more answer
+pub follows-on : {j : JobView} {r : ℕ} {old new : Player} (x : StepReport) → FollowsSoFar (played_script j r old.done) j.turns new → new.done ≡ old.done ++ x ∷ [] → new.current ≡ None → FollowsSoFar (played_script j r new.done) j.turns new
+follows-on {j} {r} {old} {new} x follows done none =
+    let many : length new.done ≡ length old.done + 1 = ap length done ∙ length-append old.done (x ∷ []) in
+    let same : take (length new.done) (played_script j r new.done) ≡ take (length new.done) (played_script j r old.done) =
+    ap₂ (λ (n : ℕ) (ds : List StepReport). take n (played_script j r ds)) many done ∙ prefix-played j r old.done (x ∷ []) ∙ ap (λ (n : ℕ). take n (played_script j r old.done)) (sym many) in
+    follows-moved (played_script j r old.done) (played_script j r new.done) j.turns new follows none (length-played j r new.done ∙ sym (length-played j r old.done)) same
+
 -- a player still goes through its script with one more answer, and no step open
-goes-closed : {j : JobView} {r : ℕ} {old new : Player} (x : StepReport) → FollowsSoFar (script_at j r) j.turns new → GoesThrough j r old → new.done ≡ old.done ++ x ∷ [] → new.current ≡ None → is_unfinished x.answer ≡ false → is_skipped x.answer ≡ not (is_played j.conditions r old.done) → GoesThrough j r new
+goes-closed : {j : JobView} {r : ℕ} {old new : Player} (x : StepReport) → FollowsSoFar (played_script j r old.done) j.turns new → GoesThrough j r old → new.done ≡ old.done ++ x ∷ [] → new.current ≡ None → is_unfinished x.answer ≡ false → is_skipped x.answer ≡ not (is_played j.conditions r old.done) → GoesThrough j r new
 goes-closed {j} {r} {old} {new} x follows h done none kept e = record {
-  follows = follows;
+  follows = follows-on {j} {r} {old} {new} x follows done none;
   gives = subst (GivesUpRightly j r) (sym done) (gives-push j r old.done x h.gives (λ given. absurd (false≢true (sym kept ∙ given))));
   skips = subst (SkipsRightly j.conditions r) (sym done) (skips-push j.conditions r old.done x h.skips e);
   playing = rw none tt;
 }
 
 -- a step is played where one is to be
-goes-played : {j : JobView} {r : ℕ} {old new : Player} (x : StepReport) → FollowsSoFar (script_at j r) j.turns new → GoesThrough j r old → new.done ≡ old.done ++ x ∷ [] → new.current ≡ None → is_unfinished x.answer ≡ false → is_skipped x.answer ≡ false → is_played j.conditions r old.done ≡ true → GoesThrough j r new
+goes-played : {j : JobView} {r : ℕ} {old new : Player} (x : StepReport) → FollowsSoFar (played_script j r old.done) j.turns new → GoesThrough j r old → new.done ≡ old.done ++ x ∷ [] → new.current ≡ None → is_unfinished x.answer ≡ false → is_skipped x.answer ≡ false → is_played j.conditions r old.done ≡ true → GoesThrough j r new
 goes-played x follows h done none kept given played = goes-closed x follows h done none kept (given ∙ sym (ap not played))
 
 -- a player that goes on, with the same answers and the same step open, or one that is to be played
-pub goes-open : {j : JobView} {r : ℕ} {old new : Player} → FollowsSoFar (script_at j r) j.turns new → GoesThrough j r old → new.done ≡ old.done → is_played j.conditions r old.done ≡ true → GoesThrough j r new
+pub goes-open : {j : JobView} {r : ℕ} {old new : Player} → FollowsSoFar (played_script j r old.done) j.turns new → GoesThrough j r old → new.done ≡ old.done → is_played j.conditions r old.done ≡ true → GoesThrough j r new
 goes-open {j} {r} {old} {new} follows h done played = record {
-  follows = follows;
+  follows = subst (λ (ds : List StepReport). FollowsSoFar (played_script j r ds) j.turns new) (sym done) follows;
   gives = subst (GivesUpRightly j r) (sym done) h.gives;
   skips = subst (SkipsRightly j.conditions r) (sym done) h.skips;
   playing = plays new.current;
@@ -69,20 +79,20 @@ pub open_played : {j : JobView} {r : ℕ} {p : Player} {asked : Step} → GoesTh
 open_played {asked} h e = rw e at h.playing
 
 -- a poll by a call of a step that is to be played
-pub goes-called : {j : JobView} {r : ℕ} {old : Player} {asked : Step} {new : Player} → FollowsSoFar (script_at j r) j.turns new → GoesThrough j r old → is_played j.conditions r old.done ≡ true → IsCalled old asked new → GoesThrough j r new
+pub goes-called : {j : JobView} {r : ℕ} {old : Player} {asked : Step} {new : Player} → FollowsSoFar (played_script j r old.done) j.turns new → GoesThrough j r old → is_played j.conditions r old.done ≡ true → IsCalled old asked new → GoesThrough j r new
 goes-called {old} {asked} follows h played (inl a) =
     let given = given_by_poll old.done old.rank asked a.answer a.rank a.answers in
     goes-played _ follows h (ap (λ (p : Player). p.done) a.only) (ap (λ (p : Player). p.current) a.only) (not_unfinished a.answer given.0) (not_skipped a.answer given.1) played
 goes-called follows h played (inr o) = goes-open follows h (ap (λ (p : Player). p.done) o.only) played
 
 -- an open step is decided
-pub goes-decided : {j : JobView} {r : ℕ} {old : Player} {comm : Context} {board : Option (List ℕ)} {known later : Known} {new : Player} → FollowsSoFar (script_at j r) j.turns new → GoesThrough j r old → IsDecided old comm board known new later → GoesThrough j r new
+pub goes-decided : {j : JobView} {r : ℕ} {old : Player} {comm : Context} {board : Option (List ℕ)} {known later : Known} {new : Player} → FollowsSoFar (played_script j r old.done) j.turns new → GoesThrough j r old → IsDecided old comm board known new later → GoesThrough j r new
 goes-decided {old} {board} {known} {later} follows h d =
     let given = given_by_decision board known later old.rank d.asked d.answer d.rank d.decision in
     goes-played _ follows h (ap (λ (p : Player). p.done) d.only) (ap (λ (p : Player). p.current) d.only) (not_unfinished d.answer given.0) (not_skipped d.answer given.1) (open_played h d.waits)
 
 -- a step that isn't to be played is skipped
-pub goes-skipped : {j : JobView} {r : ℕ} {old : Player} {asked : Step} {new : Player} → FollowsSoFar (script_at j r) j.turns new → GoesThrough j r old → is_played j.conditions r old.done ≡ false → SkipsStep old asked new → GoesThrough j r new
+pub goes-skipped : {j : JobView} {r : ℕ} {old : Player} {asked : Step} {new : Player} → FollowsSoFar (played_script j r old.done) j.turns new → GoesThrough j r old → is_played j.conditions r old.done ≡ false → SkipsStep old asked new → GoesThrough j r new
 goes-skipped follows h idle s = goes-closed _ follows h (ap (λ (p : Player). p.done) s.only) (ap (λ (p : Player). p.current) s.only) refl (sym (ap not idle))
 
 -- no step stands open where the next one isn't to be played
@@ -95,11 +105,11 @@ idle_none {j} {r} {p} h idle = none p.current h.playing
 
 -- a player whose rank alone changed, and runs or has stopped as before
 pub goes-rank : {j : JobView} {r : ℕ} {p : Player} (s : State) → is_stopped s.log ≡ is_stopped p.rank.log → GoesThrough j r p → GoesThrough j r (with_rank p s)
-goes-rank {j} {r} {p} s stop h = record { follows = follows-rank (script_at j r) j.turns p s stop h.follows; gives = h.gives; skips = h.skips; playing = h.playing }
+goes-rank {j} {r} {p} s stop h = record { follows = follows-rank (played_script j r p.done) j.turns p s stop h.follows; gives = h.gives; skips = h.skips; playing = h.playing }
 
 -- a player that starts
 pub goes-start : (j : JobView) (r me n : ℕ) → GoesThrough j r (start_player me n)
-goes-start j r me n = record { follows = follows-start (script_at j r) j.turns me n; gives = λ k report g given. absurd (let low = slice_get_within [] k report g in omega arith); skips = λ k report g. absurd (let low = slice_get_within [] k report g in omega arith); playing = tt }
+goes-start j r me n = record { follows = follows-start (played_script j r []) j.turns me n; gives = λ k report g given. absurd (let low = slice_get_within [] k report g in omega arith); skips = λ k report g. absurd (let low = slice_get_within [] k report g in omega arith); playing = tt }
 
 -- a player that stopped finished its script
 pub finished-stopped : {j : JobView} {r : ℕ} {p : Player} → GoesThrough j r p → is_stopped p.rank.log ≡ true → HasFinished j r p
@@ -108,9 +118,9 @@ finished-stopped h stopped = record { steps = (h.follows.stopped stopped).0; pat
 -- so did one that runs and has no step left
 pub finished-running : {j : JobView} {r : ℕ} {p : Player} → GoesThrough j r p → is_stopped p.rank.log ≡ false → length (script_at j r) ≤ length p.done → HasFinished j r p
 finished-running {j} {r} {p} h running all = record {
-  steps = answered_running (script_at j r) j.turns p h.follows running all;
+  steps = answered_running (played_script j r p.done) j.turns p h.follows running (omega (arith, all, length-played j r p.done));
   patient = h.follows.patient;
   gives = h.gives;
   skips = h.skips;
-  closed = none_open (script_at j r) j.turns p h.follows all;
+  closed = none_open (played_script j r p.done) j.turns p h.follows (omega (arith, all, length-played j r p.done));
 }

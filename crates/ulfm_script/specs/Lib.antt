@@ -2,6 +2,7 @@ pub mod Calls
 pub mod Player
 pub mod GivenUp
 pub mod Deciding
+pub mod Meant
 pub mod Script
 pub mod Played
 pub mod Answered

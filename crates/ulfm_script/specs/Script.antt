@@ -5,7 +5,8 @@ use Rattle.ulfm_answer.specs.declared.answer.StepAnswer.{StepAnswer}
 use Rattle.ulfm_answer.specs.declared.answer.StepAnswer.TheVariants.{Unfinished, Skipped}
 use Rattle.ulfm_answer.specs.declared.answer.StepReport.{StepReport}
 use Rattle.ulfm_script.specs.Player.{Player}
-use Rattle.ulfm_job.specs.Job.{JobView, script_at, is_stop_step, may_leave}
+use Rattle.ulfm_job.specs.Job.{JobView, is_stop_step, may_leave}
+use Rattle.ulfm_script.specs.Meant.{played_script}
 use Rattle.ulfm_answer.specs.Report.{is_skipped, is_unfinished}
 use Rattle.ulfm_answer.specs.Reacting.{SkipsRightly}
 
@@ -45,7 +46,7 @@ through_stop (report ∷ reports) (x ∷ xs) = if is_played_stop report then x �
 
 -- a player answered the script of the rank r up to and with the first stop that it played, or the whole of it, and has no step open
 pub record HasFinished (j : JobView) (r : ℕ) (p : Player) : Type 0 where
-  pub steps : steps_done p ≡ through_stop p.done (script_at j r)
+  pub steps : steps_done p ≡ through_stop p.done (played_script j r p.done)
   pub patient : All (IsPatient j.turns) p.done
   pub gives : GivesUpRightly j r p.done
   pub skips : SkipsRightly j.conditions r p.done

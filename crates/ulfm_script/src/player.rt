@@ -17,7 +17,7 @@ use std::alloc::Global;
 use std::marker::Model;
 use ulfm_answer::{StepAnswer, StepReport};
 use ulfm_base::{CallError, OutOfMemory, WorldRank};
-use ulfm_job::{NotedStep, Step};
+use ulfm_job::{Asked, NotedStep, Step};
 use ulfm_rank::Rank;
 
 /// A rank, the answers of its steps, and the step that stands open.
@@ -131,11 +131,11 @@ impl Player {
     }
 
     /// Whether no other step stands open.
-    pub fn is_free(&self, step: &Step) -> bool
-        ensures { IsTrue result ↔ IsFree self.now.player step.now }
+    pub fn is_free(&self, asked: &Asked<'_>) -> bool
+        ensures { IsTrue result ↔ IsFree self.now.player asked.now }
     {
         match &self.current {
-            Some(open) => open.is_same(step),
+            Some(open) => asked.is_same(open),
             None => true,
         }
     }
@@ -164,14 +164,14 @@ impl Player {
     }
 
     /// The step has its answer, and none stands open.
-    fn answer(&mut self, step: &Step, answer: StepAnswer, at: usize)
+    fn answer(&mut self, asked: &Asked<'_>, answer: StepAnswer, at: usize)
         requires { 0 < self.old.room }
-        ensures player { self.new.player ≡ answered self.old.player step.now answer at }
+        ensures player { self.new.player ≡ answered self.old.player asked.now answer at }
         ensures room { self.new.room + length self.new.player.done ≡ self.old.room + length self.old.player.done }
         ensures prepared { self.new.prepared ≡ self.old.prepared }
     {
         self.done.push_reserved(StepReport {
-            step: NotedStep::of(step),
+            step: NotedStep::of(asked),
             answer,
             at,
             polls: self.polls,

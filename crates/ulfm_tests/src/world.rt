@@ -9,10 +9,10 @@ use self::rows::{ROWS, Row, Told};
 use std::alloc::Global;
 use std::test::Fail;
 use ulfm_base::Context;
-use ulfm_job::Job;
+use ulfm_job::{Asked, Job};
 use ulfm_reader::ReadJob;
 use ulfm_script::trace_text;
-use ulfm_world::{Asked, Event, World};
+use ulfm_world::{Event, World};
 
 /// What happens to a world next.
 #[derive(Clone, Copy)]
@@ -92,7 +92,7 @@ fn fault_in(alloc: Global, job: &Job, row: &Row) -> Result<Option<&'static str>,
     let mut world = world_of(alloc, job, row.has_rings)?;
     let fault = fault_before(&mut world, job, row);
     let reports = world.into_reports(alloc)?;
-    let trace = trace_text(alloc, reports.as_slice())?;
+    let trace = trace_text(alloc, job, reports.as_slice())?;
     Ok(if fault.is_none() && trace.as_str() != row.trace {
         Some("the trace")
     } else {

@@ -2,7 +2,9 @@
 use Rattle.std.proofs.Common.{◌≡◌, ℕ, zero, suc, ◌+◌, ◌-◌, ◌<◌, true, false, cond, List, [], length, get_or, set, refl, ap, sym, subst, ◌∙◌, arith, inl, inr, length-set, set-set, Option, Some, None, is_none, slice_get, MatchOption}
 use Rattle.ulfm_board.specs.Known.{Known}
 use Rattle.ulfm_script.specs.Player.{IsPolledInVain, polled_on}
+use Rattle.ulfm_script.specs.Meant.{next_step, played_script}
 use Rattle.ulfm_script.proofs.Advance.{ready-at}
+use Rattle.ulfm_script.proofs.MeantAlong.{next-played}
 use Rattle.ulfm_script.proofs.Reacting.{open_played}
 use Rattle.ulfm_script.proofs.Vain.{vain-after, vain-again, vain-more, vain-next, vain-one, vain-opens}
 use Rattle.ulfm_world.specs.World.{CallsInVain}
@@ -14,7 +16,7 @@ use Rattle.ulfm_world.proofs.Lists.{players-set, seen_player}
 use Rattle.ulfm_world.proofs.Moves.{moves-on}
 use Rattle.ulfm_world.proofs.MovesCall.{moves-call}
 use Rattle.ulfm_world.proofs.Runs.{keeps-happens, reaches-one, reaches-then}
-use Rattle.ulfm_world.proofs.Common.{Answered, awaits_decision, Call, Follows, FollowsSoFar, Happens, IsCalled, is_stopped, IsJob, IsRunning, IsUndecided, IsWorld, Item, length-map, Moves, NotYet, opens_add, outcome_of, Player, player_at, player_in, polled, PollOpens, Reaches, script_at, JobView, Step, stopped-adds, PlayerView, with_player, with_players, World, WorldRank, Room}
+use Rattle.ulfm_world.proofs.Common.{Answered, awaits_decision, Call, Follows, FollowsSoFar, Happens, IsCalled, is_stopped, IsJob, IsRunning, IsUndecided, IsWorld, Item, length-map, Moves, NotYet, opens_add, outcome_of, Player, player_at, player_in, polled, PollOpens, Reaches, JobView, Step, stopped-adds, PlayerView, with_player, with_players, World, WorldRank, Room}
 
 -- the player r after one poll in vain
 abbrev after : World → ℕ → Step → Player
@@ -112,8 +114,9 @@ module _ {j : JobView} (job : IsJob j) (r : ℕ) (asked : Step) where
       let opens : PollOpens p asked c.after = left_open p asked c.after c.called (ap (λ (x : Player). cond (is_none x.current) Answered NotYet) (sym mid_at) ∙ told) in
       let now : player_at mid r ≡ polled p asked (length p.rank.log) = mid_at ∙ vain-again p asked c.after waits opens in
       let few : (player_at mid r).polls < j.turns = omega (arith, ap (λ (x : Player). x.polls) now, spare, job.most_turns) in
-      let next : slice_get (script_at j r) (length p.done) ≡ Some asked = (subst (λ (o : Option Step). MatchOption o (p.polls ≡ 0) (λ (s : Step). (slice_get (script_at j r) (length p.done) ≡ Some s) × (p.polls < j.turns))) waits (f r inside).follows.current).0 in
-      (moves-call r mid job h inside f (ready-at j r p asked job (f r inside).follows running next) (open_played (f r inside) waits) undecided happens (inr few), now)
+      let script = played_script j r p.done in
+      let next : slice_get script (length p.done) ≡ Some asked = (subst (λ (o : Option Step). MatchOption o (p.polls ≡ 0) (λ (s : Step). (slice_get script (length p.done) ≡ Some s) × (p.polls < j.turns))) waits (f r inside).follows.current).0 in
+      (moves-call r mid job h inside f (ready-at j r p asked job (f r inside).follows running (sym (next-played j r p.done) ∙ next)) (open_played (f r inside) waits) undecided happens (inr few), now)
 
   -- several do
   moves-often : (n : ℕ) (w w' : World) → IsWorld w → r < length w.players → Follows j w → IsRunning w r → (player_at w r).current ≡ Some asked → IsUndecided (player_at w r) → (player_at w r).polls + suc n < j.turns → CallsInVain (suc n) w r asked w' → Moves j w w' true
@@ -133,9 +136,9 @@ module _ {j : JobView} (job : IsJob j) (r : ℕ) (asked : Step) where
   moves-many (suc n) w w' h inside f running waits undecided some spare calls = moves-often n w w' h inside f running waits undecided spare calls
 
 -- a step that was polled stands open
-pub open_now : (j : JobView) (r : ℕ) (p : Player) (asked : Step) → FollowsSoFar (script_at j r) j.turns p → slice_get (script_at j r) (length p.done) ≡ Some asked → 0 < p.polls → p.current ≡ Some asked
+pub open_now : (j : JobView) (r : ℕ) (p : Player) (asked : Step) → FollowsSoFar (played_script j r p.done) j.turns p → next_step j r p.done ≡ Some asked → 0 < p.polls → p.current ≡ Some asked
 open_now j r p asked f next spent = pick p.current f.current
   where
-    pick : (o : Option Step) → MatchOption o (p.polls ≡ 0) (λ (s : Step). (slice_get (script_at j r) (length p.done) ≡ Some s) × (p.polls < j.turns)) → o ≡ Some asked
+    pick : (o : Option Step) → MatchOption o (p.polls ≡ 0) (λ (s : Step). (slice_get (played_script j r p.done) (length p.done) ≡ Some s) × (p.polls < j.turns)) → o ≡ Some asked
     pick None h = absurd (omega (arith, h, spent))
-    pick (Some s) h = sym h.0 ∙ next
+    pick (Some s) h = sym h.0 ∙ next-played j r p.done ∙ next

@@ -1,16 +1,18 @@
 -- Why a poll of a replay can be refused.
-use Rattle.std.proofs.Common.{◌≡◌, ℕ, ◌<◌, false, length, refl, ap, sym, ◌∙◌, arith, inl, inr, length-set, Some, None, slice_get}
-use Rattle.ulfm_world.proofs.Common.{is_stopped, Step, JobView, script_at, Call, Leave, Skip, false≢true, opens_add, stopped-adds, World, player_at, with_players, with_player, Happens, IsRunning, IsRefused, Player, IsCalled, awaits_decision, Follows, is_played, next-free}
+use Rattle.std.proofs.Common.{◌≡◌, ℕ, ◌<◌, false, length, refl, ap, sym, ◌∙◌, arith, inl, inr, length-set, Some, None}
+use Rattle.ulfm_world.proofs.Common.{is_stopped, Step, JobView, Call, Leave, Skip, false≢true, opens_add, stopped-adds, World, player_at, with_players, with_player, Happens, IsRunning, IsRefused, Player, IsCalled, awaits_decision, Follows, is_played, next-free}
 use Rattle.ulfm_world.specs.declared.event.Refused.{Refused}
 use Rattle.ulfm_world.specs.declared.event.Refused.TheVariants.{NotReady, Stopped, OutOfMemory, NoSuchRank}
+use Rattle.ulfm_script.specs.Meant.{next_step, played_script}
+use Rattle.ulfm_script.proofs.MeantAlong.{next-played}
 use Rattle.ulfm_script.proofs.Reacting.{idle_none}
 use Rattle.ulfm_world.proofs.Changed.{player-same}
 
 -- the next step of a running player is refused by out of memory alone
-pub refused-starves : (j : JobView) (w : World) (r : ℕ) (asked : Step) (why : Refused) → r < length w.players → Follows j w → IsRunning w r → slice_get (script_at j r) (length (player_at w r).done) ≡ Some asked → IsRefused w (Call r asked) why → why ≡ OutOfMemory
+pub refused-starves : (j : JobView) (w : World) (r : ℕ) (asked : Step) (why : Refused) → r < length w.players → Follows j w → IsRunning w r → next_step j r (player_at w r).done ≡ Some asked → IsRefused w (Call r asked) why → why ≡ OutOfMemory
 refused-starves j w r asked NoSuchRank i f running next k = absurd (omega (arith, i, k))
 refused-starves j w r asked Stopped i f running next k = absurd (false≢true (sym running ∙ k.1))
-refused-starves j w r asked NotReady i f running next k = absurd (k.1 (next-free (script_at j r) j.turns (player_at w r) asked (f r i).follows next))
+refused-starves j w r asked NotReady i f running next k = absurd (k.1 (next-free (played_script j r (player_at w r).done) j.turns (player_at w r) asked (f r i).follows (next-played j r (player_at w r).done ∙ next)))
 refused-starves j w r asked OutOfMemory i f running next k = refl
 refused-starves j w r asked _ i f running next k = absurd k
 

@@ -1,6 +1,7 @@
 -- Each player's answers stay right, whatever a replay does next.
 use Rattle.std.proofs.Common.{◌≡◌, ℕ, List, [], length, refl, ap, ◌∙◌, Some, slice_get}
-use Rattle.ulfm_world.proofs.Common.{Context, WorldRank, Item, Step, JobView, script_at, with_rank, Call, Decide, Leave, Skip, World, player_at, start_world, Happens, Pushes, Takes, AllAnswersFollowSoFar, Follows, AnswersFollowSoFar, IsUndecided, Room}
+use Rattle.ulfm_world.proofs.Common.{Context, WorldRank, Item, Step, JobView, with_rank, Call, Decide, Leave, Skip, World, player_at, start_world, Happens, Pushes, Takes, AllAnswersFollowSoFar, Follows, AnswersFollowSoFar, IsUndecided, Room}
+use Rattle.ulfm_script.specs.Meant.{played_script}
 use Rattle.ulfm_script.proofs.Adopted.{honest-decided}
 use Rattle.ulfm_script.proofs.Calling.{honest-called}
 use Rattle.ulfm_script.proofs.Honestly.{honest-moved, honest-left, honest-skipped, honest-start}
@@ -15,11 +16,11 @@ rightly-pushes w s d w' t h = all-pushes AnswersFollowSoFar moves-honest w s d w
 pub rightly-takes : (w : World) (r : ℕ) (passed : List (WorldRank × Item)) (w' : World) → Takes w r passed w' → AllAnswersFollowSoFar w → AllAnswersFollowSoFar w'
 rightly-takes w r passed w' t h = all-takes AnswersFollowSoFar moves-honest w r passed w' t h
 
-pub rightly-calls : (j : JobView) (w : World) (r : ℕ) {asked : Step} (w' : World) → Follows j w → slice_get (script_at j r) (length (player_at w r).done) ≡ Some asked → IsUndecided (player_at w r) → Happens w (Call r asked) w' → AllAnswersFollowSoFar w → AllAnswersFollowSoFar w'
+pub rightly-calls : (j : JobView) (w : World) (r : ℕ) {asked : Step} (w' : World) → Follows j w → slice_get (played_script j r (player_at w r).done) (length (player_at w r).done) ≡ Some asked → IsUndecided (player_at w r) → Happens w (Call r asked) w' → AllAnswersFollowSoFar w → AllAnswersFollowSoFar w'
 rightly-calls j w r {asked} w' f next undecided t h =
     let c = t.1 in
     all-set AnswersFollowSoFar w w' r c.after c.inside (ap (λ (x : World). x.players) t.2 ∙ c.only) (ap (λ (x : World). x.decided) t.2)
-    (λ known q. honest-called known (script_at j r) j.turns (player_at w r) asked c.after q c.running (f r c.inside).follows.current next undecided c.called) h
+    (λ known q. honest-called known (played_script j r (player_at w r).done) j.turns (player_at w r) asked c.after q c.running (f r c.inside).follows.current next undecided c.called) h
 
 pub rightly-leaves : (w : World) (r : ℕ) (w' : World) → Happens w (Leave r) w' → AllAnswersFollowSoFar w → AllAnswersFollowSoFar w'
 rightly-leaves w r w' t h =

@@ -37,7 +37,7 @@
 //! Files:
 //!
 //! - `world.rt`, `world/reading.rt`, `world/copying.rt`: a world; `inbox.rt`, `room.rt`: its inboxes, of two kinds
-//! - `event.rt`, `lent_step.rt`, `steps.rt`: what may happen, and what that does; `schedule.rt`: a list of events
+//! - `event.rt`, `steps.rt`: what may happen, and what that does; `schedule.rt`: a list of events
 //! - `laws.rt`: what holds of each world that events lead to
 //!
 //! Not here: in which order things happen (`ulfm_replay`, `ulfm_outcomes`), and threads (`ulfm_run`).
@@ -46,7 +46,6 @@
 mod event;
 mod inbox;
 mod laws;
-mod lent_step;
 mod room;
 mod schedule;
 mod steps;
@@ -63,7 +62,6 @@ pub use laws::{
     refused_never_happens, reports_are_faithful, revoked_by_a_rank, revoked_pairs_none,
     revoked_refuses_none, rings_give_all, settled_safely,
 };
-pub use lent_step::Asked;
 pub use room::Room;
 pub use schedule::run;
 pub use world::World;

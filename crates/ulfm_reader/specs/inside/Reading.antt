@@ -65,6 +65,7 @@ draft_view d = record {
   scripts = map (map order_of) (lists_of d.scripts.items);
   names = d.names.items;
   filed = d.filed.items;
+  namings = d.namings.items;
   conditions = d.conditions.items;
   expected = d.expected.items;
   provisos = d.provisos.items;

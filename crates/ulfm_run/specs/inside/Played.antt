@@ -1,7 +1,8 @@
 -- What a rank's thread gives back.
 use Rattle.std.specs.Prelude.{◌≡◌, ℕ, List, map, All}
 use Rattle.ulfm_base.specs.declared.item.Item.{Item}
-use Rattle.ulfm_job.specs.Job.{JobView, script_at}
+use Rattle.ulfm_job.specs.Job.{JobView}
+use Rattle.ulfm_script.specs.Meant.{played_script}
 use Rattle.ulfm_answer.specs.Report.{Report}
 use Rattle.ulfm_answer.specs.Reacting.{SkipsRightly}
 use Rattle.ulfm_script.specs.Script.{reported_step, through_stop, GivesUpRightly, IsPatient}
@@ -14,7 +15,7 @@ pub record IsPlayed {E N : Type 0} (name : E → N) (place count : E → ℕ) (p
   pub joined : IsJoined place count pushed taken ready report.rank after
   pub named : report.rank.me ≡ place before
   pub counted : report.rank.ranks ≡ job.ranks
-  pub steps : map reported_step report.steps ≡ through_stop report.steps (script_at job (place before))
+  pub steps : map reported_step report.steps ≡ through_stop report.steps (played_script job (place before) report.steps)
   pub patient : All (IsPatient job.turns) report.steps
   pub gives : GivesUpRightly job (place before) report.steps
   pub skips : SkipsRightly job.conditions (place before) report.steps

@@ -4,7 +4,8 @@ use Rattle.ulfm_log.specs.Facts.{is_stopped}
 use Rattle.ulfm_log.specs.State.{RankView}
 use Rattle.ulfm_job.specs.declared.step.Step.{Step}
 use Rattle.ulfm_script.specs.Player.{Player}
-use Rattle.ulfm_job.specs.Job.{JobView, script_at}
+use Rattle.ulfm_job.specs.Job.{JobView}
+use Rattle.ulfm_script.specs.Meant.{played_script}
 use Rattle.ulfm_answer.specs.declared.answer.StepReport.{StepReport}
 use Rattle.ulfm_job.specs.declared.condition.Condition.{Condition}
 use Rattle.ulfm_answer.specs.Reacting.{SkipsRightly, is_played}
@@ -42,7 +43,7 @@ IsPlaying conditions r p = MatchOption p.current ⊤ (λ asked. is_played condit
 
 -- a player that goes through the script of the rank r of a job, and plays a step exactly where it is to be played
 pub record GoesThrough (j : JobView) (r : ℕ) (p : Player) : Type 0 where
-  pub follows : FollowsSoFar (script_at j r) j.turns p
+  pub follows : FollowsSoFar (played_script j r p.done) j.turns p
   pub gives : GivesUpRightly j r p.done
   pub skips : SkipsRightly j.conditions r p.done
   pub playing : IsPlaying j.conditions r p

@@ -12,33 +12,33 @@ use crate::called::Called;
 use crate::poll::poll;
 use ulfm_answer::{StepAnswer, is_played};
 use ulfm_base::CallError;
-use ulfm_job::{Condition, Step};
+use ulfm_job::{Asked, Condition, Step};
 
 impl Player {
     /// One poll of a step, and whether it answered it. Where the step is open already, this is a further poll of it. A
     /// player that was prepared isn't answered out of memory, but for the send of a body of more than 30 bytes.
-    pub fn call(&mut self, step: &Step) -> Called
+    pub fn call(&mut self, asked: &Asked<'_>) -> Called
         requires running { is_stopped self.old.player.rank.log ≡ false }
-        requires free { IsFree self.old.player step.now }
+        requires free { IsFree self.old.player asked.now }
         requires room { self.old.player.current ≡ None → 0 < self.old.room }
-        ensures polls { Polls result self.old.player step.now self.new.player }
-        ensures called { IsCalled self.old.player step.now self.new.player }
+        ensures polls { Polls result self.old.player asked.now self.new.player }
+        ensures called { IsCalled self.old.player asked.now self.new.player }
         ensures room { self.new.room + length self.new.player.done ≡ self.old.room + length self.old.player.done }
-        ensures room_lacked { IsShort step.now → IfAnswered self.old.player self.new.player (λ answer. answer ≡ StepAnswer.Refused CallError.OutOfMemory → self.old.prepared ≡ false) }
+        ensures room_lacked { IsShort asked.now → IfAnswered self.old.player self.new.player (λ answer. answer ≡ StepAnswer.Refused CallError.OutOfMemory → self.old.prepared ≡ false) }
         ensures stays_prepared { self.new.player.rank ≡ self.old.player.rank → IsTrue self.old.prepared → IsTrue self.new.prepared }
     {
         let at = self.rank.log().len();
         if self.awaits_decision() {
-            self.stay_open(step, at);
+            self.stay_open(asked, at);
             return Called::NotYet;
         }
-        match poll(&mut self.rank, &self.done, step) {
+        match poll(&mut self.rank, &self.done, asked) {
             Some(answer) => {
-                self.answer(step, answer, at);
+                self.answer(asked, answer, at);
                 Called::Answered
             }
             None => {
-                self.stay_open(step, at);
+                self.stay_open(asked, at);
                 Called::NotYet
             }
         }
@@ -62,7 +62,7 @@ impl Player {
         ensures prepared { self.new.prepared ≡ self.old.prepared }
     {
         if let Some(step) = self.current.take() {
-            self.answer(&step, StepAnswer::Unfinished, self.at);
+            self.answer(&Asked::of(&step), StepAnswer::Unfinished, self.at);
         }
     }
 
@@ -80,26 +80,26 @@ impl Player {
     }
 
     /// Gives the next step the answer `skipped`, without a poll. It never answers out of memory.
-    pub fn skip(&mut self, step: &Step)
+    pub fn skip(&mut self, asked: &Asked<'_>)
         requires none_open { self.old.player.current ≡ None }
         requires room { 0 < self.old.room }
-        ensures skipped { SkipsStep self.old.player step.now self.new.player }
+        ensures skipped { SkipsStep self.old.player asked.now self.new.player }
         ensures room { self.new.room + length self.new.player.done ≡ self.old.room + length self.old.player.done }
         ensures prepared { self.new.prepared ≡ self.old.prepared }
     {
         let at = self.rank.log().len();
-        self.answer(step, StepAnswer::Skipped, at);
+        self.answer(asked, StepAnswer::Skipped, at);
     }
 
     /// One more poll, begun at this length of the log, left the step open.
-    fn stay_open(&mut self, step: &Step, at: usize)
+    fn stay_open(&mut self, asked: &Asked<'_>, at: usize)
         requires room { 0 < self.old.room }
-        requires bodiless { bodiless step.now ≡ Some step.now }
-        ensures player { self.new.player ≡ polled self.old.player step.now at }
+        requires bodiless { bodiless asked.now ≡ Some asked.now }
+        ensures player { self.new.player ≡ polled self.old.player asked.now at }
         ensures room { self.new.room ≡ self.old.room }
         ensures prepared { self.new.prepared ≡ self.old.prepared }
     {
-        self.current = step.bodiless();
+        self.current = asked.bodiless();
         self.at = at;
         self.polls = self.polls.saturating_add(1);
     }

@@ -104,7 +104,7 @@ where
         })?;
     }
     Ok(Seen {
-        trace: trace_text(alloc, &report.ranks)?,
+        trace: trace_text(alloc, job, &report.ranks)?,
         ranks,
     })
 }

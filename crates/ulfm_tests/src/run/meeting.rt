@@ -95,7 +95,7 @@ where
 {
     let report = run_over(rt, alloc, job, ends, meetings(alloc)?)?;
     let met = report.ends.iter().filter(|end| end.habit.has_met()).count();
-    Ok((trace_text(alloc, &report.ranks)?, met))
+    Ok((trace_text(alloc, job, &report.ranks)?, met))
 }
 
 /// What the ranks of `TWO_LETTERS` answer.

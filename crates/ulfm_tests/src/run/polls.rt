@@ -53,7 +53,7 @@ where
 {
     let ends = lanes(alloc, job.ranks(), job.capacity())?;
     let report = run_over(rt, alloc, job, ends, one_habit(alloc, pops)?)?;
-    Ok(trace_text(alloc, &report.ranks)?)
+    Ok(trace_text(alloc, job, &report.ranks)?)
 }
 
 /// The trace of `TO_ITSELF`, where the first so many pops find nothing.

@@ -24,4 +24,4 @@ returns c =
     let never = option_map (λ s. items_view s.now) c.args.values in
     let provisos = c.push_provisos.new.provisos.items in
     let read = subst (λ (names : List Name). in_job (provisos_in names c.args.draft.provisos.items never) ≡ Ok provisos) c.as_slice.ensures.value c.in-Ok.ensures in
-    rw (c.new-job.ensures, c.requires.each) (rows_read (head_view c.args.head.now) never (draft_view c.args.draft) provisos (Ok (rows_of c.in-Ok-rows_in.never.items)) read c.in-Ok-rows_in.ensures)
+    rw (c.naming-job.ensures, c.new-plain.ensures, c.requires.each) (rows_read (head_view c.args.head.now) never (draft_view c.args.draft) provisos (Ok (rows_of c.in-Ok-rows_in.never.items)) read c.in-Ok-rows_in.ensures)

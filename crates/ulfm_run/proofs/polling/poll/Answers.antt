@@ -1,6 +1,7 @@
-use Rattle.std.proofs.Common.{arith, ap, sym, ◌∙◌, subst, length, slice_get}
-use Rattle.ulfm_run.proofs.Common.{GoesThrough, is_stopped, IsState, Player, script_at}
+use Rattle.std.proofs.Common.{arith, ap, sym, ◌∙◌, subst}
+use Rattle.ulfm_run.proofs.Common.{GoesThrough, is_stopped, IsState, Player}
 use Rattle.ulfm_answer.specs.Reacting.{is_played}
+use Rattle.ulfm_script.specs.Meant.{next_step}
 use Rattle.ulfm_script.specs.inside.SoFar.{AnswersFollowSoFar, IsUndecided}
 use Rattle.ulfm_run.proofs.Polled.{polls-after}
 use Rattle.ulfm_run.proofs.polling.poll.Goals as goal
@@ -13,7 +14,7 @@ call-requires g c =
       follows = subst (GoesThrough c.args.job.now c.args.me) (sym same) c.requires.follows;
       room = omega (arith, c.requires.room, c.decide.ensures.room);
       running = ap (λ (p : Player). is_stopped p.rank.log) same ∙ c.requires.running;
-      next = ap (λ (p : Player). slice_get (script_at c.args.job.now c.args.me) (length p.done)) same ∙ c.requires.next;
+      next = ap (λ (p : Player). next_step c.args.job.now c.args.me p.done) same ∙ c.requires.next;
       played = ap (λ (p : Player). is_played c.args.job.now.conditions c.args.me p.done) same ∙ c.requires.played;
     }
 

@@ -3,4 +3,4 @@ use Rattle.ulfm_schedule.specs.Values.{wait_text}
 use Rattle.ulfm_schedule.proofs.schedule.push_lines.Given as goal
 
 abbrev pub invariant-loop-wait : goal.invariant-loop-wait
-invariant-loop-wait l = string_bytes l.text ≡ string_bytes l.initial.text ++ flat_map wait_text (take l.wait-index l.waits)
+invariant-loop-wait l = string_bytes l.text ≡ string_bytes l.initial.text ++ flat_map (wait_text l.job) (take l.wait-index l.waits)
