@@ -125,7 +125,8 @@ impl fmt::Display for NotedWords<'_> {
 
     fn fmt<W: fmt::Write>(&self, f: &mut fmt::Formatter<W>) -> fmt::Result {
         let called = self.called;
-        match &self.step.kept {
+        let step = self.step;
+        match &step.kept {
             Kept::Send { to, tag, comm, .. } => {
                 let (to, tag, comm) = (*to, *tag, *comm);
                 write!(
