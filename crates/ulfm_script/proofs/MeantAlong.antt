@@ -42,13 +42,17 @@ get-meant j r done k (suc i) (asked ∷ script) =
 -- the next one is the next step
 pub next-played : (j : JobView) (r : ℕ) (done : List StepReport) → slice_get (played_script j r done) (length done) ≡ next_step j r done
 next-played j r done =
+    let here : 0 + length done ≡ length done = omega arith in
     get-meant j r done 0 (length done) (script_at j r)
+    ∙ ap (λ (n : ℕ). option_map (meant j r (take n done) n) (slice_get (script_at j r) (length done))) here
     ∙ ap (λ (before : List StepReport). option_map (meant j r before (length done)) (slice_get (script_at j r) (length done))) (take-length done)
 
 -- also behind further answers
 pub next-behind : (j : JobView) (r : ℕ) (done more : List StepReport) → slice_get (played_script j r (done ++ more)) (length done) ≡ next_step j r done
 next-behind j r done more =
+    let here : 0 + length done ≡ length done = omega arith in
     get-meant j r (done ++ more) 0 (length done) (script_at j r)
+    ∙ ap (λ (n : ℕ). option_map (meant j r (take n (done ++ more)) n) (slice_get (script_at j r) (length done))) here
     ∙ ap (λ (before : List StepReport). option_map (meant j r before (length done)) (slice_get (script_at j r) (length done))) (take-append_seam done more)
 
 -- there is one only where fewer steps were answered than the script has

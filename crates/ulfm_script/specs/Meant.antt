@@ -1,5 +1,6 @@
 -- The steps of a job as they are played: on communicators that earlier steps made, where they name these.
 use Rattle.std.specs.Prelude.{◌+◌, ℕ, List, [], ◌∷◌, Option, Some, None, length, option_map, slice_get, take, unwrap_or}
+use Rattle.std.proofs.Common.{arith}
 use Rattle.ulfm_base.specs.declared.context.Context.{Context}
 use Rattle.ulfm_job.specs.Job.{JobView, script_at}
 use Rattle.ulfm_job.specs.Naming.{naming_at, played_on}
@@ -8,7 +9,6 @@ use Rattle.ulfm_job.specs.declared.step.Step.{Step}
 use Rattle.ulfm_answer.specs.declared.answer.StepAnswer.{StepAnswer}
 use Rattle.ulfm_answer.specs.declared.answer.StepAnswer.TheVariants.{Made, Shrunk}
 use Rattle.ulfm_answer.specs.declared.answer.StepReport.{StepReport}
-use Rattle.ulfm_script.specs.declared.meant.TheConstants.{NOWHERE}
 
 -- the communicator that an answer tells of, where it made one
 abbrev pub made_of : StepAnswer → Option Context
@@ -27,7 +27,7 @@ made_at done k = made_in (slice_get done k)
 
 -- a communicator that no rank makes: no path has its number
 abbrev pub nowhere : Context
-nowhere = NOWHERE
+nowhere = record { number = 63; in_range = omega arith }
 
 -- the communicator that a step names, behind these answers: that one, or where none was made one that no rank makes
 abbrev pub meant_by : List StepReport → Naming → Context
