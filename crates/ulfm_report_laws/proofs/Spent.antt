@@ -37,7 +37,7 @@ goes-spent {j} {r} {old} {mid} {new} follows h played (inr o) left polls =
     let x = step_report left.step Unfinished mid.at mid.polls in
     let done : new.done ≡ old.done ++ x ∷ [] = ap (λ (p : Player). p.done) left.only ∙ ap (λ (p : Player). p.done ++ x ∷ []) o.only in
     record {
-      follows = follows-on {j} {r} {old} {new} x follows done (ap (λ (p : Player). p.current) left.only);
+      follows = follows-on j r old new x follows done (ap (λ (p : Player). p.current) left.only);
       gives = subst (GivesUpRightly j r) (sym done) (gives-push j r old.done x h.gives (λ given. polls));
       skips = subst (SkipsRightly j.conditions r) (sym done) (spent j.conditions r old.done x h.skips played refl);
       playing = rw (ap (λ (p : Player). p.current) left.only) tt;

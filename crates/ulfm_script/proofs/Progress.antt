@@ -151,11 +151,18 @@ front-of xs rest script other n split many same =
 -- a stop that was played ends both
 through-same : (xs : List StepReport) (one other : List Step) → has_stop xs ≡ true → through_stop xs (map reported_step xs ++ one) ≡ through_stop xs (map reported_step xs ++ other)
 through-same [] one other h = absurd (false≢true h)
-through-same (x ∷ xs) one other h = by (is_played_stop x) refl
+through-same (x ∷ xs) one other h =
+    by (is_played_stop x) h (λ more. ap (λ (ys : List Step). x.step ∷ ys) (through-same xs one other more))
   where
-    by : (b : Bool) → is_played_stop x ≡ b → through_stop (x ∷ xs) (map reported_step (x ∷ xs) ++ one) ≡ through_stop (x ∷ xs) (map reported_step (x ∷ xs) ++ other)
-    by true is = rw is refl
-    by false is = rw is (ap (λ (ys : List Step). x.step ∷ ys) (through-same xs one other (rw is at h)))
+    first : List Step
+    first = x.step ∷ through_stop xs (map reported_step xs ++ one)
+
+    second : List Step
+    second = x.step ∷ through_stop xs (map reported_step xs ++ other)
+
+    by : (b : Bool) → cond b true (has_stop xs) ≡ true → (has_stop xs ≡ true → first ≡ second) → cond b (x.step ∷ []) first ≡ cond b (x.step ∷ []) second
+    by true h rest = refl
+    by false h rest = rest h
 
 -- a player between two steps that goes through a script goes through each of the same length that begins with the same steps
 pub follows-moved : (one other : List Step) (turns : ℕ) (p : Player) → FollowsSoFar one turns p → p.current ≡ None → length other ≡ length one → take (length p.done) other ≡ take (length p.done) one → FollowsSoFar other turns p

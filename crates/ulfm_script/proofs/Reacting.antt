@@ -38,8 +38,8 @@ gives-push j r done x h e k report g given = elim (get_cases done x k report g) 
 ]
 
 -- a player between two steps goes through its script as it is played by one more answer
-pub follows-on : {j : JobView} {r : ℕ} {old new : Player} (x : StepReport) → FollowsSoFar (played_script j r old.done) j.turns new → new.done ≡ old.done ++ x ∷ [] → new.current ≡ None → FollowsSoFar (played_script j r new.done) j.turns new
-follows-on {j} {r} {old} {new} x follows done none =
+pub follows-on : (j : JobView) (r : ℕ) (old new : Player) (x : StepReport) → FollowsSoFar (played_script j r old.done) j.turns new → new.done ≡ old.done ++ x ∷ [] → new.current ≡ None → FollowsSoFar (played_script j r new.done) j.turns new
+follows-on j r old new x follows done none =
     let many : length new.done ≡ length old.done + 1 = ap length done ∙ length-append old.done (x ∷ []) in
     let same : take (length new.done) (played_script j r new.done) ≡ take (length new.done) (played_script j r old.done) =
     ap₂ (λ (n : ℕ) (ds : List StepReport). take n (played_script j r ds)) many done ∙ prefix-played j r old.done (x ∷ []) ∙ ap (λ (n : ℕ). take n (played_script j r old.done)) (sym many) in
@@ -48,7 +48,7 @@ follows-on {j} {r} {old} {new} x follows done none =
 -- a player still goes through its script with one more answer, and no step open
 goes-closed : {j : JobView} {r : ℕ} {old new : Player} (x : StepReport) → FollowsSoFar (played_script j r old.done) j.turns new → GoesThrough j r old → new.done ≡ old.done ++ x ∷ [] → new.current ≡ None → is_unfinished x.answer ≡ false → is_skipped x.answer ≡ not (is_played j.conditions r old.done) → GoesThrough j r new
 goes-closed {j} {r} {old} {new} x follows h done none kept e = record {
-  follows = follows-on {j} {r} {old} {new} x follows done none;
+  follows = follows-on j r old new x follows done none;
   gives = subst (GivesUpRightly j r) (sym done) (gives-push j r old.done x h.gives (λ given. absurd (false≢true (sym kept ∙ given))));
   skips = subst (SkipsRightly j.conditions r) (sym done) (skips-push j.conditions r old.done x h.skips e);
   playing = rw none tt;
