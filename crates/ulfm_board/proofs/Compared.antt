@@ -5,10 +5,11 @@ use Rattle.std.proofs.lemmas.Option.{same_Some, slice_get-map, slice_get_within}
 use Rattle.once_cell.specs.declared.race.note.Note.{Note}
 use Rattle.ulfm_base.specs.Lists.{at}
 use Rattle.ulfm_base.specs.declared.decision.Decision.{Decision}
+use Rattle.ulfm_board.specs.declared.proposed.Proposed.{Proposed}
 use Rattle.ulfm_base.proofs.Places.{there}
 use Rattle.ulfm_board.specs.Known.{BothAgree}
 use Rattle.ulfm_board.specs.declared.row.Row.{Row}
-use Rattle.ulfm_board.specs.inside.Trail.{IsTrail, Slots, TrailsAgree, chunk_of, names_of, place_of, trail_view}
+use Rattle.ulfm_board.specs.inside.Trail.{IsTrail, Slots, TrailsAgree, chunk_of, names_of, place_of, trail_view, decision_known}
 use Rattle.ulfm_board.proofs.Fronts.{same_view, view_at}
 use Rattle.ulfm_board.proofs.Rows.{chunk_there, known_view}
 
@@ -25,15 +26,21 @@ both_same : {X : Type 0} (o p : Option X) (v w : X) → IfSome o (λ v. IfSome p
 both_same {X} o p v w agree one other =
     subst (λ (t : Option X). IfSome t (λ y. y ≡ v)) other (subst (λ (t : Option X). IfSome t (λ x. IfSome p (λ y. y ≡ x))) one agree)
 
+-- two that know no two proposals know no two decisions
+both_decided : (o p : Option Proposed) → IfSome o (λ v. IfSome p (λ w. w ≡ v)) → BothAgree (option_map (λ (x : Proposed). x.decision) o) (option_map (λ (x : Proposed). x.decision) p)
+both_decided None p agree = tt
+both_decided (Some v) None agree = tt
+both_decided (Some v) (Some w) agree = ap (λ (x : Proposed). x.decision) agree
+
 -- the name of the cell at a place
-cell_there : (cs : List (Note Decision)) (i j : ℕ) (z : Note Decision) → i ≡ j → at cs j z → slice_get (map (λ (c : Note Decision). c.cell) cs) i ≡ Some z.cell
+cell_there : (cs : List (Note Proposed)) (i j : ℕ) (z : Note Proposed) → i ≡ j → at cs j z → slice_get (map (λ (c : Note Proposed). c.cell) cs) i ≡ Some z.cell
 cell_there cs i j z same is =
-    ap (slice_get (map (λ (c : Note Decision). c.cell) cs)) same ∙ slice_get-map (λ (c : Note Decision). c.cell) cs j ∙ ap (option_map (λ (c : Note Decision). c.cell)) is
+    ap (slice_get (map (λ (c : Note Proposed). c.cell) cs)) same ∙ slice_get-map (λ (c : Note Proposed). c.cell) cs j ∙ ap (option_map (λ (c : Note Proposed). c.cell)) is
 
 pub one_register : (xs ys : List (Note Slots)) → map (λ (n : Note Slots). n.cell) ys ≡ map (λ (n : Note Slots). n.cell) xs → OneCell xs ys
 one_register xs ys same k x y here other = same_view (λ (n : Note Slots). n.cell) xs ys k x y same here other
 
-module _ {chunks chunks' : List (Note Slots)} {rows rows' : List (Note Row)} {numbers numbers' : List ℕ} {cells cells' : List (Note Decision)} (a : IsTrail chunks rows numbers cells) (b : IsTrail chunks' rows' numbers' cells') (agree_chunks : AgreeAt chunks chunks') where
+module _ {chunks chunks' : List (Note Slots)} {rows rows' : List (Note Row)} {numbers numbers' : List ℕ} {cells cells' : List (Note Proposed)} (a : IsTrail chunks rows numbers cells) (b : IsTrail chunks' rows' numbers' cells') (agree_chunks : AgreeAt chunks chunks') where
   pub one_slot : OneCell rows rows'
   one_slot n x y here other =
       let mine = chunk_there chunks n x.cell (a.named n x here) in
@@ -76,7 +83,7 @@ module _ {chunks chunks' : List (Note Slots)} {rows rows' : List (Note Row)} {nu
       cells = λ n p low low' small.
           let mine = there cells (64 * n + p) (omega (arith, low, small, a.each)) in
           let theirs = there cells' (64 * n + p) (omega (arith, low', small, b.each)) in
-          let seen = view_at (λ (c : Note Decision). c.known) cells (64 * n + p) mine.0 None mine.1 in
-          let seen' = view_at (λ (c : Note Decision). c.known) cells' (64 * n + p) theirs.0 None theirs.1 in
-          subst (λ (t : Option Decision × Option Decision). BothAgree t.0 t.1) (λ i. (sym seen i, sym seen' i)) (agree_cells (64 * n + p) mine.0 theirs.0 mine.1 theirs.1);
+          let seen = view_at decision_known cells (64 * n + p) mine.0 None mine.1 in
+          let seen' = view_at decision_known cells' (64 * n + p) theirs.0 None theirs.1 in
+          subst (λ (t : Option Decision × Option Decision). BothAgree t.0 t.1) (λ i. (sym seen i, sym seen' i)) (both_decided mine.0.known theirs.0.known (agree_cells (64 * n + p) mine.0 theirs.0 mine.1 theirs.1));
     }

@@ -5,8 +5,9 @@ use Rattle.std.proofs.lemmas.Bool.{eq-eqb, ne_eqb}
 use Rattle.std.proofs.lemmas.List.{length-append, replicate-append-replicate}
 use Rattle.once_cell.specs.declared.race.note.Note.{Note}
 use Rattle.ulfm_base.specs.declared.decision.Decision.{Decision}
+use Rattle.ulfm_board.specs.declared.proposed.Proposed.{Proposed}
 use Rattle.ulfm_board.specs.declared.row.Row.{Row}
-use Rattle.ulfm_board.specs.inside.Trail.{GoesOn, Slots, TrailView, slot_of, slots_known, trail_view, with_chunks}
+use Rattle.ulfm_board.specs.inside.Trail.{GoesOn, Slots, TrailView, slot_of, slots_known, trail_view, with_chunks, decision_known}
 use Rattle.ulfm_board.proofs.Slots.{slot_next}
 use Rattle.ulfm_board.proofs.Walked.{chunk_names}
 
@@ -50,7 +51,7 @@ looked_past a b found number goes none other =
     looked_at a b found number goes none ∙ ap (λ (t : Bool). cond t (Some (length a.numbers)) None) (ne_eqb found number other)
 
 -- a note of a chunk is written over: what is seen of the trail
-pub chunk_only : (chunks : List (Note Slots)) (k : ℕ) (n m : Note Slots) (rows : List (Note Row)) (numbers : List ℕ) (cells : List (Note Decision)) → n ≡ get_or chunks k n → m.cell ≡ n.cell
+pub chunk_only : (chunks : List (Note Slots)) (k : ℕ) (n m : Note Slots) (rows : List (Note Row)) (numbers : List ℕ) (cells : List (Note Proposed)) → n ≡ get_or chunks k n → m.cell ≡ n.cell
     → trail_view (set chunks k m) rows numbers cells ≡ with_chunks (trail_view chunks rows numbers cells) (map slots_known (set chunks k m))
 chunk_only chunks k n m rows numbers cells here same =
     let names = chunk_names chunks k n m here same in
@@ -59,6 +60,6 @@ chunk_only chunks k n m rows numbers cells here same =
       chunks = map slots_known (set chunks k m);
       slots = map (λ (note : Note Row). note.cell) rows;
       numbers = numbers;
-      cells = map (λ (cell : Note Decision). cell.cell) cells;
-      decided = map (λ (cell : Note Decision). cell.known) cells;
+      cells = map (λ (cell : Note Proposed). cell.cell) cells;
+      decided = map decision_known cells;
     }

@@ -20,10 +20,10 @@ abbrev Among : ℕ → List ℕ → Type 0
 Among number ns = (k : ℕ) × (slice_get ns k ≡ Some number)
 
 -- one decision in front is the one that is looked for, or it is passed by
-here_first : (q n : ℕ) (e : Decision) (rest : Known) → q ≡ n → find nat_cmp q ((n, e) ∷ rest) ≡ Some e
+pub here_first : (q n : ℕ) (e : Decision) (rest : Known) → q ≡ n → find nat_cmp q ((n, e) ∷ rest) ≡ Some e
 here_first q n e rest same = ap (λ (b : Bool). cond b (Some e) (find nat_cmp q rest)) (unsigned_tied q n ∙ eq-eqb q n same)
 
-passed_by : (q n : ℕ) (e : Decision) (rest : Known) → (q ≡ n → ⊥) → find nat_cmp q ((n, e) ∷ rest) ≡ find nat_cmp q rest
+pub passed_by : (q n : ℕ) (e : Decision) (rest : Known) → (q ≡ n → ⊥) → find nat_cmp q ((n, e) ∷ rest) ≡ find nat_cmp q rest
 passed_by q n e rest other = ap (λ (b : Bool). cond b (Some e) (find nat_cmp q rest)) (unsigned_tied q n ∙ ne_eqb q n other)
 
 listed_none : (f : ℕ → Option Decision) (q : ℕ) (ns : List ℕ) → f q ≡ None → find nat_cmp q (listed_by f ns) ≡ None

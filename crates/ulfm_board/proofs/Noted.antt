@@ -5,7 +5,8 @@ use Rattle.std.proofs.lemmas.List.{get_or-map, length-map, map-append, replicate
 use Rattle.once_cell.specs.declared.race.note.Note.{Note}
 use Rattle.once_cell.specs.Once.{cell_name}
 use Rattle.ulfm_base.specs.declared.decision.Decision.{Decision}
-use Rattle.ulfm_board.specs.inside.Trail.{Slots, names_of, slots_known}
+use Rattle.ulfm_board.specs.declared.proposed.Proposed.{Proposed}
+use Rattle.ulfm_board.specs.inside.Trail.{Slots, names_of, slots_known, decision_known}
 
 -- the names of one more cell
 name_next : (cells : List (Global × ℕ)) (k : ℕ) (x : Global × ℕ) → k < length cells → x ≡ get_or cells k x → take (k + 1) (names_of cells) ≡ take k (names_of cells) ++ cell_name x ∷ []
@@ -24,12 +25,12 @@ chunk_noted notes cells k note x low here cell unknown names known = (
 )
 
 -- one more note of a cell, of which nothing is known
-pub cell_noted : (start : List ℕ) (blanks : List (Option Decision)) (notes : List (Note Decision)) (cells : List (Global × ℕ)) (k : ℕ) (note : Note Decision) (x : Global × ℕ) → k < length cells → x ≡ get_or cells k x → note.cell ≡ cell_name x → note.known ≡ None
-    → map (λ (n : Note Decision). n.cell) notes ≡ start ++ take k (names_of cells) → map (λ (n : Note Decision). n.known) notes ≡ blanks ++ replicate k None
-    → (map (λ (n : Note Decision). n.cell) (notes ++ note ∷ []) ≡ start ++ take (k + 1) (names_of cells)) × (map (λ (n : Note Decision). n.known) (notes ++ note ∷ []) ≡ blanks ++ replicate (k + 1) None)
+pub cell_noted : (start : List ℕ) (blanks : List (Option Decision)) (notes : List (Note Proposed)) (cells : List (Global × ℕ)) (k : ℕ) (note : Note Proposed) (x : Global × ℕ) → k < length cells → x ≡ get_or cells k x → note.cell ≡ cell_name x → note.known ≡ None
+    → map (λ (n : Note Proposed). n.cell) notes ≡ start ++ take k (names_of cells) → map decision_known notes ≡ blanks ++ replicate k None
+    → (map (λ (n : Note Proposed). n.cell) (notes ++ note ∷ []) ≡ start ++ take (k + 1) (names_of cells)) × (map decision_known (notes ++ note ∷ []) ≡ blanks ++ replicate (k + 1) None)
 cell_noted start blanks notes cells k note x low here cell unknown names known = (
-  map-append (λ (n : Note Decision). n.cell) notes (note ∷ []) ∙ ap (λ (l : List ℕ). l ++ note.cell ∷ []) names ∙ append_assoc start (take k (names_of cells)) (note.cell ∷ [])
+  map-append (λ (n : Note Proposed). n.cell) notes (note ∷ []) ∙ ap (λ (l : List ℕ). l ++ note.cell ∷ []) names ∙ append_assoc start (take k (names_of cells)) (note.cell ∷ [])
       ∙ ap (λ (n : ℕ). start ++ (take k (names_of cells) ++ n ∷ [])) cell ∙ ap (λ (l : List ℕ). start ++ l) (sym (name_next cells k x low here)),
-  map-append (λ (n : Note Decision). n.known) notes (note ∷ []) ∙ ap (λ (l : List (Option Decision)). l ++ note.known ∷ []) known ∙ append_assoc blanks (replicate k None) (note.known ∷ [])
-      ∙ ap (λ (o : Option Decision). blanks ++ (replicate k None ++ o ∷ [])) unknown ∙ ap (λ (l : List (Option Decision)). blanks ++ l) (replicate-append-replicate k 1 None),
+  map-append decision_known notes (note ∷ []) ∙ ap (λ (l : List (Option Decision)). l ++ decision_known note ∷ []) known ∙ append_assoc blanks (replicate k None) (decision_known note ∷ [])
+      ∙ ap (λ (o : Option Proposed). blanks ++ (replicate k None ++ option_map (λ (p : Proposed). p.decision) o ∷ [])) unknown ∙ ap (λ (l : List (Option Decision)). blanks ++ l) (replicate-append-replicate k 1 None),
 )

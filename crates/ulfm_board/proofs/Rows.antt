@@ -7,10 +7,10 @@ use Rattle.std.proofs.lemmas.Option.{none-some, same_Some, slice_get-get_or, sli
 use Rattle.once_cell.specs.declared.race.note.Note.{Note}
 use Rattle.once_cell.specs.Once.{cell_name}
 use Rattle.ulfm_base.specs.Lists.{at}
-use Rattle.ulfm_base.specs.declared.decision.Decision.{Decision}
+use Rattle.ulfm_board.specs.declared.proposed.Proposed.{Proposed}
 use Rattle.ulfm_base.proofs.Places.{there}
 use Rattle.ulfm_board.specs.declared.row.Row.{Row}
-use Rattle.ulfm_board.specs.inside.Trail.{IsTrail, Slots, chunk_of, names_of, place_of, slot_name, slots_known, trail_view}
+use Rattle.ulfm_board.specs.inside.Trail.{IsTrail, Slots, chunk_of, names_of, place_of, slot_name, slots_known, trail_view, decision_known}
 use Rattle.ulfm_board.proofs.Walked.{chunk_names, chunk_same, more_chunks, read_slot, same_row}
 
 -- the value that is seen is the one that was known
@@ -40,7 +40,7 @@ chunk_there cs n name is = by (slice_get cs (chunk_of n)) refl
     by None here = absurd (none-some name (sym (ap (read_slot n) (slice_get-map slots_known cs (chunk_of n) ∙ ap (option_map slots_known) here)) ∙ is))
     by (Some note) here = in_it note note.known here refl
 
-module _ {chunks : List (Note Slots)} {rows : List (Note Row)} {numbers : List ℕ} {cells : List (Note Decision)} (trail : IsTrail chunks rows numbers cells) (s : ℕ) (low : s < length numbers) where
+module _ {chunks : List (Note Slots)} {rows : List (Note Row)} {numbers : List ℕ} {cells : List (Note Proposed)} (trail : IsTrail chunks rows numbers cells) (s : ℕ) (low : s < length numbers) where
   pub note_there : (r : Note Row) × at rows s r
   note_there = there rows s (omega (arith, low, trail.many))
 
@@ -104,13 +104,13 @@ module _ {chunks : List (Note Slots)} {rows : List (Note Row)} {numbers : List �
       pub row_still : Some w ≡ m.known
       row_still = ap Some (sym (learned m.known row_there.0 w row_there.1 agrees)) ∙ sym row_there.1
 
-      pub row_cells : (p : ℕ) → p < 64 → slice_get (names_of w.cells.items) p ≡ slice_get (map (λ (cell : Note Decision). cell.cell) cells) (64 * s + p)
+      pub row_cells : (p : ℕ) → p < 64 → slice_get (names_of w.cells.items) p ≡ slice_get (map (λ (cell : Note Proposed). cell.cell) cells) (64 * s + p)
       row_cells p small =
           ap (λ (y : Row). slice_get (names_of y.cells.items) p) (sym (learned m.known row_there.0 w row_there.1 agrees))
           ∙ ap (λ (l : List ℕ). slice_get l p) row_there.2 ∙ (trail.tied s m row_note).2 p small
 
 -- a trail whose notes of a chunk and of a row are written over with ones that know the same
-module _ {chunks : List (Note Slots)} {rows : List (Note Row)} {numbers : List ℕ} {cells : List (Note Decision)} (trail : IsTrail chunks rows numbers cells) (k s : ℕ) (n n' : Note Slots) (m m' : Note Row) (low : s < length numbers) (here : n ≡ get_or chunks k n) (mine : m ≡ get_or rows s m) (chunk_cell : n'.cell ≡ n.cell) (chunk_known : n'.known ≡ n.known) (row_cell : m'.cell ≡ m.cell) (row_known : m'.known ≡ m.known) where
+module _ {chunks : List (Note Slots)} {rows : List (Note Row)} {numbers : List ℕ} {cells : List (Note Proposed)} (trail : IsTrail chunks rows numbers cells) (k s : ℕ) (n n' : Note Slots) (m m' : Note Row) (low : s < length numbers) (here : n ≡ get_or chunks k n) (mine : m ≡ get_or rows s m) (chunk_cell : n'.cell ≡ n.cell) (chunk_known : n'.known ≡ n.known) (row_cell : m'.cell ≡ m.cell) (row_known : m'.known ≡ m.known) where
   pub still_trail : IsTrail (set chunks k n') (set rows s m') numbers cells
   still_trail =
       let in_rows : s < length rows = omega (arith, low, trail.many) in
@@ -127,6 +127,6 @@ module _ {chunks : List (Note Slots)} {rows : List (Note Row)} {numbers : List �
         chunks = known i;
         slots = slots i;
         numbers = numbers;
-        cells = map (λ (cell : Note Decision). cell.cell) cells;
-        decided = map (λ (cell : Note Decision). cell.known) cells;
+        cells = map (λ (cell : Note Proposed). cell.cell) cells;
+        decided = map decision_known cells;
       }

@@ -8,7 +8,7 @@ use Rattle.std.proofs.lemmas.Option.{none-some, same_Some, slice_get-get_or, sli
 use Rattle.once_cell.specs.declared.race.note.Note.{Note}
 use Rattle.once_cell.specs.Once.{cell_name}
 use Rattle.ulfm_base.specs.Lists.{at}
-use Rattle.ulfm_base.specs.declared.decision.Decision.{Decision}
+use Rattle.ulfm_board.specs.declared.proposed.Proposed.{Proposed}
 use Rattle.ulfm_base.proofs.Longer.{get_cases}
 use Rattle.ulfm_board.specs.declared.row.Row.{Row}
 use Rattle.ulfm_board.specs.inside.Trail.{IsTrail, Slots, cells_known, chunk_of, names_of, number_known, place_of, slot_name, slots_known}
@@ -32,7 +32,7 @@ slot_kept old new slot name keeps is = by (slice_get old (chunk_of slot)) refl
     by (Some (Some names)) here = ap (read_slot slot) (keeps (chunk_of slot) names here) ∙ sym (ap (read_slot slot) here) ∙ is
 
 -- a trail stays one where more of the register is known
-pub more_chunks : {old new : List (Note Slots)} {rows : List (Note Row)} {numbers : List ℕ} {cells : List (Note Decision)} → KeepsChunks (map slots_known old) (map slots_known new) → IsTrail old rows numbers cells → IsTrail new rows numbers cells
+pub more_chunks : {old new : List (Note Slots)} {rows : List (Note Row)} {numbers : List ℕ} {cells : List (Note Proposed)} → KeepsChunks (map slots_known old) (map slots_known new) → IsTrail old rows numbers cells → IsTrail new rows numbers cells
 more_chunks {old} {new} keeps trail = record {
   many = trail.many;
   each = trail.each;
@@ -76,9 +76,9 @@ pub chunk_names : (chunks : List (Note Slots)) (k : ℕ) (n m : Note Slots) → 
 chunk_names chunks k n m here same = map-set_same (λ (x : Note Slots). x.cell) chunks k m n (same ∙ ap (λ (x : Note Slots). x.cell) here)
 
 -- the trail goes on by one row
-pub one_row : {chunks : List (Note Slots)} {rows : List (Note Row)} {numbers : List ℕ} {cells : List (Note Decision)} (longer : List (Note Decision)) (row : Row) (note : Note Row) → IsTrail chunks rows numbers cells
+pub one_row : {chunks : List (Note Slots)} {rows : List (Note Row)} {numbers : List ℕ} {cells : List (Note Proposed)} (longer : List (Note Proposed)) (row : Row) (note : Note Row) → IsTrail chunks rows numbers cells
     → slot_name (map slots_known chunks) (length numbers) ≡ Some note.cell → note.known ≡ Some row → length row.cells.items ≡ 64
-    → map (λ (cell : Note Decision). cell.cell) longer ≡ map (λ (cell : Note Decision). cell.cell) cells ++ names_of row.cells.items
+    → map (λ (cell : Note Proposed). cell.cell) longer ≡ map (λ (cell : Note Proposed). cell.cell) cells ++ names_of row.cells.items
     → IsTrail chunks (rows ++ note ∷ []) (numbers ++ row.number ∷ []) longer
 one_row {chunks} {rows} {numbers} {cells} longer row note trail next known whole names = record {
   many = length-append rows (note ∷ []) ∙ (let more : length rows + 1 ≡ length (numbers ++ row.number ∷ []) = omega (arith, trail.many, length-append numbers (row.number ∷ [])) in more);
@@ -98,42 +98,42 @@ one_row {chunks} {rows} {numbers} {cells} longer row note trail next known whole
         let so = trail.tied n x old in (
           so.0,
           so.1,
-          λ p low. so.2 p low ∙ sym (ap (λ (l : List ℕ). slice_get l (64 * n + p)) names ∙ get_left (map (λ (cell : Note Decision). cell.cell) cells) (names_of row.cells.items) (64 * n + p) (omega (arith, low, slice_get_within rows n x old, trail.many, trail.each, length-map cells (λ (cell : Note Decision). cell.cell)))),
+          λ p low. so.2 p low ∙ sym (ap (λ (l : List ℕ). slice_get l (64 * n + p)) names ∙ get_left (map (λ (cell : Note Proposed). cell.cell) cells) (names_of row.cells.items) (64 * n + p) (omega (arith, low, slice_get_within rows n x old, trail.many, trail.each, length-map cells (λ (cell : Note Proposed). cell.cell)))),
         )
     | inr new ↦ (
       names_of row.cells.items,
       ap cells_known (sym new.1) ∙ ap (option_map (λ (r : Row). names_of r.cells.items)) known,
-      λ p low. sym (ap (λ (l : List ℕ). slice_get l (64 * n + p)) names ∙ get_behind (map (λ (cell : Note Decision). cell.cell) cells) (names_of row.cells.items) p (64 * n + p) (omega (arith, new.0, trail.many, trail.each, length-map cells (λ (cell : Note Decision). cell.cell)))),
+      λ p low. sym (ap (λ (l : List ℕ). slice_get l (64 * n + p)) names ∙ get_behind (map (λ (cell : Note Proposed). cell.cell) cells) (names_of row.cells.items) p (64 * n + p) (omega (arith, new.0, trail.many, trail.each, length-map cells (λ (cell : Note Proposed). cell.cell)))),
     )
   ];
 }
   where
     all : length longer ≡ length cells + 64
     all =
-        sym (length-map longer (λ (cell : Note Decision). cell.cell)) ∙ ap length names ∙ length-append (map (λ (cell : Note Decision). cell.cell) cells) (names_of row.cells.items)
-        ∙ (let many : length (map (λ (cell : Note Decision). cell.cell) cells) + length (names_of row.cells.items) ≡ length cells + 64 = omega (arith, length-map cells (λ (cell : Note Decision). cell.cell), length-map row.cells.items cell_name, whole) in many)
+        sym (length-map longer (λ (cell : Note Proposed). cell.cell)) ∙ ap length names ∙ length-append (map (λ (cell : Note Proposed). cell.cell) cells) (names_of row.cells.items)
+        ∙ (let many : length (map (λ (cell : Note Proposed). cell.cell) cells) + length (names_of row.cells.items) ≡ length cells + 64 = omega (arith, length-map cells (λ (cell : Note Proposed). cell.cell), length-map row.cells.items cell_name, whole) in many)
 
 -- the trail goes on by one row, as far as lists are equal to those that are longer by it
-pub one_row_more : {chunks : List (Note Slots)} {rows : List (Note Row)} {numbers : List ℕ} {cells : List (Note Decision)} (rows' : List (Note Row)) (numbers' : List ℕ) (longer : List (Note Decision)) (row : Row) (note : Note Row) → IsTrail chunks rows numbers cells
+pub one_row_more : {chunks : List (Note Slots)} {rows : List (Note Row)} {numbers : List ℕ} {cells : List (Note Proposed)} (rows' : List (Note Row)) (numbers' : List ℕ) (longer : List (Note Proposed)) (row : Row) (note : Note Row) → IsTrail chunks rows numbers cells
     → slot_name (map slots_known chunks) (length numbers) ≡ Some note.cell → note.known ≡ Some row
-    → map (λ (cell : Note Decision). cell.cell) longer ≡ map (λ (cell : Note Decision). cell.cell) cells ++ names_of row.cells.items
+    → map (λ (cell : Note Proposed). cell.cell) longer ≡ map (λ (cell : Note Proposed). cell.cell) cells ++ names_of row.cells.items
     → rows' ≡ rows ++ note ∷ [] → numbers' ≡ numbers ++ row.number ∷ [] → IsTrail chunks rows' numbers' longer
 one_row_more {chunks} rows' numbers' longer row note trail next known names more_rows more_numbers =
     let whole : length row.cells.items ≡ 64 = omega (arith, row.whole, row.cells.ok) in
     subst (λ (t : List (Note Row) × List ℕ). IsTrail chunks t.0 t.1 longer) (λ i. (sym more_rows i, sym more_numbers i)) (one_row longer row note trail next known whole names)
 
 -- a note of a cell is written over with one of the same cell
-pub same_cells : {chunks : List (Note Slots)} {rows : List (Note Row)} {numbers : List ℕ} (old new : List (Note Decision)) → map (λ (cell : Note Decision). cell.cell) new ≡ map (λ (cell : Note Decision). cell.cell) old → IsTrail chunks rows numbers old → IsTrail chunks rows numbers new
+pub same_cells : {chunks : List (Note Slots)} {rows : List (Note Row)} {numbers : List ℕ} (old new : List (Note Proposed)) → map (λ (cell : Note Proposed). cell.cell) new ≡ map (λ (cell : Note Proposed). cell.cell) old → IsTrail chunks rows numbers old → IsTrail chunks rows numbers new
 same_cells old new same trail = record {
   many = trail.many;
-  each = sym (length-map new (λ (cell : Note Decision). cell.cell)) ∙ ap length same ∙ length-map old (λ (cell : Note Decision). cell.cell) ∙ trail.each;
+  each = sym (length-map new (λ (cell : Note Proposed). cell.cell)) ∙ ap length same ∙ length-map old (λ (cell : Note Proposed). cell.cell) ∙ trail.each;
   named = trail.named;
   numbered = trail.numbered;
   tied = λ n row there. let so = trail.tied n row there in (so.0, so.1, λ p low. so.2 p low ∙ ap (λ (l : List ℕ). slice_get l (64 * n + p)) (sym same));
 }
 
 -- a note of a row is written over with one that knows the same
-pub same_row : {chunks : List (Note Slots)} {rows : List (Note Row)} {numbers : List ℕ} {cells : List (Note Decision)} (s : ℕ) (r m : Note Row) → at rows s r → m.cell ≡ r.cell → m.known ≡ r.known → IsTrail chunks rows numbers cells
+pub same_row : {chunks : List (Note Slots)} {rows : List (Note Row)} {numbers : List ℕ} {cells : List (Note Proposed)} (s : ℕ) (r m : Note Row) → at rows s r → m.cell ≡ r.cell → m.known ≡ r.known → IsTrail chunks rows numbers cells
     → IsTrail chunks (set rows s m) numbers cells
 same_row {chunks} {rows} {numbers} {cells} s r m here cell known trail = record {
   many = length-set rows s m ∙ trail.many;

@@ -1,7 +1,9 @@
 //! Who answers for the decisions of shrinks and agreements.
 ghost use Rattle.std.specs.Prelude.{◌≡◌, ℕ, List, Option, IfOk, OnErr, IsSome};
+ghost use Rattle.ulfm_base.specs.declared.decision.Decision.{Decision as Decided};
 ghost use Rattle.ulfm_base.specs.declared.topic.Topic.{Topic};
 ghost use Rattle.ulfm_board.specs.Known.{Answers, BothAgree, Known, Starves, known_at};
+ghost use Rattle.ulfm_board.specs.Proposals.{WasProposed};
 
 use ulfm_base::{Decision, OutOfMemory};
 
@@ -13,6 +15,9 @@ pub trait Decider: Drop {
     /// By the numbers of topics, the decisions that it knows.
     ghost known: { Self → Known };
 
+    /// What it says of each decision that it answers.
+    ghost says: { Decided → Type 0 };
+
     /// Hands a decision in, and answers the one that it knows on this topic from now on: the one that it knew, else, if it
     /// shares no cell, this one. That a decider which shares its cells answers the first decision that was handed in at them
     /// is held by tests alone.
@@ -21,7 +26,9 @@ pub trait Decider: Drop {
     ///
     /// `OutOfMemory` where it knew no decision on this topic, and a growth was refused or the board has as many rows as may be.
     fn decide(&mut self, decision: Decision) -> Result<Decision, OutOfMemory>
+        requires { WasProposed decision }
         ensures board { board self.new ≡ board self.old }
+        ensures says { IfOk result (λ held. says held) }
         ensures answers { IfOk result (λ held. Answers (board self.old) (known self.old) decision held (known self.new)) }
         ensures starves { OnErr result (Starves (known self.old) decision.topic) }
         ensures unchanged { OnErr result (known self.new ≡ known self.old) };

@@ -13,6 +13,8 @@
 //!
 //! - [`Decider`], `decide` (`answers`, `unchanged`, `starves`): a decider answers always what it answered first (`Answers`, Known.antt). If it knew
 //!   none and is out of memory, it answers that, and nothing changes.
+//! - [`Decider`], `decide` of a [`Seat`] (`says`): what it answers is a decision that some rank proposes, by what the log of that rank has. Each cell
+//!   keeps that of what is in it (`WasProposed`, Proposals.antt; `IsProposal`, Proposal.antt of `ulfm_log`).
 //! - [`Decider`], `same` (`agree`): two seats of one board know no two decisions on one shrink or agreement (`BothAgree`, Known.antt).
 //! - [`seats`] (`one_board`, `nothing_known`): seats that are made together are of one board, and know no decision yet.
 //!
@@ -20,16 +22,18 @@
 //!
 //! - `decider.rt`: the contract of both; `seat.rt`: the board that threads share; `memory.rt`: that of one owner; `number.rt`: which row and which
 //!   cell a topic has
-//! - of the board that threads share: `register.rt`: its slots; `row.rt`: a row; `trail.rt`: what a seat knows of them; `comparing.rt`: what two know
+//! - of the board that threads share: `register.rt`: its slots; `row.rt`: a row; `proposed.rt`: what a cell keeps; `trail.rt`: what a seat knows of
+//!   them; `comparing.rt`: what two know
 //!
-//! Not here: that a decision was proposed, or is true. It is tested, not proved, that the seats of one board answer the first decision that was
-//! handed in.
+//! Not here: that the log by which a decision was proposed is that of a rank of this world. It is tested, not proved, that the seats of one board
+//! answer the first decision that was handed in.
 #![tactic(auto)]
 
 mod comparing;
 mod decider;
 mod memory;
 mod number;
+mod proposed;
 mod register;
 mod row;
 mod seat;

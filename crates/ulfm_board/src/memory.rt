@@ -81,11 +81,13 @@ impl MemoryBoard {
 }
 
 impl Decider for MemoryBoard {
-    ghost use Rattle.std.specs.Prelude.{None};
+    ghost use Rattle.std.specs.Prelude.{None, ⊤};
 
     ghost board = { λ b. None };
 
     ghost known = { λ b. b };
+
+    ghost says = { λ _. ⊤ };
 
     fn decide(&mut self, decision: Decision) -> Result<Decision, OutOfMemory> {
         let number = number_of(decision.topic);

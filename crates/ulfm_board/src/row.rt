@@ -1,15 +1,16 @@
 //! A row of the board.
 ghost use Rattle.std.specs.Prelude.{◌≡◌, vec_len, IfOk};
 
+use crate::proposed::Proposed;
 use once_cell::race::OnceBox;
 use std::alloc::Global;
-use ulfm_base::{Decision, OutOfMemory};
+use ulfm_base::OutOfMemory;
 
 /// How many cells a row has.
 pub(crate) const CELLS: usize = 64;
 
 /// The place of one decision, set at most once.
-pub(crate) type Cell = OnceBox<Decision>;
+pub(crate) type Cell = OnceBox<Proposed>;
 
 /// The cells of 64 shrinks, or of 64 agreements, of one communicator.
 #[derive(Drop)]

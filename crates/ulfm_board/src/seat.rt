@@ -63,11 +63,14 @@ fn new_seat(alloc: Global, register: Arc<Vec<Chunk>>) -> Result<Seat, OutOfMemor
 impl Decider for Seat {
     ghost use Rattle.std.specs.Prelude.{Some};
     ghost use Rattle.std.specs.Arc.{arc_value};
+    ghost use Rattle.ulfm_board.specs.Proposals.{WasProposed};
     ghost use Rattle.ulfm_board.specs.inside.Trail.{known_of, names_of};
 
     ghost board = { λ s. Some (names_of (arc_value s.register).items) };
 
     ghost known = { λ s. known_of s.trail };
+
+    ghost says = { WasProposed };
 
     fn decide(&mut self, decision: Decision) -> Result<Decision, OutOfMemory> {
         let alloc = self.alloc;

@@ -2,12 +2,14 @@
 ghost use Rattle.std.specs.Prelude.{◌≡◌, ◌<◌, ◌≤◌, ◌+◌, ◌*◌, ◌∷◌, ◌++◌, [], ℕ, List, None, Some, length, map, replicate, IfOk, OnErr, slice_get, slice_index_or, vec_len, vec_capacity};
 ghost use Rattle.once_cell.specs.declared.race.note.Note.{Note as Noted};
 ghost use Rattle.ulfm_base.specs.Lists.{at};
-ghost use Rattle.ulfm_base.specs.declared.decision.Decision.{Decision as Decided};
 ghost use Rattle.once_cell.specs.Once.{cell_name};
 ghost use Rattle.ulfm_board.specs.Known.{Agrees};
-ghost use Rattle.ulfm_board.specs.inside.Trail.{names_of, new_trail, slot_name, slot_of, with_chunks, GoesOn, KnowsCell, TrailsAgree};
+ghost use Rattle.ulfm_board.specs.Proposals.{WasProposed};
+ghost use Rattle.ulfm_board.specs.declared.proposed.Proposed.{Proposed as Kept};
+ghost use Rattle.ulfm_board.specs.inside.Trail.{decision_known, names_of, new_trail, slot_name, slot_of, with_chunks, GoesOn, KnowsCell, TrailsAgree};
 
 use crate::comparing::agree_all;
+use crate::proposed::Proposed;
 use crate::register::{Chunk, Slot, chunk_of, new_chunk, place_of};
 use crate::row::{CELLS, Cell, Row};
 use once_cell::race::Note;
@@ -24,7 +26,7 @@ pub(crate) struct Trail {
     chunks: Vec<Note<Vec<Slot>>>,
     rows: Vec<Note<Row>>,
     numbers: Vec<u128>,
-    cells: Vec<Note<Decision>>,
+    cells: Vec<Note<Proposed>>,
 }
 
 impl Model for Trail {
@@ -198,7 +200,9 @@ impl Trail {
         requires one_register { self.old.register ≡ names_of register.now }
         requires walked { slot < length self.old.numbers }
         requires low { cell < 64 }
+        requires proposed { WasProposed decision }
         ensures held { IfOk result (λ held. Agrees (slice_index_or self.old.decided (64 * slot + cell) None) held × KnowsCell self.old (64 * slot + cell) held self.new) }
+        ensures proposed { IfOk result (λ held. WasProposed held) }
         ensures starves { OnErr result ((slice_index_or self.old.decided (64 * slot + cell) None ≡ None) × (self.new ≡ self.old)) }
     {
         // Read, so that it is known that the slot's place fits.
@@ -222,10 +226,10 @@ impl Trail {
 }
 
 /// Notes of the cells of a row, of which nothing is known.
-fn note_cells(cells: &mut Vec<Note<Decision>>, row: &Row)
+fn note_cells(cells: &mut Vec<Note<Proposed>>, row: &Row)
     requires { vec_len cells.old + 64 ≤ vec_capacity cells.old }
-    ensures names { map (λ (c : Noted Decided). c.cell) cells.new.items ≡ map (λ (c : Noted Decided). c.cell) cells.old.items ++ names_of row.now.cells.items }
-    ensures known { map (λ (c : Noted Decided). c.known) cells.new.items ≡ map (λ (c : Noted Decided). c.known) cells.old.items ++ replicate 64 None }
+    ensures names { map (λ (c : Noted Kept). c.cell) cells.new.items ≡ map (λ (c : Noted Kept). c.cell) cells.old.items ++ names_of row.now.cells.items }
+    ensures known { map decision_known cells.new.items ≡ map decision_known cells.old.items ++ replicate 64 None }
 {
     for cell in 0..CELLS {
         cells.push_reserved(row.cells[cell].note());
@@ -236,17 +240,20 @@ fn note_cells(cells: &mut Vec<Note<Decision>>, row: &Row)
 fn decided(
     alloc: Global,
     cell: &Cell,
-    note: &mut Note<Decision>,
+    note: &mut Note<Proposed>,
     decision: Decision,
 ) -> Result<Decision, OutOfMemory>
-    requires { note.old.cell ≡ cell_name cell.now }
+    requires one_cell { note.old.cell ≡ cell_name cell.now }
+    requires proposed { WasProposed decision }
     ensures cell { note.new.cell ≡ note.old.cell }
-    ensures held { IfOk result (λ held. (note.new.known ≡ Some held) × Agrees note.old.known held) }
-    ensures starves { OnErr result ((note.old.known ≡ None) × (note.new.known ≡ None)) }
+    ensures held { IfOk result (λ held. (decision_known note.new ≡ Some held) × Agrees (decision_known note.old) held) }
+    ensures proposed { IfOk result (λ held. WasProposed held) }
+    ensures starves { OnErr result ((decision_known note.old ≡ None) × (decision_known note.new ≡ None)) }
 {
+    let proposed = Proposed { decision };
     let first = cell.get_or_try_init_as(
-        move || -> Result<Box<Decision>, OutOfMemory> { Ok(Box::new(alloc, decision)?) },
+        move || -> Result<Box<Proposed>, OutOfMemory> { Ok(Box::new(alloc, proposed)?) },
         note,
     )?;
-    Ok(first.copied())
+    Ok(first.decision.copied())
 }

@@ -5,6 +5,7 @@ use Rattle.ulfm_base.specs.declared.error.CallError.{CallError}
 use Rattle.ulfm_base.specs.declared.error.CallError.TheVariants.{OutOfMemory}
 use Rattle.ulfm_base.specs.declared.topic.Topic.{Topic}
 use Rattle.ulfm_board.specs.Known.{Answers, Known, Starves}
+use Rattle.ulfm_board.specs.Proposals.{WasProposed}
 use Rattle.ulfm_log.specs.declared.entry.Entry.TheVariants.{Adopted}
 use Rattle.ulfm_rank.specs.Checks.{Passes, Fails, FailsOrStarves, group_at, adopt_checks, proposal_checks}
 use Rattle.ulfm_log.specs.Proposal.{IsProposal, has_proposal}
@@ -25,11 +26,12 @@ pub record Waits (old new : ProcessView) (topic : Topic) : Type 0 where
   pub incomplete : has_proposal old.rank.me (group_at old.rank topic.context.number) old.rank.log topic ≡ false
   pub only : new ≡ old
 
--- the rank's proposal was handed in, and this is the decision that the board holds
+-- the rank's proposal was handed in, and this is the decision that the board holds: some rank proposed it
 pub record IsHeld (old : ProcessView) (topic : Topic) (held : Decision) (later : Known) : Type 0 where
   pub proposal : Decision
   pub proposed : Proposes old topic proposal
   pub board_answers : Answers old.board old.known proposal held later
+  pub was_proposed : WasProposed held
 
 -- the decision that the board holds is adopted
 pub record Adopts (old new : ProcessView) (topic : Topic) (held : Decision) : Type 0 where

@@ -29,9 +29,9 @@
 //!   shrink or an agreement. The item stays, and is the next that is taken of that rank. If none is told, none is seen, and all that the rank had
 //!   pushed to itself was taken (`LooksAt`, Ahead.antt; `heads_from`, Lanes.antt of `ulfm_carrier`; `head_of`, Head.antt of `ulfm_carrier`).
 //! - `would`: the answer of a test of a request, over, pending or waiting, is given without a change (`IsOutlook`, Ahead.antt).
-//! - `poll_shrink`, `poll_agree`, `same`: a poll waits where the rank has no proposal. Otherwise it adopts one decision: the one that its seat knew,
-//!   if it knew one. Two processes of one board know no two decisions on one topic (`Adopts`, `IsPollRefusal`, Adopting.antt; `BothAgree`,
-//!   Known.antt of `ulfm_board`).
+//! - `poll_shrink`, `poll_agree`, `same`: a poll waits where the rank has no proposal. Otherwise it adopts one decision: what its seat knew, if it
+//!   knew one. Some rank proposes it, by what its log has. Two processes of one board know no two on one topic (`Adopts`, `IsPollRefusal`,
+//!   Adopting.antt; `WasProposed`, Proposals.antt of `ulfm_board`; `BothAgree`, Known.antt of `ulfm_board`).
 //! - [`world`]: the processes of a world start, by their numbers, with rings that join them, each with `capacity` places known to be free, and seats
 //!   of one board. Each looks first at rank 0 (`IsWorld`, Making.antt).
 //!
@@ -60,8 +60,8 @@
 //!   `words.rt`: what C is told, and its types
 //! - `handle.rt`, `slot.rt`, `loose.rt`: how C holds a process, and `with`, of which exports are made
 //!
-//! Not here: that a decision was proposed, or is true of what ranks did; that memory comes back when a slot ends; and the C above this
-//! (docs/LIMITS.md).
+//! Not here: that the log by which a decision was proposed is that of a rank of this world; that memory comes back when a slot ends; and the C
+//! above this (docs/LIMITS.md).
 #![tactic(auto)]
 
 mod c_status;

@@ -1,2 +1,3 @@
 pub mod Counters
 pub mod Foretold
+pub mod Inventing

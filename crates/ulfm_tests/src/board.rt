@@ -1,98 +1,118 @@
 //! Seats of one board, which answer what one of them was handed.
-ghost use Rattle.std.specs.Prelude.{◌<◌};
+ghost use Rattle.std.specs.Prelude.{◌≡◌, IfOk};
+ghost use Rattle.ulfm_base.specs.declared.decision.Decision.{Decision as Decided};
+ghost use Rattle.ulfm_board.specs.Proposals.{WasProposed};
 
+use crate::further::take;
 use std::alloc::Global;
 use std::test::Fail;
 use std::thread;
 use std::thread::{JoinHandle, Threads};
-use ulfm_base::{CallError, Context, Decision, Group, OutOfMemory, Purpose, Topic};
+use ulfm_base::{
+    CallError, Context, Contribution, Decision, Group, Item, OutOfMemory, Purpose, RankSet, Topic,
+    WorldRank,
+};
 use ulfm_board::{Decider, Seat, seats};
+use ulfm_log::{Comm, proposed};
+use ulfm_rank::Rank;
 
-// The decision to exclude each of n ranks, none of which is listed.
-fn none_left(alloc: Global, context: Context, n: u8) -> Result<Decision, CallError>
-    requires { context.number < 31 }
+// Rank 0 of n, which knows that all others stopped.
+fn last_of(alloc: Global, n: u8) -> Result<Rank, CallError> {
+    let mut rank = Rank::start(alloc, 0, n)?;
+    for other in 1..n {
+        if !take(&mut rank, WorldRank { number: other }, Item::Gone) {
+            return Err(CallError::BadRank);
+        }
+    }
+    Ok(rank)
+}
+
+// The duplicate of the duplicate of .. the world's communicator, so many times.
+fn duplicated(rank: &mut Rank, times: u8) -> Result<Comm, CallError> {
+    let mut comm = rank.world();
+    for _ in 0..times {
+        comm = rank.dup(comm)?;
+    }
+    Ok(comm)
+}
+
+// What rank 0 of n proposes for the shrink of such a duplicate, once all others stopped.
+fn last_left(alloc: Global, times: u8, n: u8) -> Result<Decision, CallError>
+    ensures { IfOk result (λ (d : Decided). WasProposed d) }
 {
-    let old = Group::world(alloc, n)?;
-    let excluded = old.members();
-    let fresh = old.excluding(excluded);
-    let decision = Decision {
-        topic: Topic {
-            context,
-            purpose: Purpose::Shrink { round: 0 },
-        },
-        old,
-        entries: [None; 8],
-        excluded,
-        fresh,
-        value: None,
-    };
-    Ok(decision)
+    let mut rank = last_of(alloc, n)?;
+    let comm = duplicated(&mut rank, times)?;
+    rank.enter_shrink(comm)?;
+    match rank.proposal(comm)? {
+        Some(proposal) => Ok(proposal),
+        None => Err(CallError::NotEntered),
+    }
 }
 
 // Whether a seat answers a decision by this one.
-fn answers(seat: &mut Seat, decision: Decision, by: &Decision) -> Result<bool, Fail> {
+fn answers(seat: &mut Seat, decision: Decision, by: &Decision) -> Result<bool, Fail>
+    requires { WasProposed decision }
+{
     Ok(seat.decide(decision)?.is_same(by))
 }
 
-// Whether a seat answers the decision of a context that excludes so many ranks by the one that excludes as many as are wanted.
+// Whether a seat answers the decision of the last of so many ranks by that of the last of as many as are wanted.
 fn answers_by_size(
     seat: &mut Seat,
-    context: u64,
+    times: u8,
     handed_in: u8,
     wanted: u8,
     alloc: Global,
 ) -> Result<bool, Fail> {
-    if context > 30 {
-        return Err(Fail::new("no shrink of this context"));
-    }
-    let by = none_left(alloc, Context { number: context }, wanted)?;
-    let decision = none_left(alloc, Context { number: context }, handed_in)?;
+    let by = last_left(alloc, times, wanted)?;
+    let decision = last_left(alloc, times, handed_in)?;
     answers(seat, decision, &by)
 }
 
 #[test]
 fn seats_of_one_board(rt: HostRuntime) -> Result<(), Fail> {
     let mut all = seats(rt.alloc(), 2)?;
-    for (place, context, handed_in, wanted) in [
-        (0, 0, 2, 2),
+    for (place, times, handed_in, wanted) in [
+        (0, 0u8, 2, 2),
         (1, 0, 3, 2),
         (0, 0, 3, 2),
         (1, 1, 3, 3),
         (0, 1, 2, 3),
-        (0, 30, 4, 4),
+        (0, 6, 4, 4),
     ] {
         let seat = all.get_mut(place).ok_or("no seat")?;
         assert!(rt;
-            answers_by_size(seat, context, handed_in, wanted, rt.alloc())?,
-            "seat {place}, context {context}, {handed_in} ranks"
+            answers_by_size(seat, times, handed_in, wanted, rt.alloc())?,
+            "seat {place}, {times} duplicates, {handed_in} ranks"
         );
     }
     Ok(())
 }
 
-// The decision of an agreement of the world's communicator: each of n ranks is excluded, and none listed.
-fn none_agreed(alloc: Global, round: u64, n: u8) -> Result<Decision, CallError> {
-    let old = Group::world(alloc, n)?;
-    let excluded = old.members();
-    let fresh = old.excluding(excluded);
-    let decision = Decision {
-        topic: Topic {
-            context: Context::WORLD,
-            purpose: Purpose::Agree { round },
-        },
-        old,
-        entries: [None; 8],
-        excluded,
-        fresh,
-        value: Some(4_294_967_295),
+// What a rank that is alone in its world proposes in the agreement of this round, with this flag.
+fn lone_verdict(alloc: Global, round: u64, flag: u32) -> Result<Decision, CallError>
+    ensures { IfOk result (λ (d : Decided). WasProposed d) }
+{
+    let world = Group::world(alloc, 1)?;
+    let topic = Topic {
+        context: Context::WORLD,
+        purpose: Purpose::Agree { round },
     };
-    Ok(decision)
+    let mine = Contribution {
+        known: RankSet::new(),
+        flag: Some(flag),
+    };
+    let entries = [Some(mine), None, None, None, None, None, None, None];
+    match proposed(topic, &world, &entries, RankSet::new()) {
+        Some(verdict) => Ok(verdict),
+        None => Err(CallError::NotEntered),
+    }
 }
 
 // Whether two seats answer what the first of them was handed, in an agreement of this round.
 fn agree_on(one: &mut Seat, other: &mut Seat, round: u64, alloc: Global) -> Result<bool, Fail> {
-    let first = none_agreed(alloc, round, 2)?;
-    let second = none_agreed(alloc, round, 3)?;
+    let first = lone_verdict(alloc, round, 2)?;
+    let second = lone_verdict(alloc, round, 3)?;
     Ok(answers(one, first.copied(), &first)? && answers(other, second, &first)?)
 }
 
@@ -134,7 +154,9 @@ fn are_one(
     last: &mut Seat,
     mine: &Decision,
     theirs: &Decision,
-) -> Result<bool, Fail> {
+) -> Result<bool, Fail>
+    requires { WasProposed mine.now }
+{
     let is_one = held.is_same(mine) || held.is_same(theirs);
     let is_found = found.is_same(held);
     let is_held = answers(last, mine.copied(), held)?;
@@ -146,7 +168,9 @@ fn start<R: Threads>(
     rt: &R,
     seat: Seat,
     decision: Decision,
-) -> Option<JoinHandle<Result<Decision, OutOfMemory>>> {
+) -> Option<JoinHandle<Result<Decision, OutOfMemory>>>
+    requires { WasProposed decision }
+{
     let child = thread::spawn(rt, move || {
         let mut seat = seat;
         seat.decide(decision)
@@ -169,7 +193,10 @@ fn agree_across_threads<R: Threads>(
     alloc: Global,
     mine: &Decision,
     theirs: &Decision,
-) -> Result<bool, Fail> {
+) -> Result<bool, Fail>
+    requires mine { WasProposed mine.now }
+    requires theirs { WasProposed theirs.now }
+{
     let (mut here, there, mut last) = three_seats(alloc)?;
     let child = start(rt, there, theirs.copied()).ok_or("no thread")?;
     let held = here.decide(mine.copied());
@@ -177,10 +204,10 @@ fn agree_across_threads<R: Threads>(
     are_one(&held?, &found?, &mut last, mine, theirs)
 }
 
-// Whether they do of two decisions of one context.
+// Whether they do of two decisions on one shrink.
 fn three_agree<R: Threads>(rt: &R, alloc: Global) -> Result<bool, Fail> {
-    let mine = none_left(alloc, Context::WORLD, 2)?;
-    let theirs = none_left(alloc, Context::WORLD, 3)?;
+    let mine = last_left(alloc, 0, 2)?;
+    let theirs = last_left(alloc, 0, 3)?;
     agree_across_threads(rt, alloc, &mine, &theirs)
 }
 

@@ -22,7 +22,7 @@ fn is_from(item: &Item, source: WorldRank) -> bool
 }
 
 /// Takes an item that came from the other rank: whether it could.
-fn take(rank: &mut Rank, other: WorldRank, item: Item) -> bool {
+pub(crate) fn take(rank: &mut Rank, other: WorldRank, item: Item) -> bool {
     if rank.prepare().is_err()
         || rank.is_stopped()
         || other.number >= rank.ranks()

@@ -2,6 +2,7 @@
 
 mod closing;
 mod foretold;
+mod inventor;
 mod laid;
 mod meeting;
 mod misfits;

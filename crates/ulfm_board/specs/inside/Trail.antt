@@ -11,6 +11,7 @@ use Rattle.once_cell.specs.declared.race.once_box.OnceBox.{OnceBox}
 use Rattle.once_cell.specs.Once.{cell_name}
 use Rattle.ulfm_base.specs.Lists.{at}
 use Rattle.ulfm_base.specs.declared.decision.Decision.{Decision}
+use Rattle.ulfm_board.specs.declared.proposed.Proposed.{Proposed}
 use Rattle.ulfm_board.specs.declared.row.Row.{Row}
 use Rattle.ulfm_board.specs.Known.{Known, BothAgree}
 
@@ -56,24 +57,28 @@ number_known note = option_map (λ (row : Row). row.number) note.known
 abbrev pub cells_known : Note Row → Option (List ℕ)
 cells_known note = option_map (λ (row : Row). names_of row.cells.items) note.known
 
+-- the decision that a note knows
+abbrev pub decision_known : Note Proposed → Option Decision
+decision_known note = option_map (λ (proposed : Proposed). proposed.decision) note.known
+
 -- Each slot that was walked through is the one of its number, its row is known, with its number, and the cells that are noted are its own.
-pub record IsTrail (chunks : List (Note Slots)) (rows : List (Note Row)) (numbers : List ℕ) (cells : List (Note Decision)) : Type 0 where
+pub record IsTrail (chunks : List (Note Slots)) (rows : List (Note Row)) (numbers : List ℕ) (cells : List (Note Proposed)) : Type 0 where
   pub many : length rows ≡ length numbers
   pub each : length cells ≡ 64 * length numbers
   pub named : (n : ℕ) (row : Note Row) → at rows n row → slot_name (map slots_known chunks) n ≡ Some row.cell
   pub numbered : (n : ℕ) (row : Note Row) → at rows n row → number_known row ≡ slice_get numbers n
   pub tied : (n : ℕ) (row : Note Row) → at rows n row → (names : List ℕ) × (cells_known row ≡ Some names)
-      × ((p : ℕ) → p < 64 → slice_get names p ≡ slice_get (map (λ (cell : Note Decision). cell.cell) cells) (64 * n + p))
+      × ((p : ℕ) → p < 64 → slice_get names p ≡ slice_get (map (λ (cell : Note Proposed). cell.cell) cells) (64 * n + p))
 
 -- what is seen of it
-abbrev pub trail_view : List (Note Slots) → List (Note Row) → List ℕ → List (Note Decision) → TrailView
+abbrev pub trail_view : List (Note Slots) → List (Note Row) → List ℕ → List (Note Proposed) → TrailView
 trail_view chunks rows numbers cells = record {
   register = map (λ (note : Note Slots). note.cell) chunks;
   chunks = map slots_known chunks;
   slots = map (λ (note : Note Row). note.cell) rows;
   numbers = numbers;
-  cells = map (λ (note : Note Decision). note.cell) cells;
-  decided = map (λ (note : Note Decision). note.known) cells;
+  cells = map (λ (note : Note Proposed). note.cell) cells;
+  decided = map decision_known cells;
 }
 
 -- the first slot whose row has this number

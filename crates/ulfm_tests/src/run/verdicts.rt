@@ -1,14 +1,13 @@
 //! Runs by decisions that nobody proposed.
-ghost use Rattle.std.specs.Prelude.{◌≡◌, ◌<◌, All, IfOk, Some, length, slice_set};
-ghost use Rattle.ulfm_board.specs.Known.{nothing_known, OneBoard};
+ghost use Rattle.std.specs.Prelude.{◌≡◌, ◌<◌, Some, length, slice_set};
 
+use super::inventor::inventors;
 use super::untrue_reports;
 use std::alloc::Global;
 use std::sync::Wait;
 use std::test::Fail;
 use std::thread::Threads;
-use ulfm_base::{CallError, Contribution, Decision, OutOfMemory, Purpose, RankSet, WorldRank};
-use ulfm_board::{Decider, Seat, seats};
+use ulfm_base::{Context, Contribution, Decision, Purpose, RankSet, Topic, WorldRank};
 use ulfm_carrier::{LaneEnds, lanes};
 use ulfm_job::Job;
 use ulfm_reader::ReadJob;
@@ -62,20 +61,13 @@ step = [
 
 /// What a decision says though it isn't so.
 #[derive(Clone, Copy)]
-enum Invention {
+pub(super) enum Invention {
     /// That rank 3 stopped.
     Stop,
     /// That rank 1 entered the shrink, with no failures known to it.
     Entry,
     /// That rank 1 entered the agreement, with the flag 0.
     Flag,
-}
-
-/// A seat that hands in, for each decision, one with an invention.
-#[derive(Drop)]
-struct Inventor {
-    seat: Seat,
-    invention: Invention,
 }
 
 /// The decision, where rank 3 is a member with rank 3 excluded.
@@ -164,7 +156,7 @@ fn with_flag(decision: &Decision) -> Decision
 }
 
 /// The decision with an invention.
-fn invented(decision: &Decision, invention: Invention) -> Decision
+pub(super) fn invented(decision: &Decision, invention: Invention) -> Decision
     ensures { result.topic ≡ decision.now.topic }
 {
     match invention {
@@ -174,30 +166,16 @@ fn invented(decision: &Decision, invention: Invention) -> Decision
     }
 }
 
-impl Decider for Inventor {
-    ghost board = { λ i. ⟦<Seat as Decider>⟧.board i.seat };
-
-    ghost known = { λ i. ⟦<Seat as Decider>⟧.known i.seat };
-
-    fn decide(&mut self, decision: Decision) -> Result<Decision, OutOfMemory> {
-        self.seat.decide(invented(&decision, self.invention))
+/// What the job of an invention decides on.
+fn topic_of(invention: Invention) -> Topic {
+    let purpose = match invention {
+        Invention::Flag => Purpose::Agree { round: 0 },
+        _ => Purpose::Shrink { round: 0 },
+    };
+    Topic {
+        context: Context::WORLD,
+        purpose,
     }
-
-    fn same(&mut self, other: &mut Inventor) {
-        self.seat.same(&mut other.seat);
-    }
-}
-
-/// Four inventors on one board.
-fn inventors(alloc: Global, invention: Invention) -> Result<Vec<Inventor>, CallError>
-    ensures one_board { IfOk result (λ all. OneBoard ⟦<Inventor as Decider>⟧.board all.items) }
-    ensures nothing_known { IfOk result (λ all. All (λ i. ⟦<Inventor as Decider>⟧.known i ≡ nothing_known) all.items) }
-{
-    let mut all = Vec::new(alloc);
-    for seat in seats(alloc, 4)? {
-        all.push(Inventor { seat, invention })?;
-    }
-    Ok(all)
 }
 
 /// How many reports of a run over lanes, of a job of four ranks that was read, show that an invention was adopted, 0 where none do.
@@ -206,7 +184,7 @@ where
     R: Threads + Wait + Sync,
 {
     let ends = lanes(alloc, 4, job.capacity())?;
-    let deciders = inventors(alloc, invention)?;
+    let deciders = inventors(alloc, topic_of(invention), invention)?;
     let run = run_job(rt, alloc, job, ends, deciders);
     Ok(untrue_reports(&run))
 }

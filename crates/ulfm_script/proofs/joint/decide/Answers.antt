@@ -2,6 +2,9 @@ use Rattle.std.proofs.Common.{inl, inr, refl, subst}
 use Rattle.ulfm_board.specs.Known.{Starves}
 use Rattle.ulfm_script.proofs.joint.decide.Goals as goal
 
+pub decide-requires : goal.decide-requires
+decide-requires g c = let p = c.in_ok-proposal.ensures.proposed in ∣ record { ranks = c.args.rank.now.state.ranks; me = c.args.rank.now.state.me; log = c.args.rank.now.state.log; topic = p.topic; proposal = p.on.proposed } ∣₁
+
 pub returns-in-Ok-clause-answers : goal.returns-in-Ok-clause-answers
 returns-in-Ok-clause-answers g c =
     let p = c.in_ok-proposal.ensures.proposed in record {

@@ -3,8 +3,8 @@ use Rattle.ulfm_board.specs.inside.Trail.{TrailView}
 use Rattle.ulfm_board.proofs.Cells.{cell_of_row, held_of, starved_of, trail_stays}
 use Rattle.ulfm_board.proofs.trail.Trail.decide.Goals as goal
 
-pub decided-requires : goal.decided-requires
-decided-requires c =
+pub decided-requires-clause-one_cell : goal.decided-requires-clause-one_cell
+decided-requires-clause-one_cell c =
     let is = c.self-2.view_is ∙ c.row_of-row.ensures.unchanged in
     let walked : c.args.slot < length c.self-2.inside.numbers.items = subst (λ (t : TrailView). c.args.slot < length t.numbers) (sym is) c.requires.walked in
     let low : 64 * c.args.slot + c.args.cell < length c.self-2.inside.cells.items = omega (arith, walked, c.requires.low, c.self-2.invariant.each) in

@@ -2,6 +2,7 @@ use Rattle.std.proofs.Common.{refl, sym, inl, inr}
 use Rattle.std.proofs.lemmas.Result.{err_from_is_err_and}
 use Rattle.ulfm_board.specs.contracts.seat.SeatDecider.TheImpl.{ghosts}
 use Rattle.ulfm_rank.proofs.Joining.{joined-quiet}
+use Rattle.ulfm_log.specs.Proposal.{last_shrink}
 use Rattle.ulfm_log.specs.declared.entry.Entry.TheVariants.{Adopted}
 use Rattle.ulfm_c.proofs.Keeping.{quiet-none, quiet-one}
 use Rattle.ulfm_c.proofs.process.Process.poll_shrink.Goals as goal
@@ -10,6 +11,10 @@ pub returns-in_err-proposal-clause-refused : goal.returns-in_err-proposal-clause
 returns-in_err-proposal-clause-refused c =
     let e = err_from_is_err_and c.from_residual.result c.from_residual.ensures.1 in
     rw (e.1, e.2) (rw (sym c.self.view_is) (inl (record { fails = c.in_err-proposal.ensures.refused; only = refl })))
+
+pub decide-requires : goal.decide-requires
+decide-requires c =
+    let r = c.self.inside.rank.state in ∣ record { ranks = r.ranks; me = r.me; log = r.log; topic = last_shrink r.log c.args.comm.context; proposal = rw c.in-Some.is at c.in_ok-proposal.ensures.proposal } ∣₁
 
 pub returns-in-Err-clause-refused : goal.returns-in-Err-clause-refused
 returns-in-Err-clause-refused c =
@@ -32,7 +37,7 @@ returns-in-Ok-adopt-clause-adopts c =
     rw (sym c.self.view_is) (
       c.in-Ok.held,
       record {
-        is_held = record { proposal = c.in-Some.proposal; proposed = rw c.in-Some.is at c.in_ok-proposal.ensures.proposal; board_answers = c.in-Ok.ensures.answers };
+        is_held = record { proposal = c.in-Some.proposal; proposed = rw c.in-Some.is at c.in_ok-proposal.ensures.proposal; board_answers = c.in-Ok.ensures.answers; was_proposed = c.in-Ok.ensures.says };
         accepted = c.in-Ok-adopt.ensures.accepted;
         only = λ i. record { rank = c.in-Ok-adopt.ensures.state i; end = c.self.inside.end; board = c.decide.ensures.board i; known = ghosts.known c.decide.new.self };
       },
@@ -48,7 +53,7 @@ pub returns-in-Err-adopt-clause-refused : goal.returns-in-Err-adopt-clause-refus
 returns-in-Err-adopt-clause-refused c =
     rw (sym c.self.view_is) (inr (inr (record {
       held = c.in-Ok.held;
-      is_held = record { proposal = c.in-Some.proposal; proposed = rw c.in-Some.is at c.in_ok-proposal.ensures.proposal; board_answers = c.in-Ok.ensures.answers };
+      is_held = record { proposal = c.in-Some.proposal; proposed = rw c.in-Some.is at c.in_ok-proposal.ensures.proposal; board_answers = c.in-Ok.ensures.answers; was_proposed = c.in-Ok.ensures.says };
       fails = c.in-Err-adopt.ensures.refused;
       only = λ i. record { rank = c.in-Err-adopt.ensures.unchanged i; end = c.self.inside.end; board = c.decide.ensures.board i; known = ghosts.known c.decide.new.self };
     })))
