@@ -35,6 +35,7 @@ sends-same a b s t r one two to tag body comm =
     let first = sending-is a (sending_in s) (sym one) in
     let second = sending-is b (sending_in t) (sym two) in
     let tags = same_tag s.tag t.tag (eqb-true s.tag.number t.tag.number tag) in
-    let bodies = (bytes_decides s.body.now t.body.now).0 body in
-    ( λ same. let comms = same_context s.comm t.comm (eqb-true s.comm.number t.comm.number (sym comm ∙ same)) in cc,
-    λ same. let comms : s.comm ≡ t.comm = cc in comm ∙ eq-eqb s.comm.number t.comm.number (ap (λ (d : Context). d.number) comms) )
+    let bodies = (bytes_decides s.body.now t.body.now).0 body in (
+      λ same. let comms = same_context s.comm t.comm (eqb-true s.comm.number t.comm.number (sym comm ∙ same)) in cc,
+      λ same. let comms : s.comm ≡ t.comm = cc in comm ∙ eq-eqb s.comm.number t.comm.number (ap (λ (d : Context). d.number) comms),
+    )
