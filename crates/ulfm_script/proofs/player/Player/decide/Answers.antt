@@ -13,7 +13,7 @@ returns-in-Some-decide-clause-decides g c =
       answer = c.in-Some-decide.answer;
       rank = c.decide.new.rank.state;
       decision = c.in-Some-decide.ensures.answers;
-      only = rw c.log-at.ensures at c.answer.ensures.player;
+      only = rw (c.of.ensures, c.log-at.ensures) at c.answer.ensures.player;
     })
 
 pub returns-in-Some-decide-clause-room_lacked : goal.returns-in-Some-decide-clause-room_lacked
