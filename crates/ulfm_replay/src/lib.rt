@@ -6,9 +6,9 @@
 //!
 //! A [`Recorder`] keeps the moves of events that a world plays, whoever chooses them:
 //!
-//!     let underway = recorder.before(&world, &event)?;
+//!     let underway = recorder.before(&job, &world, &event)?;
 //!     world.apply(event)?;
-//!     recorder.after(&world, underway)?;
+//!     recorder.after(&job, &world, underway)?;
 //!
 //! It promises, by the clauses of each call:
 //!

@@ -8,6 +8,7 @@ ghost use Rattle.ulfm_replay.specs.Turns.{turned_text, turning_of};
 use crate::lines::{moved, turned, turning};
 use std::alloc::{AllocError, Global};
 use ulfm_base::OutOfMemory;
+use ulfm_job::Job;
 use ulfm_schedule::{Before, Deed, Move, Numbers};
 use ulfm_world::{Event, World};
 
@@ -51,13 +52,18 @@ impl Recorder {
         }
     }
 
-    /// Looks at a world before an event.
+    /// Looks at a world of a job before an event.
     ///
     /// # Errors
     ///
     /// `OutOfMemory` where a growth was refused, or the event concerns ranks that aren't there.
-    pub fn before(&self, world: &World, event: &Event<'_>) -> Result<Underway, OutOfMemory>
-        ensures moved { IfOk result (λ underway. moved_text underway.moved ≡ move_line world.now event.now) }
+    pub fn before(
+        &self,
+        job: &Job,
+        world: &World,
+        event: &Event<'_>,
+    ) -> Result<Underway, OutOfMemory>
+        ensures moved { IfOk result (λ underway. moved_text job.now underway.moved ≡ move_line world.now event.now) }
         ensures turn { IfOk result (λ underway. underway.turn ≡ turning_of world.now event.now) }
     {
         let rank = rank_of(event);
@@ -67,18 +73,18 @@ impl Recorder {
         Ok(Underway {
             rank,
             before: Before::of(*self.moves.allocator(), world.player(rank).rank())?,
-            moved: moved(world, event)?,
+            moved: moved(job, world, event)?,
             turn: turning(world, event)?,
         })
     }
 
-    /// Keeps the moves of an event, by the world after it.
+    /// Keeps the moves of an event of a job, by the world after it.
     ///
     /// # Errors
     ///
     /// `OutOfMemory` where a growth was refused.
-    pub fn after(&mut self, world: &World, underway: Underway) -> Result<(), OutOfMemory>
-        ensures { OnOk result (moves_text self.new.moves.items ≡ (moves_text self.old.moves.items ++ moved_text underway.moved) ++ turned_text world.now underway.turn) }
+    pub fn after(&mut self, job: &Job, world: &World, underway: Underway) -> Result<(), OutOfMemory>
+        ensures { OnOk result (moves_text job.now self.new.moves.items ≡ (moves_text job.now self.old.moves.items ++ moved_text job.now underway.moved) ++ turned_text job.now world.now underway.turn) }
     {
         let Underway {
             rank,
@@ -86,21 +92,24 @@ impl Recorder {
             moved,
             turn,
         } = underway;
-        self.add(world, rank, &before, moved)?;
-        let turned = turned(world, turn)?;
-        self.add(world, rank, &before, turned)
+        self.add(job, world, rank, &before, moved)?;
+        let turned = turned(job, world, turn)?;
+        self.add(job, world, rank, &before, turned)
     }
 
     /// Adds a move of a rank, if it is one.
     fn add(
         &mut self,
+        job: &Job,
         world: &World,
         rank: u8,
         before: &Before,
         moved: Option<(u8, Deed)>,
     ) -> Result<(), OutOfMemory>
-        ensures { OnOk result (moves_text self.new.moves.items ≡ moves_text self.old.moves.items ++ moved_text moved) }
+        ensures { OnOk result (moves_text job.now self.new.moves.items ≡ moves_text job.now self.old.moves.items ++ moved_text job.now moved) }
     {
+        // Of which job it is stands in the clause alone.
+        let _ = job;
         let Some((r, deed)) = moved else {
             return Ok(());
         };

@@ -5,6 +5,7 @@ ghost use Rattle.ulfm_world.specs.Safe.{KeepsDecisions};
 ghost use Rattle.ulfm_world.specs.World.{Happens, IsRefused, outcome_of};
 
 use crate::{Recorder, Underway};
+use ulfm_job::Job;
 use ulfm_schedule::Move;
 use ulfm_world::{Event, Outcome, Refused, World};
 
@@ -20,21 +21,21 @@ pub(crate) enum Recording {
 }
 
 impl Recording {
-    /// Looks at a world before an event.
-    fn before(&self, world: &World, event: &Event<'_>) -> Option<Underway> {
+    /// Looks at a world of a job before an event.
+    fn before(&self, job: &Job, world: &World, event: &Event<'_>) -> Option<Underway> {
         match self {
-            Recording::On(recorder) => recorder.before(world, event).ok(),
+            Recording::On(recorder) => recorder.before(job, world, event).ok(),
             _ => None,
         }
     }
 
     /// Keeps the moves of an event that happened, by the world after it.
-    fn after(&mut self, world: &World, underway: Option<Underway>) {
+    fn after(&mut self, job: &Job, world: &World, underway: Option<Underway>) {
         let Recording::On(recorder) = self else {
             return;
         };
         let is_kept = match underway {
-            Some(underway) => recorder.after(world, underway).is_ok(),
+            Some(underway) => recorder.after(job, world, underway).is_ok(),
             None => false,
         };
         if !is_kept {
@@ -51,8 +52,9 @@ impl Recording {
     }
 }
 
-/// One event, as the world has it.
+/// One event of a job, as the world has it.
 pub(crate) fn apply(
+    job: &Job,
     world: &mut World,
     recording: &mut Recording,
     event: Event<'_>,
@@ -64,10 +66,10 @@ pub(crate) fn apply(
     ensures world { IsWorld world.old }
     ensures safe { KeepsDecisions world.old × KeepsDecisions world.new }
 {
-    let underway = recording.before(world, &event);
+    let underway = recording.before(job, world, &event);
     let outcome = world.apply(event);
     if outcome.is_ok() {
-        recording.after(world, underway);
+        recording.after(job, world, underway);
     }
     outcome
 }

@@ -170,7 +170,12 @@ impl Hands for Rounds<'_> {
     }
 
     fn take_one(&mut self) -> Result<bool, RunFault> {
-        match apply(&mut self.world, &mut self.recording, Event::Take(self.rank)) {
+        match apply(
+            self.job,
+            &mut self.world,
+            &mut self.recording,
+            Event::Take(self.rank),
+        ) {
             Ok(_) => {
                 self.is_idle = false;
                 Ok(true)

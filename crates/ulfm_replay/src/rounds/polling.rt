@@ -65,7 +65,7 @@ fn skip(
 {
     // It tells the limits that each job keeps.
     let _ = job.turns();
-    match apply(world, recording, Event::Skip(r, asked.again())) {
+    match apply(job, world, recording, Event::Skip(r, asked.again())) {
         Ok(_) => Ok(()),
         Err(Refused::OutOfMemory) => Err(RunFault::OutOfMemory),
         Err(_) => unreachable!(),
@@ -134,12 +134,10 @@ fn decide(job: &Job, world: &mut World, recording: &mut Recording, r: u8, asked:
     ensures moves { Moves job.now world.old world.new result }
     ensures undecided { result ≡ false → (comm : Context) → decides_on asked.now ≡ Some comm → ¬ IsReadyToDecide (player_at world.old r) comm }
 {
-    // Which job is followed stands in the clauses alone.
-    let _ = job;
     let Some(comm) = asked.decides_on() else {
         return false;
     };
-    match apply(world, recording, Event::Decide(r, comm)) {
+    match apply(job, world, recording, Event::Decide(r, comm)) {
         Ok(_) => true,
         Err(Refused::NotReady) => false,
         Err(_) => unreachable!(),
@@ -165,7 +163,7 @@ fn call_once(
     ensures { OnOk result (Moves job.now world.old world.new true) }
 {
     let turns = job.turns_at(r, world.answered(r));
-    match apply(world, recording, Event::Call(r, asked.again())) {
+    match apply(job, world, recording, Event::Call(r, asked.again())) {
         Ok(Outcome::Answered) => return Ok(()),
         Ok(_) => {}
         Err(Refused::OutOfMemory) => return Err(RunFault::OutOfMemory),
@@ -174,7 +172,7 @@ fn call_once(
     if world.polls(r) < turns {
         return Ok(());
     }
-    match apply(world, recording, Event::Leave(r)) {
+    match apply(job, world, recording, Event::Leave(r)) {
         Ok(_) => Ok(()),
         Err(_) => unreachable!(),
     }

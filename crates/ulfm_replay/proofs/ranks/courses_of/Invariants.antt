@@ -4,4 +4,4 @@ use Rattle.ulfm_replay.specs.Ranks.{players_trace}
 use Rattle.ulfm_replay.proofs.ranks.courses_of.Given as goal
 
 abbrev pub invariant-loop-r : goal.invariant-loop-r
-invariant-loop-r l = flat_map course_text l.courses.items ++ players_trace l.job l.r (drop l.r l.world.players) ≡ players_trace l.job 0 l.world.players
+invariant-loop-r l = flat_map (course_text l.job) l.courses.items ++ players_trace l.job l.r (drop l.r l.world.players) ≡ players_trace l.job 0 l.world.players
