@@ -1,11 +1,10 @@
 //! The steps of a job, in the order of the trace.
 ghost use Rattle.std.specs.Prelude.{◌≡◌, ◌++◌, IfOk, OnOk, map};
-ghost use Rattle.ulfm_job.specs.Job.{script_at};
-ghost use Rattle.ulfm_outcomes_list.specs.Listed.{all_steps, script_steps, step_view};
+ghost use Rattle.ulfm_outcomes_list.specs.Listed.{all_steps, script_step, script_steps, step_view};
 
 use std::alloc::Global;
 use ulfm_base::OutOfMemory;
-use ulfm_job::{Job, StepWords};
+use ulfm_job::{Job, Step, StepWords};
 
 /// A step of a job, and where it stands there.
 #[derive(Clone, Copy)]
@@ -28,19 +27,34 @@ pub fn steps_of(alloc: Global, job: &Job) -> Result<Vec<JobStep<'_>>, OutOfMemor
 {
     let mut steps = Vec::new(alloc);
     for rank in 0..job.ranks() {
-        push_script(&mut steps, job, rank)?;
+        push_script(&mut steps, job, rank, job.script(rank))?;
     }
     Ok(steps)
 }
 
-/// Puts the steps of a rank behind others.
-fn push_script<'a>(steps: &mut Vec<JobStep<'a>>, job: &'a Job, rank: u8) -> Result<(), OutOfMemory>
-    ensures { OnOk result (map step_view steps.new.items ≡ map step_view steps.old.items ++ script_steps job.now rank 0 (script_at job.now rank)) }
+/// A step of a rank with this number, as it is told of.
+fn job_step<'a>(job: &'a Job, rank: u8, number: usize, step: &'a Step) -> JobStep<'a>
+    ensures { step_view result ≡ script_step job.now rank number step.now }
 {
-    for number in 0..job.script_len(rank) {
-        if let Some(step) = job.told(rank, number) {
-            steps.push(JobStep { rank, number, step })?;
-        }
+    let called = job.called(rank, number);
+    JobStep {
+        rank,
+        number,
+        step: StepWords { step, called },
+    }
+}
+
+/// Puts the steps of a rank behind others.
+fn push_script<'a>(
+    steps: &mut Vec<JobStep<'a>>,
+    job: &'a Job,
+    rank: u8,
+    script: &'a [Step],
+) -> Result<(), OutOfMemory>
+    ensures { OnOk result (map step_view steps.new.items ≡ map step_view steps.old.items ++ script_steps job.now rank 0 script.now) }
+{
+    for (number, step) in script.iter().enumerate() {
+        steps.push(job_step(job, rank, number, step))?;
     }
     Ok(())
 }
