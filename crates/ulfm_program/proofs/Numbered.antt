@@ -9,7 +9,7 @@ use Rattle.ulfm_reader.specs.Keys.{◌>>=◌}
 use Rattle.ulfm_reader.specs.Line.{Line, line, steps_of as steps_in}
 use Rattle.ulfm_reader.specs.Plan.{PlannedStep}
 use Rattle.ulfm_reader.specs.Provisos.{step_provisos}
-use Rattle.ulfm_reader.specs.Reacting.{conditions_in, expected_in, names_in}
+use Rattle.ulfm_reader.specs.Reacting.{conditions_in, expected_in, names_in, namings_in}
 use Rattle.ulfm_reader.specs.StepText.{step_of}
 use Rattle.ulfm_reader.specs.JobText.{Draft, draft_of, drafted, filed_at, in_step, placed_in, step_at, step_in, steps_of}
 use Rattle.ulfm_reader.specs.declared.filed.Filed.{Filed}
@@ -17,6 +17,7 @@ use Rattle.ulfm_reader.specs.declared.name.Name.{Name}
 use Rattle.ulfm_reader.specs.declared.proviso.Proviso.{Proviso}
 use Rattle.ulfm_job.specs.declared.clause.Clause.{Clause}
 use Rattle.ulfm_job.specs.declared.condition.Condition.{Condition}
+use Rattle.ulfm_job.specs.declared.naming.Naming.{Naming}
 use Rattle.ulfm_program.proofs.Plain.{IsPlain, ok_first, ok_is}
 use Rattle.ulfm_program.proofs.PlainSteps.{step_plain}
 
@@ -35,16 +36,17 @@ IsPlainStep (table ms) = IsPlain ms
 IsPlainStep d = ⊥
 
 -- the step of a table, from another place of the file
-drafted_by : (k l : ℕ) (f : List Filed) (ms : Members) (draft : Draft) (s : PlannedStep) (more : Draft) (names : List Name) (conditions : List Condition) (provisos : List Proviso) (expected : List Clause)
+drafted_by : (k l : ℕ) (f : List Filed) (ms : Members) (draft : Draft) (s : PlannedStep) (more : Draft) (names : List Name) (conditions : List Condition) (provisos : List Proviso) (expected : List Clause) (namings : List Naming)
     → names_in draft.names s.rank (length (slice_index_or draft.scripts s.rank [])) (get_member (codes "name") ms) ≡ Ok names
     → conditions_in (record { rank = s.rank; at = length (slice_index_or draft.scripts s.rank []); script = slice_index_or draft.scripts s.rank []; names = draft.names }) draft.conditions (get_member (codes "if") ms) ≡ Ok conditions
     → step_provisos s.rank (length (slice_index_or draft.scripts s.rank [])) draft.provisos (get_member (codes "expect") ms) ≡ Ok provisos
     → expected_in s.rank (length (slice_index_or draft.scripts s.rank [])) s.order draft.expected (get_member (codes "expect") ms) ≡ Ok expected
-    → record { scripts = placed_in draft.scripts s; names = names; filed = draft.filed ++ filed_at k s.rank (length (slice_index_or draft.scripts s.rank [])) ∷ []; conditions = conditions; expected = expected; provisos = provisos } ≡ more
+    → namings_in (record { rank = s.rank; at = length (slice_index_or draft.scripts s.rank []); script = slice_index_or draft.scripts s.rank []; names = draft.names }) draft.namings (get_member (codes "comm") ms) ≡ Ok namings
+    → record { scripts = placed_in draft.scripts s; names = names; filed = draft.filed ++ filed_at k s.rank (length (slice_index_or draft.scripts s.rank [])) ∷ []; namings = namings; conditions = conditions; expected = expected; provisos = provisos } ≡ more
     → drafted l (filed_as f draft) ms s ≡ Ok (filed_as (f ++ filed_at l s.rank (length (slice_index_or draft.scripts s.rank [])) ∷ []) more)
 unfolding drafted
-drafted_by k l f ms draft s more names conditions provisos expected n c p e is =
-    rw (n, c, p, e) (ap (λ (d : Draft). Ok (filed_as (f ++ filed_at l s.rank (length (slice_index_or draft.scripts s.rank [])) ∷ []) d)) is)
+drafted_by k l f ms draft s more names conditions provisos expected namings n c p e m is =
+    rw (n, c, p, e, m) (ap (λ (d : Draft). Ok (filed_as (f ++ filed_at l s.rank (length (slice_index_or draft.scripts s.rank [])) ∷ []) d)) is)
 
 drafted_alike : (k l : ℕ) (f : List Filed) (ms : Members) (draft : Draft) (s : PlannedStep) (more : Draft) → drafted k draft ms s ≡ Ok more
     → drafted l (filed_as f draft) ms s ≡ Ok (filed_as (f ++ filed_at l s.rank (length (slice_index_or draft.scripts s.rank [])) ∷ []) more)
@@ -54,7 +56,8 @@ drafted_alike k l f ms draft s more is =
     let c = ok_first (conditions_in (record { rank = s.rank; at = length (slice_index_or draft.scripts s.rank []); script = slice_index_or draft.scripts s.rank []; names = draft.names }) draft.conditions (get_member (codes "if") ms)) _ more n.2 in
     let p = ok_first (step_provisos s.rank (length (slice_index_or draft.scripts s.rank [])) draft.provisos (get_member (codes "expect") ms)) _ more c.2 in
     let e = ok_first (expected_in s.rank (length (slice_index_or draft.scripts s.rank [])) s.order draft.expected (get_member (codes "expect") ms)) _ more p.2 in
-    drafted_by k l f ms draft s more n.0 c.0 p.0 e.0 n.1 c.1 p.1 e.1 (ok_is _ more e.2)
+    let m = ok_first (namings_in (record { rank = s.rank; at = length (slice_index_or draft.scripts s.rank []); script = slice_index_or draft.scripts s.rank []; names = draft.names }) draft.namings (get_member (codes "comm") ms)) _ more e.2 in
+    drafted_by k l f ms draft s more n.0 c.0 p.0 e.0 m.0 n.1 c.1 p.1 e.1 m.1 (ok_is _ more m.2)
 
 module _ (ranks k l : ℕ) (f : List Filed) (draft more : Draft) where
   table_alike : (ms : Members) (s : PlannedStep) → step_of ranks draft.names ms ≡ Ok s → drafted k draft ms s ≡ Ok more → (g : List Filed) × (in_step l (draft_of ranks l (filed_as f draft) ms) ≡ Ok (filed_as g more))
