@@ -72,7 +72,7 @@ fn push_sought(
 
 /// The keys that a step has beside its op.
 fn push_keys(text: &mut String, told: StepWords<'_>) -> Result<(), AllocError>
-    ensures { OnOk result (string_bytes text.new ≡ string_bytes text.old ++ keys_json (told_view told).called (told_view told).step) }
+    ensures { OnOk result (string_bytes text.new ≡ string_bytes text.old ++ keys_json (told_view told.entry).called (told_view told.entry).step) }
 {
     let called = told.called;
     match told.step {
@@ -113,7 +113,7 @@ fn push_keys(text: &mut String, told: StepWords<'_>) -> Result<(), AllocError>
 
 /// The keys of a step: its op, and what the words of the step have.
 pub(crate) fn push_call(text: &mut String, told: StepWords<'_>) -> Result<(), AllocError>
-    ensures { OnOk result (string_bytes text.new ≡ string_bytes text.old ++ call_json (told_view told)) }
+    ensures { OnOk result (string_bytes text.new ≡ string_bytes text.old ++ call_json (told_view told.entry)) }
 {
     let op = told.step.op().name();
     write!(text, "\"op\":\"{op}\"")?;

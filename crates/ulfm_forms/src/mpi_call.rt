@@ -56,7 +56,7 @@ impl fmt::Display for MpiTag {
 
 /// Puts a call of MPI that names a communicator alone.
 fn push_on_comm(text: &mut String, name: &str, comm: MpiComm<'_>) -> Result<(), AllocError>
-    ensures { OnOk result (string_bytes text.new ≡ string_bytes text.old ++ (name.now ++ mpi_on (option_map (λ name. name.now) comm.0) comm.1)) }
+    ensures { OnOk result (string_bytes text.new ≡ string_bytes text.old ++ (name.now ++ mpi_on (option_map (λ name. name.now) comm.entry.0) comm.entry.1)) }
 {
     write!(text, "{name}({comm})")
 }
@@ -76,7 +76,7 @@ fn push_numbered(
     key: &str,
     number: u32,
 ) -> Result<(), AllocError>
-    ensures { OnOk result (string_bytes text.new ≡ string_bytes text.old ++ (name.now ++ mpi_numbered (option_map (λ name. name.now) comm.0) comm.1 key.now number)) }
+    ensures { OnOk result (string_bytes text.new ≡ string_bytes text.old ++ (name.now ++ mpi_numbered (option_map (λ name. name.now) comm.entry.0) comm.entry.1 key.now number)) }
 {
     write!(text, "{name}({comm}, {key} {number})")
 }
@@ -89,7 +89,7 @@ fn push_seeking(
     tag: Option<Tag>,
     comm: MpiComm<'_>,
 ) -> Result<(), AllocError>
-    ensures { OnOk result (string_bytes text.new ≡ string_bytes text.old ++ (name.now ++ mpi_sought (option_map (λ name. name.now) comm.0) from tag comm.1)) }
+    ensures { OnOk result (string_bytes text.new ≡ string_bytes text.old ++ (name.now ++ mpi_sought (option_map (λ name. name.now) comm.entry.0) from tag comm.entry.1)) }
 {
     let from = MpiSource(from);
     let tag = MpiTag(tag);
@@ -102,7 +102,7 @@ fn push_seeking(
 ///
 /// A growth was refused: a part of it may stand in the text then.
 pub(crate) fn push_mpi_call(text: &mut String, told: StepWords<'_>) -> Result<(), AllocError>
-    ensures { OnOk result (string_bytes text.new ≡ string_bytes text.old ++ mpi_call (told_view told).called (told_view told).step) }
+    ensures { OnOk result (string_bytes text.new ≡ string_bytes text.old ++ mpi_call (told_view told.entry).called (told_view told.entry).step) }
 {
     let called = told.called;
     match told.step {

@@ -22,7 +22,7 @@ pub fn push_call_in(
     wording: Wording,
     told: StepWords<'_>,
 ) -> Result<(), AllocError>
-    ensures { OnOk result (string_bytes text.new ≡ string_bytes text.old ++ call_in wording (told_view told)) }
+    ensures { OnOk result (string_bytes text.new ≡ string_bytes text.old ++ call_in wording (told_view told.entry)) }
 {
     match wording {
         Wording::Plain => write!(text, "{told}"),
