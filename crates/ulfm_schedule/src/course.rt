@@ -1,5 +1,5 @@
 //! What came of a rank.
-ghost use Rattle.std.specs.Prelude.{◌≡◌, ◌++◌, OnOk, string_bytes};
+ghost use Rattle.std.specs.Prelude.{◌≡◌, ◌++◌, OnOk, Some, option_map, string_bytes};
 ghost use Rattle.ulfm_job.specs.Naming.{called_at};
 ghost use Rattle.ulfm_schedule.specs.Words.{course_text, end_text, open_line};
 
@@ -31,6 +31,23 @@ pub struct Course {
     pub end: End,
 }
 
+/// Puts the line of a step that is given up, which may call its communicator by a name.
+fn push_unfinished(
+    text: &mut String,
+    called: Option<&str>,
+    r: u8,
+    k: usize,
+    step: &NotedStep,
+) -> Result<(), AllocError>
+    ensures { OnOk result (string_bytes text.new ≡ string_bytes text.old ++ open_line (option_map (λ name. name.now) called.entry) r k (Some step.now)) }
+{
+    write!(
+        text,
+        "{r} {k} {}: unfinished\n",
+        NotedWords { step, called }
+    )
+}
+
 /// Puts the line of a step that stands open, as of one that is given up.
 fn push_open(
     text: &mut String,
@@ -42,14 +59,7 @@ fn push_open(
     ensures { OnOk result (string_bytes text.new ≡ string_bytes text.old ++ open_line (called_at job.now r k) r k open.now) }
 {
     match open {
-        Some(step) => {
-            let called = job.called(r, k);
-            write!(
-                text,
-                "{r} {k} {}: unfinished\n",
-                NotedWords { step, called }
-            )
-        }
+        Some(step) => push_unfinished(text, job.called(r, k), r, k, step),
         None => Ok(()),
     }
 }
