@@ -1,23 +1,29 @@
 -- One poll of a rank's next step.
-use Rattle.std.proofs.Common.{◌≡◌, ℕ, ◌+◌, ◌<◌, ◌≤◌, true, false, Bool, List, length, refl, ap, sym, subst, ◌∙◌, arith, ◌⊎◌, Option, Some, None}
+use Rattle.std.proofs.Common.{◌≡◌, ℕ, ◌+◌, ◌<◌, ◌≤◌, true, false, Bool, List, length, refl, ap, sym, subst, ◌∙◌, arith, ◌⊎◌, Option, Some, None, MatchOption, slice_get}
 use Rattle.ulfm_base.specs.declared.context.Context.{Context}
 use Rattle.ulfm_script.specs.declared.called.Called.{Called}
 use Rattle.ulfm_script.specs.declared.called.Called.TheVariants.{Answered, NotYet}
-use Rattle.ulfm_script.specs.Deciding.{Known, IsDecided}
+use Rattle.ulfm_script.specs.Deciding.{Known, IsDecided, IsReadyToDecide}
 use Rattle.ulfm_script.specs.Player.{Polls as PollsBy, Player, PlayerView, IsCalled, GivesUpStep, SkipsStep}
 use Rattle.ulfm_job.specs.declared.condition.Condition.{Condition}
 use Rattle.ulfm_rank.specs.inside.Quiet.{Quiet}
 use Rattle.ulfm_answer.specs.Reacting.{is_played}
-use Rattle.ulfm_script.proofs.MeantAlong.{fewer-played}
+use Rattle.ulfm_script.proofs.MeantAlong.{fewer-played, next-played}
 use Rattle.ulfm_script.proofs.Polls.{quiet-called}
 use Rattle.ulfm_script.specs.Meant.{next_step, played_script}
-use Rattle.ulfm_job.specs.Job.{turns_at}
+use Rattle.ulfm_job.specs.Job.{decides_on, turns_at}
 use Rattle.ulfm_script.proofs.Advance.{ready-at, advance-called, advance-left, advance-skipped, left-polls}
 use Rattle.ulfm_script.proofs.Progress.{polls_small}
 use Rattle.ulfm_script.proofs.Reacting.{goes-called, goes-decided, goes-skipped}
 use Rattle.ulfm_report_laws.proofs.Spent.{goes-spent}
 use Rattle.ulfm_script.proofs.Decisions.{ready-decided, advance-decided, quiet-decided}
-use Rattle.ulfm_run.proofs.Common.{GoesThrough, is_stopped, IsState, polls_left, SkipsOn, State, Polls, Step, JobView, IsJob, script_at}
+use Rattle.ulfm_run.proofs.Common.{GoesThrough, is_stopped, IsState, polls_left, same_Some, SkipsOn, State, Polls, Step, JobView, IsJob, script_at}
+
+-- a step that stands open and is ready is the next one, so the next one is decided on this communicator
+pub ready-next : {job : JobView} (me : ℕ) (p : Player) {asked : Step} (comm : Context) → GoesThrough job me p → next_step job me p.done ≡ Some asked → IsReadyToDecide p comm → decides_on asked ≡ Some comm
+ready-next {job} me p {asked} comm through next ready =
+    let here : slice_get (played_script job me p.done) (length p.done) ≡ Some ready.asked = (subst (λ (o : Option Step). MatchOption o (p.polls ≡ 0) (λ asked. (slice_get (played_script job me p.done) (length p.done) ≡ Some asked) × (p.polls < job.turns))) ready.waits through.follows.current).0 in
+    subst (λ (s : Step). decides_on s ≡ Some comm) (same_Some ready.asked asked (sym here ∙ next-played job me p.done ∙ next)) ready.on
 
 -- one call that is answered, or leaves the step open with polls to spare
 pub polls-call : {job : JobView} (me : ℕ) (v w : PlayerView) {asked : Step} → IsJob job → IsState v.player.rank → GoesThrough job me v.player → is_stopped v.player.rank.log ≡ false → next_step job me v.player.done ≡ Some asked → is_played job.conditions me v.player.done ≡ true →
