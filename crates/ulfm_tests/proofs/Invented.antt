@@ -1,5 +1,5 @@
--- Decisions of which one more member is excluded, or listed, and a mapped list that is made.
-use Rattle.std.proofs.Common.{◌≡◌, ◌≢◌, ◌<◌, ◌⊎◌, ◌||◌, ℕ, zero, suc, true, false, List, [], ◌∷◌, ◌++◌, append-nil, length, map, set, subst, Option, Some, None, is_some, refl, ap, sym, ◌∙◌, inl, inr, arith}
+-- Decisions of which one more member is excluded, or listed.
+use Rattle.std.proofs.Common.{◌≡◌, ◌≢◌, ◌<◌, ◌⊎◌, ◌||◌, ℕ, zero, suc, true, false, List, [], ◌∷◌, length, set, subst, Option, Some, None, is_some, refl, ap, sym, ◌∙◌, inl, inr, arith}
 use Rattle.std.specs.Int.Bits.{and_zero_l, and_zero_r}
 use Rattle.std.proofs.lemmas.Bool.{cases_eq, false≢true, or_cases, or_left, or_right}
 use Rattle.ulfm_base.specs.declared.decision.Decision.{Decision}
@@ -106,7 +106,3 @@ also_zero d one round known member empty agrees inside =
     let zeros : Contribution = record { known = known; flag = Some 0 } in
     let entries : List (Option Contribution) = set d.entries one (Some zeros) in
     listed_too d one zeros (Some 0) member empty (sym (ap is_agreement agrees)) (ap Some (sym (and_entries-with_zero 4294967295 one d.entries known inside)) ∙ ap (λ p. value_of p entries) (sym agrees))
-
--- all that was left is made, where nothing is left now
-pub all_made : {S I : Type 0} (wrap : S → I) (done : List I) (rest start ys : List S) → rest ≡ [] → done ++ map wrap rest ≡ map wrap start → start ≡ ys → done ≡ map wrap ys
-all_made {S} {I} wrap done rest start ys none was is = sym (append-nil done) ∙ ap (λ (l : List S). done ++ map wrap l) (sym none) ∙ was ∙ ap (map wrap) is

@@ -43,14 +43,14 @@ module _ (names : List ℕ) (number : ℕ) (d : Decision) (old new : Option Deci
   kept_unchanged (Ok held) h = tt
   kept_unchanged (Err e) h = ap (known_by number) (h.1 ∙ sym h.0)
 
-none_agree : (o : Option Decision) → BothAgree o None
-none_agree None = tt
-none_agree (Some d) = tt
-
 -- two of one cell know no two decisions
 pub one_cell : (n m : ℕ) (a b : Option Decision) → IfSome b (λ y. IfSome a (λ x. x ≡ y)) → (topic : Topic) → BothAgree (known_at (known_by n a) topic) (known_at (known_by m b) topic)
 one_cell n m None b h topic = tt
-one_cell n m (Some x) None h topic = none_agree (known_at (known_by n (Some x)) topic)
+one_cell n m (Some x) None h topic = alone (eq_by_cmp nat_cmp (number_of topic) n)
+  where
+    alone : (s : Bool) → BothAgree (cond s (Some x) None) None
+    alone true = tt
+    alone false = tt
 one_cell n m (Some x) (Some y) h topic = both (eq_by_cmp nat_cmp (number_of topic) n) (eq_by_cmp nat_cmp (number_of topic) m)
   where
     both : (s t : Bool) → BothAgree (cond s (Some x) None) (cond t (Some y) None)

@@ -1,5 +1,5 @@
 //! Seats of one board, which answer what one of them was handed.
-ghost use Rattle.std.specs.Prelude.{◌≡◌, IfOk};
+ghost use Rattle.std.specs.Prelude.{IfOk};
 ghost use Rattle.ulfm_base.specs.declared.decision.Decision.{Decision as Decided};
 ghost use Rattle.ulfm_board.specs.Proposals.{WasProposed};
 
@@ -43,10 +43,10 @@ fn last_left(alloc: Global, times: u8, n: u8) -> Result<Decision, CallError>
     let mut rank = last_of(alloc, n)?;
     let comm = duplicated(&mut rank, times)?;
     rank.enter_shrink(comm)?;
-    match rank.proposal(comm)? {
-        Some(proposal) => Ok(proposal),
-        None => Err(CallError::NotEntered),
-    }
+    let Some(proposal) = rank.proposal(comm)? else {
+        return Err(CallError::NotEntered);
+    };
+    Ok(proposal)
 }
 
 // Whether a seat answers a decision by this one.
@@ -171,10 +171,15 @@ fn start<R: Threads>(
 ) -> Option<JoinHandle<Result<Decision, OutOfMemory>>>
     requires { WasProposed decision }
 {
-    let child = thread::spawn(rt, move || {
-        let mut seat = seat;
-        seat.decide(decision)
-    });
+    let child = thread::spawn(
+        rt,
+        move || -> Result<Decision, OutOfMemory>
+            requires { WasProposed decision }
+        {
+            let mut seat = seat;
+            seat.decide(decision)
+        },
+    );
     child.ok()
 }
 

@@ -54,11 +54,11 @@ impl Decider for Inventor {
     ghost says = { λ _. ⊤ };
 
     fn decide(&mut self, decision: Decision) -> Result<Decision, OutOfMemory> {
-        if number_of(decision.topic) != self.number {
-            return Err(AllocError);
+        if number_of(decision.topic) == self.number {
+            let mine = invented(&decision, self.invention);
+            return kept(self.alloc, &self.cell, &mut self.note, mine);
         }
-        let mine = invented(&decision, self.invention);
-        kept(self.alloc, &self.cell, &mut self.note, mine)
+        Err(AllocError)
     }
 
     fn same(&mut self, other: &mut Inventor) {
