@@ -99,7 +99,7 @@ pub(super) fn inventors(
     let number = number_of(topic);
     let cell = Arc::new(alloc, OnceBox::new(alloc))?;
     let mut all = Vec::with_capacity(alloc, 4)?;
-    for _ in 0..4 {
+    for _ in 0..4usize {
         let shared = Arc::try_clone(&cell)?;
         all.push_reserved(new_inventor(alloc, shared, number, invention));
     }
