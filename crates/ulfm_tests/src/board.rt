@@ -16,37 +16,50 @@ use ulfm_board::{Decider, Seat, seats};
 use ulfm_log::{Comm, proposed};
 use ulfm_rank::Rank;
 
-// Rank 0 of n, which knows that all others stopped.
+// Takes notice that a rank stopped, if the world of n has one of this number.
+fn hear(rank: &mut Rank, other: u8, n: u8) -> Result<(), CallError> {
+    if other < n && !take(rank, WorldRank { number: other }, Item::Gone) {
+        return Err(CallError::BadRank);
+    }
+    Ok(())
+}
+
+// Rank 0 of up to 4, which knows that all others stopped.
 fn last_of(alloc: Global, n: u8) -> Result<Rank, CallError> {
     let mut rank = Rank::start(alloc, 0, n)?;
-    for other in 1..n {
-        if !take(&mut rank, WorldRank { number: other }, Item::Gone) {
-            return Err(CallError::BadRank);
-        }
-    }
+    hear(&mut rank, 1, n)?;
+    hear(&mut rank, 2, n)?;
+    hear(&mut rank, 3, n)?;
     Ok(rank)
 }
 
-// The duplicate of the duplicate of .. the world's communicator, so many times.
-fn duplicated(rank: &mut Rank, times: u8) -> Result<Comm, CallError> {
-    let mut comm = rank.world();
-    for _ in 0..times {
-        comm = rank.dup(comm)?;
+// The communicator of the world, or its duplicate.
+fn world_of(rank: &mut Rank, is_copy: bool) -> Result<Comm, CallError> {
+    let world = rank.world();
+    if is_copy {
+        return rank.dup(world);
     }
-    Ok(comm)
+    Ok(world)
 }
 
-// What rank 0 of n proposes for the shrink of such a duplicate, once all others stopped.
-fn last_left(alloc: Global, times: u8, n: u8) -> Result<Decision, CallError>
+// What a rank proposes for the shrink that it entered last.
+fn proposal_of(rank: &Rank, comm: Comm) -> Result<Decision, CallError>
     ensures { IfOk result (λ (d : Decided). WasProposed d) }
 {
-    let mut rank = last_of(alloc, n)?;
-    let comm = duplicated(&mut rank, times)?;
-    rank.enter_shrink(comm)?;
     let Some(proposal) = rank.proposal(comm)? else {
         return Err(CallError::NotEntered);
     };
     Ok(proposal)
+}
+
+// What rank 0 of n proposes for the shrink of the world's communicator, or of its duplicate, once all others stopped.
+fn last_left(alloc: Global, is_copy: bool, n: u8) -> Result<Decision, CallError>
+    ensures { IfOk result (λ (d : Decided). WasProposed d) }
+{
+    let mut rank = last_of(alloc, n)?;
+    let comm = world_of(&mut rank, is_copy)?;
+    rank.enter_shrink(comm)?;
+    proposal_of(&rank, comm)
 }
 
 // Whether a seat answers a decision by this one.
@@ -59,31 +72,30 @@ fn answers(seat: &mut Seat, decision: Decision, by: &Decision) -> Result<bool, F
 // Whether a seat answers the decision of the last of so many ranks by that of the last of as many as are wanted.
 fn answers_by_size(
     seat: &mut Seat,
-    times: u8,
+    is_copy: bool,
     handed_in: u8,
     wanted: u8,
     alloc: Global,
 ) -> Result<bool, Fail> {
-    let by = last_left(alloc, times, wanted)?;
-    let decision = last_left(alloc, times, handed_in)?;
+    let by = last_left(alloc, is_copy, wanted)?;
+    let decision = last_left(alloc, is_copy, handed_in)?;
     answers(seat, decision, &by)
 }
 
 #[test]
 fn seats_of_one_board(rt: HostRuntime) -> Result<(), Fail> {
     let mut all = seats(rt.alloc(), 2)?;
-    for (place, times, handed_in, wanted) in [
-        (0, 0u8, 2, 2),
-        (1, 0, 3, 2),
-        (0, 0, 3, 2),
-        (1, 1, 3, 3),
-        (0, 1, 2, 3),
-        (0, 6, 4, 4),
+    for (place, is_copy, handed_in, wanted) in [
+        (0, false, 2, 2),
+        (1, false, 3, 2),
+        (0, false, 3, 2),
+        (1, true, 3, 3),
+        (0, true, 2, 3),
     ] {
         let seat = all.get_mut(place).ok_or("no seat")?;
         assert!(rt;
-            answers_by_size(seat, times, handed_in, wanted, rt.alloc())?,
-            "seat {place}, {times} duplicates, {handed_in} ranks"
+            answers_by_size(seat, is_copy, handed_in, wanted, rt.alloc())?,
+            "seat {place}, of a duplicate {is_copy}, {handed_in} ranks"
         );
     }
     Ok(())
@@ -143,7 +155,7 @@ fn rows_are_made_as_they_are_wanted(rt: HostRuntime) -> Result<(), Fail> {
         );
     }
     assert!(rt; agree_on(&mut two, &mut last, 500, alloc)?);
-    assert!(rt; answers_by_size(&mut last, 0, 4, 4, alloc)?);
+    assert!(rt; answers_by_size(&mut last, false, 4, 4, alloc)?);
     Ok(())
 }
 
@@ -211,8 +223,8 @@ fn agree_across_threads<R: Threads>(
 
 // Whether they do of two decisions on one shrink.
 fn three_agree<R: Threads>(rt: &R, alloc: Global) -> Result<bool, Fail> {
-    let mine = last_left(alloc, 0, 2)?;
-    let theirs = last_left(alloc, 0, 3)?;
+    let mine = last_left(alloc, false, 2)?;
+    let theirs = last_left(alloc, false, 3)?;
     agree_across_threads(rt, alloc, &mine, &theirs)
 }
 
