@@ -4,7 +4,6 @@ pub mod Proposals
 pub mod Waits
 pub mod MeantAlong
 pub mod Nowhere
-pub mod Bodiless
 pub mod Progress
 pub mod Says
 pub mod Polls

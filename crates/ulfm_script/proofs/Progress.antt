@@ -154,13 +154,10 @@ through-same [] one other h = absurd (false≢true h)
 through-same (x ∷ xs) one other h =
     by (is_played_stop x) h (λ more. ap (λ (ys : List Step). x.step ∷ ys) (through-same xs one other more))
   where
-    first : List Step
-    first = x.step ∷ through_stop xs (map reported_step xs ++ one)
+    past : List Step → List Step
+    past script = x.step ∷ through_stop xs (map reported_step xs ++ script)
 
-    second : List Step
-    second = x.step ∷ through_stop xs (map reported_step xs ++ other)
-
-    by : (b : Bool) → cond b true (has_stop xs) ≡ true → (has_stop xs ≡ true → first ≡ second) → cond b (x.step ∷ []) first ≡ cond b (x.step ∷ []) second
+    by : (b : Bool) → cond b true (has_stop xs) ≡ true → (has_stop xs ≡ true → past one ≡ past other) → cond b (x.step ∷ []) (past one) ≡ cond b (x.step ∷ []) (past other)
     by true h rest = refl
     by false h rest = rest h
 
