@@ -25,7 +25,7 @@ struct Asker<'a> {
     number: usize,
 }
 
-/// Tells what is wrong with a `req` or a `comm` that is a name, and then with `name`, `if` and `expect`.
+/// Tells what is wrong with a `req` that is a name, then with `name`, `if` and `expect`, and then with a `comm` that is a name.
 pub fn explain_asking<'a>(
     findings: &mut Findings<'_>,
     steps: &'a [Value],
@@ -46,12 +46,13 @@ pub fn explain_asking<'a>(
     if let (Some(_), Some(value)) = (sheet.rules.find("req"), sheet.table.get("req")) {
         asker.explain_reference(findings, Key::Req, value)?;
     }
-    if let (Some(_), Some(value)) = (sheet.rules.find("comm"), sheet.table.get("comm")) {
-        asker.explain_comm(findings, value)?;
-    }
     asker.explain_name(findings)?;
     asker.explain_if(findings)?;
-    asker.explain_expect(findings)
+    asker.explain_expect(findings)?;
+    match (sheet.rules.find("comm"), sheet.table.get("comm")) {
+        (Some(_), Some(value)) => asker.explain_comm(findings, value),
+        _ => Ok(()),
+    }
 }
 
 impl Asker<'_> {
