@@ -91,8 +91,13 @@ fn is_mistaken(
         && is_made(job, place, found, rank, step)
 }
 
-/// Whether the receive or the probe that a step goes on from was always made. A step that names neither is mistaken itself.
+/// Whether what a step goes on from was always made: the communicator that it calls by name, or its receive or its probe. A step that names
+/// none of these is mistaken itself.
 fn is_made(job: &Job, place: Place, found: &Rows, rank: u8, step: usize) -> bool {
+    if let Some(naming) = job.naming_at(rank, step) {
+        let at = number_at(place, job, rank, naming.step as usize);
+        return !has_other(found, rank, at, &["comm"]);
+    }
     let (Some(Step::Wait { req }) | Some(Step::Mrecv { req, .. }) | Some(Step::Cancel { req })) =
         job.step(rank, step) else {
         return true;
