@@ -30,7 +30,7 @@
 //!   pushed to itself was taken (`LooksAt`, Ahead.antt; `heads_from`, Lanes.antt of `ulfm_carrier`; `head_of`, Head.antt of `ulfm_carrier`).
 //! - `would`: the answer of a test of a request, over, pending or waiting, is given without a change (`IsOutlook`, Ahead.antt).
 //! - `poll_shrink`, `poll_agree`, `same`: a poll waits where the rank has no proposal. Otherwise it adopts one decision: what its seat knew, if it
-//!   knew one. Some rank proposes it, by what its log has. Two processes of one board know no two on one topic (`Adopts`, `IsPollRefusal`,
+//!   knew one. By some log it is what a rank proposes. Two processes of one board know no two on one topic (`Adopts`, `IsPollRefusal`,
 //!   Adopting.antt; `WasProposed`, Proposals.antt of `ulfm_board`; `BothAgree`, Known.antt of `ulfm_board`).
 //! - [`world`]: the processes of a world start, by their numbers, with rings that join them, each with `capacity` places known to be free, and seats
 //!   of one board. Each looks first at rank 0 (`IsWorld`, Making.antt).
