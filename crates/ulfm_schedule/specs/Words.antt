@@ -68,7 +68,7 @@ answered_text j r k report = named_step j r k ++ codes ": " ++ answer_text repor
 abbrev pub deed_text : JobView → ℕ → Deed → List ℕ
 deed_text j r (Left d cargo) = passed_text r false d cargo
 deed_text j r (Took s cargo) = passed_text s true r cargo
-deed_text j r (Opened k step) = opened_text j r k
+deed_text j r (Opened k _) = opened_text j r k
 deed_text j r (Answered k report) = answered_text j r k report
 
 -- the line of a move
