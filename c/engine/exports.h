@@ -9,6 +9,7 @@ _Static_assert(sizeof(ulfm_slot) == 16, "a slot is a Handle");
 _Static_assert(sizeof(ulfm_status) == 24, "a status is a CStatus");
 _Static_assert(sizeof(ulfm_group) == 12, "a group is a CGroup");
 _Static_assert(sizeof(ulfm_next_item) == 32, "an item is a CNextItem");
+_Static_assert(sizeof(ulfm_outline) == 24, "an outline is a COutline");
 
 uint32_t ulfm_c_world(ulfm_slot *slots, size_t ranks, uint8_t capacity);
 uint32_t ulfm_c_end(ulfm_slot *slot);
@@ -19,6 +20,7 @@ uint32_t ulfm_c_push(ulfm_slot *slot, uint32_t *moved);
 uint32_t ulfm_c_take(ulfm_slot *slot, uint32_t source, uint32_t *took);
 uint32_t ulfm_c_next(ulfm_slot *slot, uint32_t source, ulfm_next_item *item);
 uint32_t ulfm_c_would(ulfm_slot *slot, uint64_t request, uint32_t *code);
+uint32_t ulfm_c_may_matter(const ulfm_outline *first, const ulfm_outline *second);
 uint32_t ulfm_c_me(ulfm_slot *slot, uint32_t *rank);
 uint32_t ulfm_c_group_of(ulfm_slot *slot, uint64_t comm, ulfm_group *group);
 uint32_t ulfm_c_position(ulfm_slot *slot, uint64_t comm, uint32_t *position);

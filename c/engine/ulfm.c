@@ -51,6 +51,11 @@ uint32_t ulfm_would(ulfm_slot *slot, uint64_t request, uint32_t *code) {
     return ulfm_c_would(slot, request, code);
 }
 
+uint32_t ulfm_may_matter(const ulfm_outline *first, const ulfm_outline *second) {
+    if (!first || !second) return 1;
+    return ulfm_c_may_matter(first, second);
+}
+
 uint32_t ulfm_me(ulfm_slot *slot, uint32_t *rank) {
     if (!slot || !rank) return ULFM_ENDED;
     return ulfm_c_me(slot, rank);

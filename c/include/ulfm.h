@@ -147,6 +147,26 @@ uint32_t ulfm_next(ulfm_slot *slot, uint32_t source, ulfm_next_item *item);
 /* *code: what `ulfm_test` of this request would answer now: 0 where it is over, 17, 18, or a refusal, 10 or 7. It changes nothing. 16. */
 uint32_t ulfm_would(ulfm_slot *slot, uint64_t request, uint32_t *code);
 
+/* What is known of an event of a world's processes: what the rank does, and of a poll its communicator and which of its shrinks or agreements is polled,
+   from 0. */
+typedef struct {
+    uint64_t comm, round;
+    uint32_t kind; /* ULFM_DOES_CALL .. */
+    uint8_t rank;
+    uint8_t source; /* of a take: of whom */
+} ulfm_outline;
+
+enum {
+    ULFM_DOES_CALL = 0, /* a call that polls nothing */
+    ULFM_DOES_TAKE = 1,
+    ULFM_DOES_POLL_SHRINK = 2,
+    ULFM_DOES_POLL_AGREE = 3
+};
+
+/* 0 where two events commute, of which this is known: either order leads to the same, each answer included, and neither makes the other one
+   impossible. 1 where their order may matter. */
+uint32_t ulfm_may_matter(const ulfm_outline *first, const ulfm_outline *second);
+
 /* ---- Communicators and groups ---- */
 
 /* *rank: the rank's number in the world (MPI 4.0, 7.4.1, on MPI_COMM_WORLD). 16. */

@@ -145,6 +145,33 @@ static void notices(void) {
     WANT(tested(2, any), 2000 + ULFM_REVOKED);
 }
 
+/* Events of two ranks commute, unless both poll one shrink or agreement; of one rank, or of no kind or communicator that there is, they may not. */
+static void outlines(void) {
+    ulfm_outline call = {.rank = 0}, take = {.kind = ULFM_DOES_TAKE, .rank = 1, .source = 0};
+    ulfm_outline shrink = {.comm = 5, .round = 2, .kind = ULFM_DOES_POLL_SHRINK, .rank = 2},
+                 agree = {.comm = 5, .round = 2, .kind = ULFM_DOES_POLL_AGREE, .rank = 3};
+    ulfm_outline next = {.comm = 5, .round = 3, .kind = ULFM_DOES_POLL_SHRINK, .rank = 1},
+                 other = {.comm = 6, .round = 2, .kind = ULFM_DOES_POLL_SHRINK, .rank = 1};
+    WANT(ulfm_may_matter(&call, &take), 0);
+    WANT(ulfm_may_matter(&take, &call), 0);
+    WANT(ulfm_may_matter(&take, &shrink), 0);
+    WANT(ulfm_may_matter(&shrink, &agree), 0);
+    WANT(ulfm_may_matter(&shrink, &next), 0);
+    WANT(ulfm_may_matter(&shrink, &other), 0);
+    call.rank = 1;
+    WANT(ulfm_may_matter(&call, &take), 1);
+    next.round = 2;
+    WANT(ulfm_may_matter(&shrink, &next), 1);
+    agree.rank = 2;
+    WANT(ulfm_may_matter(&shrink, &agree), 1);
+    call.kind = 4;
+    WANT(ulfm_may_matter(&call, &shrink), 1);
+    other.comm = UINT64_MAX;
+    WANT(ulfm_may_matter(&agree, &other), 1);
+    WANT(ulfm_may_matter(&agree, 0), 1);
+    WANT(ulfm_may_matter(0, &agree), 1);
+}
+
 /* Where there is no such rank, or none in the slot, nothing is written. */
 static void refusals(void) {
     uint32_t out = 7;
@@ -163,6 +190,7 @@ int main(void) {
     messages();
     turns();
     notices();
+    outlines();
     refusals();
     printf("faults: %d\n", faults);
     return faults ? 1 : 0;

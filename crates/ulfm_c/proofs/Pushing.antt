@@ -4,7 +4,8 @@ use Rattle.std.proofs.lemmas.Bool.{cases_lt, false≢true}
 use Rattle.std.proofs.lemmas.List.Sums.{sum_by-append, sum_by-cons}
 use Rattle.ulfm_base.specs.declared.item.Item.{Item}
 use Rattle.ulfm_log.specs.State.{GoesOut, RankView, State, is_ready, mark_at, marked, no_mark, outbox}
-use Rattle.ulfm_c.specs.Turning.{GoesOn, GoOut, IsSameProcess, TakesNone}
+use Rattle.ulfm_commute.specs.World.{GoOut}
+use Rattle.ulfm_c.specs.Turning.{GoesOn, IsSameProcess, TakesNone}
 use Rattle.ulfm_c.specs.View.{ProcessView}
 use Rattle.ulfm_c.specs.inside.Pushing.{PushesOne}
 

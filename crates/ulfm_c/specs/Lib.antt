@@ -14,5 +14,6 @@ pub mod Deciding
 pub mod Progress
 pub mod NextItem
 pub mod Steps
+pub mod Outlines
 pub mod Worlds
 pub mod inside

@@ -10,17 +10,13 @@ use Rattle.ulfm_carrier.specs.Head.{head_of}
 use Rattle.ulfm_carrier.specs.Lanes.{IsFoundInTurn, heads_from, known_room, lane_name, lane_pushed, lane_taken, seen_from}
 use Rattle.ulfm_log.specs.declared.entry.Entry.TheVariants.{Took}
 use Rattle.ulfm_log.specs.Facts.{is_stopped}
-use Rattle.ulfm_log.specs.State.{State, GoesOut, logged, outbox}
+use Rattle.ulfm_log.specs.State.{State, logged, outbox}
+use Rattle.ulfm_commute.specs.World.{GoOut}
 use Rattle.ulfm_c.specs.View.{ProcessView, ReadyView}
 
 -- nothing can go out to the rank d: nothing waits for it, or the end knows of no free place in the ring to it
 abbrev pub IsStuck : ProcessView → ℕ → Type 0
 IsStuck p d = (outbox p.rank d ≡ []) ⊎ (known_room p.end d ≡ 0)
-
--- items went out one after the other, to these ranks
-abbrev pub GoOut : List ℕ → State → State → Type 0
-GoOut [] old new = new ≡ old
-GoOut (d ∷ ds) old new = (mid : State) × (item : Item) × (d < old.ranks) × GoesOut old mid d item × GoOut ds mid new
 
 -- the rank after it took what came
 abbrev pub with_came : State → Option (WorldRank × Item) → State

@@ -51,13 +51,13 @@
 //!   (`Tells`, `TellsCancel`, `status_of`, `ended`, `listed`, `written`, Told.antt; `next_item`, NextItem.antt).
 //! - `ulfm_c_world`: with 0 each slot has the process of its place in a new world. With 13 no world has this size, with 12 a growth was refused:
 //!   then no slot changed (`WorldCall`, Worlds.antt).
+//! - `ulfm_c_may_matter`: whether the order of two events may matter, by what C says of each. With 0 they commute (`MatterCall`, Outlines.antt).
 //!
 //! Files:
 //!
-//! - `process.rt`, with `process/` for its calls; `making.rt`: [`world`]; `outlook.rt`, `next_item.rt`: what a test would come to, and what comes
-//!   next
-//! - exports: `letters.rt`, `probes.rt`, `communicators.rt`, `recovery.rt`, `deciding.rt`, `progress.rt`, `steps.rt`, `worlds.rt`; `c_status.rt`,
-//!   `words.rt`: what C is told, and its types
+//! - `process.rt`, with `process/` for its calls; `making.rt`: [`world`]; `outlook.rt`, `next_item.rt`: what a test would answer, what comes next
+//! - exports: `letters.rt`, `probes.rt`, `communicators.rt`, `recovery.rt`, `deciding.rt`, `progress.rt`, `steps.rt`, `outlines.rt`, `worlds.rt`;
+//!   `c_status.rt`, `words.rt`: what C is told, and its types
 //! - `handle.rt`, `slot.rt`, `loose.rt`: how C holds a process, and `with`, of which exports are made
 //!
 //! Not here: that the log by which a decision was proposed is that of a rank of this world; that memory comes back when a slot ends; and the C
@@ -72,6 +72,7 @@ mod letters;
 mod loose;
 mod making;
 mod next_item;
+mod outlines;
 mod outlook;
 mod probes;
 mod process;
