@@ -1,5 +1,6 @@
-/* Which events commute: neither changes what the other one sees or does, nor whether it can be. Events of different ranks do, but for two decisions of
-   one shrink or agreement that differ, two of planes for one rank, and the match of a send that waits with its sender's looks at that. */
+/* Which events commute: neither changes what the other one sees or does, nor whether it can be. Of two ranks the engine says so, which is proved
+   (ulfm_may_matter), but for polls of one shrink or agreement. The rules of those, and of events of one rank, stand here and are tested, as are those of
+   what this layer adds: planes for one rank, and the match of a send that waits with its sender's looks at that. */
 #include "collective/collective.h"
 #include "search/search.h"
 
@@ -210,11 +211,29 @@ void um_come_after(struct footprint *e, const struct footprint *other) {
     e->ended_on = 0;
 }
 
+/* What the engine is told of an event: its rank, and of a poll what it polls. */
+static ulfm_outline outline_of(const struct footprint *e) {
+    ulfm_outline outline = {.kind = ULFM_DOES_CALL, .rank = e->rank, .source = e->other};
+    if (e->kind == TAKES) outline.kind = ULFM_DOES_TAKE;
+    if (!is_poll(e)) return outline;
+    outline.kind = e->kind == POLLS_AGREE ? ULFM_DOES_POLL_AGREE : ULFM_DOES_POLL_SHRINK;
+    outline.comm = um_context_of(e->comm);
+    outline.round = um_round_of(e->topic);
+    return outline;
+}
+
+/* Whether two events of the engine may not commute, which is proved where it says no: crates/ulfm_commute. */
+static bool may_matter(const struct footprint *a, const struct footprint *b) {
+    ulfm_outline one = outline_of(a), other = outline_of(b);
+    return ulfm_may_matter(&one, &other);
+}
+
 /* Whether a, of the number `at`, and a later event of another process don't commute. */
 bool um_is_dependent(const struct footprint *a, int at, const struct footprint *b) {
     if (a->kind == LOSES || b->kind == LOSES) return false; /* these are no races: see keep_nodes */
     if ((a->matches | b->matches) && are_match_and_look(a, b)) return true;
     if (a->gives & b->gives) return true;
+    if (!may_matter(a, b)) return false;
     if (a->rank != b->rank) return are_polls(a, at, b);
     if (are_words_of_one(a, b)) return false;
     if (are_match_and_stop(a, b) || is_silent_before(a, b)) return true;

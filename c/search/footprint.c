@@ -188,6 +188,7 @@ void um_end_listed(const ulfm_group *failed) {
 }
 
 uint32_t um_topic_of(int comm, bool agrees, int round) { return 1 + ((uint32_t)comm * 2 + agrees) * MOST_ROUNDS + (uint32_t)round; }
+uint32_t um_round_of(uint32_t topic) { return (topic - 1) % MOST_ROUNDS; }
 
 void um_end_entry(bool agrees, uint32_t flag, uint32_t code) {
     struct footprint *own = present();

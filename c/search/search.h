@@ -80,6 +80,9 @@ struct proposal {
 enum cut { NOT_CUT, ASLEEP, MEETS_LOSS, NOT_THE_SAME };
 enum search_step { SEARCH_GOES_ON, SEARCH_IS_OVER, SEARCH_BEGINS_ANEW, SEARCH_FAILED };
 
+/* swaps.c */
+int um_choose_swap(int count);
+
 /* search.c */
 bool um_begin_search(void);
 void um_begin_searched(void);
@@ -121,6 +124,7 @@ static inline int process_of(const struct event *event) {
     return event->kind == TAKES ? ring_of(event->peer, event->rank) : event->rank;
 }
 uint32_t um_topic_of(int comm, bool agrees, int round);
+uint32_t um_round_of(uint32_t topic);
 void um_begin_footprint(const struct event *event);
 void um_note_taken(const struct event *event, bool was_revoked);
 int um_member_at(int rank, int comm, uint32_t position);
