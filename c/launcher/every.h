@@ -39,9 +39,11 @@ struct found_ending {
     int number; /* of the file that has such a schedule */
     char why[600];
 };
+enum { SWAPS = 6 };
 struct found {
-    bool is_there, is_whole;       /* all schedules were searched */
-    long searched, played, unseen; /* played: by chance too. unseen: by chance, and not among those that were searched */
+    bool is_there, is_whole;        /* all schedules were searched */
+    long searched, played, unseen;  /* played: by chance too. unseen: by chance, and not among those that were searched */
+    long otherwise, swapped[SWAPS]; /* with two events exchanged that are to commute, by the rules of search.h */
     struct found_ending *endings;
     int count;
     char other[300]; /* where the program didn't do the same again */

@@ -34,13 +34,15 @@ static bool add_ending(struct found *found, const char *line) {
 /* Reads what a search reported. */
 void um_read_found(const struct trial *trial, struct found *found) {
     char *text = um_read_all(trial->files[2]), *rest;
-    int is_whole;
+    int is_whole, rule;
+    long count;
     *found = (struct found){.is_there = false};
     for (char *line = text ? strtok_r(text, "\n", &rest) : 0; line; line = strtok_r(0, "\n", &rest)) {
-        if (sscanf(line, "searched %ld %d %ld %ld", &found->searched, &is_whole, &found->played, &found->unseen) == 4) {
+        if (sscanf(line, "searched %ld %d %ld %ld %ld", &found->searched, &is_whole, &found->played, &found->unseen, &found->otherwise) == 5) {
             found->is_there = true;
             found->is_whole = is_whole;
         }
+        if (sscanf(line, "swapped %d %ld", &rule, &count) == 2 && rule >= 0 && rule < SWAPS) found->swapped[rule] = count;
         add_ending(found, line);
         if (!strncmp(line, "ulfm-mpirun: ", 13) && !*found->note) snprintf(found->note, sizeof found->note, "%s", line);
         if (!strncmp(line, "other ", 6)) snprintf(found->other, sizeof found->other, "%s", line + 6);
@@ -146,7 +148,7 @@ static void tell_found_notes(const struct found *found, int count) {
 /* What all searches come to. */
 struct sums {
     int tried, right, whole;
-    long schedules, unseen;
+    long schedules, unseen, otherwise;
 };
 
 static struct sums sums_of(const struct found *found, int count) {
@@ -158,6 +160,7 @@ static struct sums sums_of(const struct found *found, int count) {
         sums.whole += found[k].is_whole;
         sums.schedules += found[k].played;
         sums.unseen += found[k].unseen;
+        sums.otherwise += found[k].otherwise;
     }
     return sums;
 }
@@ -170,12 +173,13 @@ static void tell_table(const struct place *places, const struct found *found, in
     if (sums->tried < count) printf("%d places weren't tried\n", count - sums->tried);
     tell_found_notes(found, count);
     if (sums->unseen) printf("%ld schedules by chance weren't among those that were searched\n", sums->unseen);
+    if (sums->otherwise) printf("%ld schedules by chance weren't the same with two events exchanged that are to commute\n", sums->otherwise);
 }
 
 /* 0: all was searched, and all is right. 1: not so. STATUS_LIMIT: what was searched is right, but that isn't all. */
 int um_tell_all_found(const struct place *places, const struct found *found, int count) {
     struct sums sums = sums_of(found, count);
     if (!um_options.json) tell_table(places, found, count, &sums);
-    if (sums.right < sums.tried || sums.unseen) return 1;
+    if (sums.right < sums.tried || sums.unseen || sums.otherwise) return 1;
     return sums.whole < count ? STATUS_LIMIT : 0;
 }

@@ -53,7 +53,10 @@ void um_tell_json(const struct place *place, const struct found *found) {
     tell_stops(place);
     if (is_place(place)) tell_member("call", place->name);
     printf(", \"right\": %s, \"whole\": %s", um_is_right(found) ? "true" : "false", found->is_whole ? "true" : "false");
-    printf(", \"searched\": %ld, \"played\": %ld, \"unseen\": %ld, \"endings\": [", found->searched, found->played, found->unseen);
+    printf(", \"searched\": %ld, \"played\": %ld, \"unseen\": %ld, ", found->searched, found->played, found->unseen);
+    for (int k = 0; um_options.checks && k < SWAPS; k++) printf(k ? ", %ld" : "\"exchanged\": [%ld", found->swapped[k]);
+    if (um_options.checks) printf("], \"otherwise\": %ld, ", found->otherwise);
+    printf("\"endings\": [");
     for (int k = 0; k < found->count; k++) {
         printf(k ? ", " : "");
         tell_ending(place, &found->endings[k]);

@@ -124,7 +124,7 @@ int um_list_choices(struct event *choices) {
             }
     for (int k = 0; k < um_options.ranks; k++) {
         if (um_players[k].state != AT_CALL) continue;
-        if (um_looks_again(&um_players[k])) again++;
+        if (um_looks_again(&um_players[k]) && !um_is_exchanging()) again++;
         else choices[count++] = um_players[k].call;
     }
     for (int to = 0; to < um_options.ranks; to++)

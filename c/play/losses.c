@@ -36,6 +36,11 @@ bool um_is_blocked(int from, int to) {
     return losses[from][to].is_blocked && head->kind == ULFM_MESSAGE && head->comm == OF_FILLERS && head->tag == TAG;
 }
 
+/* Whether it took such a message, as schedules by chance do where one is first before the rank stops. */
+bool um_took_filler(const struct footprint *e) {
+    return e->kind == TAKES && e->item == ULFM_MESSAGE && e->tag == TAG && um_context_of(e->comm) == OF_FILLERS;
+}
+
 /* What a rank sent went out: nothing more does where the rest is to be lost. */
 void um_block_rings(int from) {
     uint32_t moved;

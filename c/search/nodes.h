@@ -43,6 +43,7 @@ extern struct search {
     int prefix; /* so many choices are given */
     int count;  /* events that were played */
     enum cut cut;
+    bool exchanges; /* the choices are those of a schedule with two events exchanged (swaps.c) */
     int choices[MOST_STEPS];
     processes enabled[MOST_STEPS];
     int8_t words[MOST_STEPS][PROCESSES]; /* of which communicator a process would bring the first word of a revocation; NO_STEP: none */

@@ -80,8 +80,12 @@ struct proposal {
 enum cut { NOT_CUT, ASLEEP, MEETS_LOSS, NOT_THE_SAME };
 enum search_step { SEARCH_GOES_ON, SEARCH_IS_OVER, SEARCH_BEGINS_ANEW, SEARCH_FAILED };
 
-/* swaps.c */
-int um_choose_swap(int count);
+/* swaps.c: rules by which events commute. That of two ranks is proved. */
+enum rule { OF_TWO_RANKS, TWO_POLLS, TWO_TAKES, TAKE_AND_CALL, WORD_OF_REVOCATION, END_OF_WAIT, RULES };
+enum rule um_choose_swap(int count);
+bool um_is_exchanging(void);
+int um_choose_exchanged(const struct event *choices, int count);
+bool um_took_filler(const struct footprint *e); /* losses.c */
 
 /* search.c */
 bool um_begin_search(void);
