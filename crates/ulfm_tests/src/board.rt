@@ -16,32 +16,6 @@ use ulfm_board::{Decider, Seat, seats};
 use ulfm_log::{Comm, proposed};
 use ulfm_rank::Rank;
 
-// Takes notice that a rank stopped, if the world of n has one of this number.
-fn hear(rank: &mut Rank, other: u8, n: u8) -> Result<(), CallError> {
-    if other < n && !take(rank, WorldRank { number: other }, Item::Gone) {
-        return Err(CallError::BadRank);
-    }
-    Ok(())
-}
-
-// Rank 0 of up to 4, which knows that all others stopped.
-fn last_of(alloc: Global, n: u8) -> Result<Rank, CallError> {
-    let mut rank = Rank::start(alloc, 0, n)?;
-    hear(&mut rank, 1, n)?;
-    hear(&mut rank, 2, n)?;
-    hear(&mut rank, 3, n)?;
-    Ok(rank)
-}
-
-// The communicator of the world, or its duplicate.
-fn world_of(rank: &mut Rank, is_copy: bool) -> Result<Comm, CallError> {
-    let world = rank.world();
-    if is_copy {
-        return rank.dup(world);
-    }
-    Ok(world)
-}
-
 // What a rank proposes for the shrink that it entered last.
 fn proposal_of(rank: &Rank, comm: Comm) -> Result<Decision, CallError>
     ensures { IfOk result (λ (d : Decided). WasProposed d) }
@@ -52,14 +26,73 @@ fn proposal_of(rank: &Rank, comm: Comm) -> Result<Decision, CallError>
     Ok(proposal)
 }
 
-// What rank 0 of n proposes for the shrink of the world's communicator, or of its duplicate, once all others stopped.
-fn last_left(alloc: Global, is_copy: bool, n: u8) -> Result<Decision, CallError>
+// Takes notice that another rank stopped, if the world has it.
+fn hear(rank: &mut Rank, other: WorldRank) -> Result<(), CallError> {
+    if other.number < rank.ranks() && !take(rank, other, Item::Gone) {
+        return Err(CallError::BadRank);
+    }
+    Ok(())
+}
+
+// Takes notice that all of up to three others stopped.
+fn hear_all(rank: &mut Rank) -> Result<(), CallError> {
+    hear(rank, WorldRank { number: 1 })?;
+    hear(rank, WorldRank { number: 2 })?;
+    hear(rank, WorldRank { number: 3 })
+}
+
+// Shrinks a communicator on which no other rank runs.
+fn shrunk(rank: &mut Rank, comm: Comm) -> Result<Comm, CallError> {
+    rank.enter_shrink(comm)?;
+    let proposal = proposal_of(rank, comm)?;
+    rank.adopt(comm, proposal)
+}
+
+// Shrinks the world's communicator, the new one, that one's, and once more.
+fn fourth_shrunk(rank: &mut Rank) -> Result<Comm, CallError> {
+    let world = rank.world();
+    let first = shrunk(rank, world)?;
+    let second = shrunk(rank, first)?;
+    let third = shrunk(rank, second)?;
+    shrunk(rank, third)
+}
+
+// The communicator of this context: the world's, its first duplicate's, or that which the fourth shrink in a row makes.
+fn comm_of(rank: &mut Rank, context: u64) -> Result<Comm, CallError> {
+    let comm = match context {
+        0 => rank.world(),
+        1 => rank.dup(rank.world())?,
+        _ => fourth_shrunk(rank)?,
+    };
+    if comm.context.number != context {
+        return Err(CallError::NoComm);
+    }
+    Ok(comm)
+}
+
+// What a rank proposes for the shrink of the communicator of this context, once all others stopped.
+fn proposal_by(rank: &mut Rank, context: u64) -> Result<Decision, CallError>
     ensures { IfOk result (λ (d : Decided). WasProposed d) }
 {
-    let mut rank = last_of(alloc, n)?;
-    let comm = world_of(&mut rank, is_copy)?;
+    hear_all(rank)?;
+    let comm = comm_of(rank, context)?;
     rank.enter_shrink(comm)?;
-    proposal_of(&rank, comm)
+    proposal_of(rank, comm)
+}
+
+// What rank 0 of n proposes for it.
+fn last_left(alloc: Global, context: u64, n: u8) -> Result<Decision, CallError>
+    ensures { IfOk result (λ (d : Decided). WasProposed d) }
+{
+    match Rank::start(alloc, 0, n) {
+        Ok(mut rank) => {
+            let proposal = proposal_by(&mut rank, context);
+            // Let go by the standard library, as the ranks of world/adopting.rt.
+            drop(rank);
+            proposal
+        }
+        Err(error) => Err(error),
+    }
 }
 
 // Whether a seat answers a decision by this one.
@@ -69,33 +102,34 @@ fn answers(seat: &mut Seat, decision: Decision, by: &Decision) -> Result<bool, F
     Ok(seat.decide(decision)?.is_same(by))
 }
 
-// Whether a seat answers the decision of the last of so many ranks by that of the last of as many as are wanted.
+// Whether a seat answers the decision on the shrink of a context, of the last of so many ranks, by that of the last of as many as are wanted.
 fn answers_by_size(
     seat: &mut Seat,
-    is_copy: bool,
+    context: u64,
     handed_in: u8,
     wanted: u8,
     alloc: Global,
 ) -> Result<bool, Fail> {
-    let by = last_left(alloc, is_copy, wanted)?;
-    let decision = last_left(alloc, is_copy, handed_in)?;
+    let by = last_left(alloc, context, wanted)?;
+    let decision = last_left(alloc, context, handed_in)?;
     answers(seat, decision, &by)
 }
 
 #[test]
 fn seats_of_one_board(rt: HostRuntime) -> Result<(), Fail> {
     let mut all = seats(rt.alloc(), 2)?;
-    for (place, is_copy, handed_in, wanted) in [
-        (0, false, 2, 2),
-        (1, false, 3, 2),
-        (0, false, 3, 2),
-        (1, true, 3, 3),
-        (0, true, 2, 3),
+    for (place, context, handed_in, wanted) in [
+        (0, 0, 2, 2),
+        (1, 0, 3, 2),
+        (0, 0, 3, 2),
+        (1, 1, 3, 3),
+        (0, 1, 2, 3),
+        (0, 30, 4, 4),
     ] {
         let seat = all.get_mut(place).ok_or("no seat")?;
         assert!(rt;
-            answers_by_size(seat, is_copy, handed_in, wanted, rt.alloc())?,
-            "seat {place}, of a duplicate {is_copy}, {handed_in} ranks"
+            answers_by_size(seat, context, handed_in, wanted, rt.alloc())?,
+            "seat {place}, context {context}, {handed_in} ranks"
         );
     }
     Ok(())
@@ -155,7 +189,7 @@ fn rows_are_made_as_they_are_wanted(rt: HostRuntime) -> Result<(), Fail> {
         );
     }
     assert!(rt; agree_on(&mut two, &mut last, 500, alloc)?);
-    assert!(rt; answers_by_size(&mut last, false, 4, 4, alloc)?);
+    assert!(rt; answers_by_size(&mut last, 0, 4, 4, alloc)?);
     Ok(())
 }
 
@@ -223,8 +257,8 @@ fn agree_across_threads<R: Threads>(
 
 // Whether they do of two decisions on one shrink.
 fn three_agree<R: Threads>(rt: &R, alloc: Global) -> Result<bool, Fail> {
-    let mine = last_left(alloc, false, 2)?;
-    let theirs = last_left(alloc, false, 3)?;
+    let mine = last_left(alloc, 0, 2)?;
+    let theirs = last_left(alloc, 0, 3)?;
     agree_across_threads(rt, alloc, &mine, &theirs)
 }
 
