@@ -9,13 +9,32 @@ static bool goes_first(const struct footprint *e) { return e->kind == TAKES && e
 
 static bool is_poll(const struct footprint *e) { return e->kind == POLLS_SHRINK || e->kind == POLLS_AGREE; }
 
+/* Either might end one wait for several: the search tries other ends of it by themselves (ends.c). */
+static bool may_end_one_wait(int k) {
+    const struct footprint *one = &um_footprints[k], *other = one + 1;
+    return um_may_end_wait(k, other) || um_may_end_wait(k + 1, one) || one->matches & other->matches;
+}
+
+/* What a rank took before it stopped it can't take after that: where nobody else sees that either, it is left out. */
+static bool is_left_out(const struct footprint *one, const struct footprint *other) {
+    return one->kind == TAKES && other->kind == STOPS && one->rank == other->rank;
+}
+
+/* Whether neighbours commute for the search, so that they can be exchanged. */
+static bool can_be_exchanged(int k) {
+    const struct footprint *one = &um_footprints[k], *other = one + 1;
+    if (goes_first(one) || one->kind == LOSES || other->kind == LOSES || um_is_behind(um_cause_of(k), k + 1)) return false;
+    if (is_left_out(one, other) && one->flags & REVOKED_FIRST) return false; /* it is handed on */
+    if (one->kind == STOPS && other->flags & REVOKED_FIRST) return false;    /* what is handed on may be known to the rank, and comes first there */
+    return um_do_commute(one, other) && !may_end_one_wait(k);
+}
+
 /* By which rule two neighbours commute; NO_STEP: by none. Two words of a revocation, or one and something else, have a rule of their own, as has a look of a
    wait. */
 static int rule_of(int k) {
     const struct footprint *one = &um_footprints[k], *other = &um_footprints[k + 1];
     bool are_polls_of_one = is_poll(one) && is_poll(other) && one->topic == other->topic;
-    if (goes_first(one) || one->process == other->process || one->kind == LOSES || other->kind == LOSES) return NO_STEP;
-    if (um_is_behind(um_cause_of(k), k + 1)) return NO_STEP;
+    if (!can_be_exchanged(k)) return NO_STEP;
     if (one->rank != other->rank) return are_polls_of_one ? TWO_POLLS : OF_TWO_RANKS;
     if (one->first != NO_STEP || other->first != NO_STEP) return WORD_OF_REVOCATION;
     if (one->waits || other->waits) return END_OF_WAIT;
@@ -34,13 +53,13 @@ static void give_choice(const struct footprint *e) {
     um_search->choices[um_search->prefix++] = e->process;
 }
 
-/* Gives the present schedule as choices, with two neighbours exchanged. What a rank took before it stopped it can't take after that: then it is left out. */
+/* Gives the present schedule as choices, with two neighbours exchanged. */
 static void give_exchanged(int count, int place) {
     const struct footprint *one = &um_footprints[place], *other = one + 1;
     um_search->prefix = 0;
     for (int k = 0; k < place; k++) give_choice(&um_footprints[k]);
     give_choice(other);
-    if (other->kind != STOPS || one->rank != other->rank) give_choice(one);
+    if (!is_left_out(one, other)) give_choice(one);
     for (int k = place + 2; k < count; k++) give_choice(&um_footprints[k]);
     um_search->sleepers.count = 0;
     um_search->exchanges = true;
