@@ -106,7 +106,7 @@ static struct event event_of_item(int from, int to) {
                                             : -1};
 }
 
-static bool can_take(int from, int to) { return !um_players[to].has_stopped && um_heads[from][to].kind != ULFM_NOTHING; }
+static bool can_take(int from, int to) { return !um_players[to].has_stopped && um_heads[from][to].kind != ULFM_NOTHING && !um_is_held(from, to); }
 
 /* Word of a revocation that is known there changes nothing, whenever it comes: it goes first. */
 static bool brings_nothing(int from, int to) {

@@ -36,9 +36,9 @@ bool um_is_blocked(int from, int to) {
     return losses[from][to].is_blocked && head->kind == ULFM_MESSAGE && head->comm == OF_FILLERS && head->tag == TAG;
 }
 
-/* Whether it took such a message, as schedules by chance do where one is first before the rank stops. */
-bool um_took_filler(const struct footprint *e) {
-    return e->kind == TAKES && e->item == ULFM_MESSAGE && e->tag == TAG && um_context_of(e->comm) == OF_FILLERS;
+/* Before the rank stops such a message is there in place of an item that is to be lost, and never taken: so choices are as many as without the loss. */
+bool um_is_held(int from, int to) {
+    return !um_players[from].has_stopped && um_is_blocked(from, to) && um_count_of_pushed(from, to) <= losses[from][to].kept;
 }
 
 /* What a rank sent went out: nothing more does where the rest is to be lost. */

@@ -124,6 +124,7 @@ void um_plan_loss(int from, int to, int kept);
 bool um_can_lose(int from);
 bool um_may_lose(int from);
 bool um_is_blocked(int from, int to);
+bool um_is_held(int from, int to);
 void um_block_rings(int from);
 void um_unblock(int from, int to);
 bool um_choose_losses(int kept[MAX_RANKS][MAX_RANKS]);

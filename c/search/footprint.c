@@ -132,6 +132,8 @@ void um_end_look(uint64_t id, uint32_t code, const ulfm_status *status) {
     struct footprint *own = present();
     const struct receive *receive = um_receive_of(own->rank, id);
     own->flags = !own->waits || own->kind == CANCELS ? ASKED : 0;
+    own->tag = -1; /* it was a number, which depends on what came before the receive was posted */
+    own->answer = code;
     if (!receive) return;
     own->comm = (int8_t)receive->comm;
     own->source = (int8_t)receive->source;

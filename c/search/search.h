@@ -85,7 +85,6 @@ enum rule { OF_TWO_RANKS, TWO_POLLS, TWO_TAKES, TAKE_AND_CALL, WORD_OF_REVOCATIO
 enum rule um_choose_swap(int count);
 bool um_is_exchanging(void);
 int um_choose_exchanged(const struct event *choices, int count);
-bool um_took_filler(const struct footprint *e); /* losses.c */
 
 /* search.c */
 bool um_begin_search(void);

@@ -65,13 +65,6 @@ static void give_exchanged(int count, int place) {
     um_search->exchanges = true;
 }
 
-/* Whether a schedule took what fills a ring before a loss: where that was is known by choices alone. */
-static bool has_filler(int count) {
-    for (int k = 0; k < count; k++)
-        if (um_took_filler(&um_footprints[k])) return true;
-    return false;
-}
-
 /* Chooses two neighbours by chance, first a rule, and gives the present schedule with them exchanged as choices. The rule; RULES: there are none. */
 enum rule um_choose_swap(int count) {
     int found[RULES] = {0}, rules = 0;
@@ -79,7 +72,7 @@ enum rule um_choose_swap(int count) {
     um_order_events(0);
     for (int k = 0; k + 1 < count; k++)
         if (rule_of(k) >= 0 && found[rule_of(k)]++ == 0) rules++;
-    if (!rules || has_filler(count)) return RULES;
+    if (!rules) return RULES;
     int rule = 0, which = um_choose_by_chance(rules);
     while (!found[rule] || which-- > 0) rule++;
     give_exchanged(count, place_of(count, rule, um_choose_by_chance(found[rule])));
