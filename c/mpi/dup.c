@@ -27,18 +27,40 @@ unsigned um_most_begun(const unsigned *all, int count) {
     return most;
 }
 
+/* Each member gets of each other one how many collectives began there, and so all that this one sent before. */
+static int tell_each_other(struct comm *team, unsigned own, unsigned *all) {
+    int code = MPI_SUCCESS;
+    for (int k = 0; k < team->size; k++) {
+        int one = k == team->position ? MPI_SUCCESS : um_collect_send(team, k, &own, sizeof own);
+        if (code == MPI_SUCCESS) code = one;
+    }
+    all[team->position] = own;
+    for (int k = 0; k < team->size; k++) {
+        int one = k == team->position ? MPI_SUCCESS : um_collect_receive(team, k, &all[k], sizeof own);
+        if (code == MPI_SUCCESS) code = one;
+    }
+    return code;
+}
+
+/* What came of what each did, by position 0. */
+int um_first_error(const int *codes, int count) {
+    for (int k = 0; k < count; k++)
+        if (codes[k] != MPI_SUCCESS) return codes[k];
+    return MPI_SUCCESS;
+}
+
 /* Takes away what is left of the communicator that a plane had before. All are done with it before any of them sends on the new one. Its collectives go on
    from the most that began there at a member. */
 static int empty_plane(struct comm *team, int plane, unsigned *begun) {
-    unsigned own = um_begun_on(team->chain, plane), all[MAX_RANKS] = {0};
-    char verdict[VERDICT + sizeof own];
+    unsigned all[MAX_RANKS] = {0};
+    int codes[MAX_RANKS] = {MPI_SUCCESS};
+    char verdict[VERDICT];
+    int own = tell_each_other(team, um_begun_on(team->chain, plane), all);
     um_drop_messages(team->chain, plane);
-    int code = um_gather_all(team, &own, sizeof own, all);
-    own = um_most_begun(all, team->size);
-    memcpy(verdict + VERDICT, &own, sizeof own);
-    code = um_spread_verdict(team, code, verdict, sizeof own);
-    memcpy(begun, verdict + VERDICT, sizeof own);
-    return code;
+    int code = um_gather_all(team, &own, sizeof own, codes);
+    if (code == MPI_SUCCESS) code = um_first_error(codes, team->size);
+    *begun = um_most_begun(all, team->size);
+    return um_spread_verdict(team, code, verdict, 0);
 }
 
 /* The plane that all members of a team take, and what else they agree on. */

@@ -40,6 +40,7 @@ bool um_decide(const struct comm *team, const struct wish *all, uint64_t name, s
 /* dup.c */
 void um_drop_messages(const struct chain *chain, int plane);
 unsigned um_most_begun(const unsigned *all, int count);
+int um_first_error(const int *codes, int count);
 int um_release_comm(struct comm *of, MPI_Comm *handle);
 
 #endif

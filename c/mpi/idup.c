@@ -1,6 +1,6 @@
 /* Duplicates that don't block (MPI 4.0, 7.4.2). Each member tells position 0 what it wishes, in the call that begins one, and position 0 tells all what came
-   of it. Where the plane was used before, each takes away what is left on it, and they meet so once more. As many as wanted may be made at the same time,
-   in another order at each member: their messages have the number that the duplicate has among the collectives of its parent. */
+   of it. Where the plane was used before, each hears from each other one, takes away what is left on it, and tells position 0. As many as wanted may be
+   made at the same time, in another order at each member: their messages have the number that the duplicate has among the collectives of its parent. */
 #include "collective/collective.h"
 #include "mpi/dup.h"
 #include "mpi/graph.h"
@@ -22,10 +22,11 @@ struct copy {
     int code;              /* of the copy functions of attributes */
     struct comm like;      /* what the program gave the old one, when the call was made */
     struct request *round; /* what it waits for now */
-    int rounds;            /* that were begun: a second one where the plane has to be emptied */
+    int rounds;            /* that were begun: two more where the plane has to be emptied */
     bool is_looked_at;     /* what it does makes progress, and so looks at it once more */
     struct wish all[MAX_RANKS];
     unsigned begun[MAX_RANKS]; /* of the plane, where it was used before */
+    int codes[MAX_RANKS];      /* of the round in which they told that */
     struct told told;
 };
 
@@ -45,6 +46,30 @@ static int begin_round(struct comm *of, struct copy *copy, void *all, size_t len
     return code;
 }
 
+/* Tells each other member how many collectives began on the plane: so all that this rank sent there before comes too. */
+static int begin_second_round(struct comm *of, struct copy *copy) {
+    unsigned before = of->repeats;
+    unsigned *own = &copy->begun[of->position];
+    *own = um_begun_on(of->chain, copy->told.decided.plane);
+    of->repeats = copy->number;
+    copy->rounds++;
+    int code = um_start_collective(of, &copy->round);
+    bool is_open = code == MPI_SUCCESS && !copy->round->over;
+    for (int k = 0; k < of->size && is_open; k++) um_send_bytes(copy->round, k, own, sizeof *own);
+    for (int k = 0; k < of->size && is_open; k++) um_post_bytes(copy->round, k, &copy->begun[k], sizeof *own, 0);
+    of->repeats = before;
+    return code;
+}
+
+/* Takes away what is left on the plane, and tells position 0 what came of the second round. */
+static int end_second_round(struct comm *of, struct copy *copy) {
+    copy->codes[of->position] = copy->round->code;
+    um_free_request(copy->round);
+    copy->round = 0;
+    um_drop_messages(of->chain, copy->told.decided.plane);
+    return begin_round(of, copy, copy->codes, sizeof *copy->codes);
+}
+
 /* Position 0 tells the others what came of a round, also of one that failed: else they would wait for it. */
 static void tell(struct comm *of, struct copy *copy) {
     unsigned before = of->repeats;
@@ -61,6 +86,7 @@ static int end_round(struct comm *of, struct copy *copy) {
     if (of->position) return code != MPI_SUCCESS ? code : copy->told.code;
     if (code == MPI_SUCCESS && copy->rounds == 1 && !um_decide(of, copy->all, copy->name, &copy->told.decided)) code = MPI_ERR_NO_MEM;
     if (copy->rounds > 1) copy->told.decided.terms.begun = um_most_begun(copy->begun, of->size);
+    if (copy->rounds > 1 && code == MPI_SUCCESS) code = um_first_error(copy->codes, of->size);
     copy->told.code = code;
     tell(of, copy);
     return code;
@@ -90,12 +116,9 @@ static void forget(struct copy *copy) {
 
 /* What comes after a round that is over: another one, or the end. */
 static int go_on(struct comm *of, struct copy *copy) {
+    if (copy->rounds == 2) return end_second_round(of, copy);
     int code = end_round(of, copy);
-    if (code == MPI_SUCCESS && copy->told.decided.is_old && copy->rounds == 1) {
-        um_drop_messages(of->chain, copy->told.decided.plane);
-        copy->begun[of->position] = um_begun_on(of->chain, copy->told.decided.plane);
-        return begin_round(of, copy, copy->begun, sizeof *copy->begun);
-    }
+    if (code == MPI_SUCCESS && copy->told.decided.is_old && copy->rounds == 1) return begin_second_round(of, copy);
     if (code == MPI_SUCCESS && copy->code == MPI_SUCCESS) return make(of, copy);
     um_leave_common(copy->told.decided.terms.common);
     return code;

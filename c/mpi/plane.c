@@ -1,7 +1,7 @@
 /* The planes that communicators are made on. Each member says which ones it could use when it makes its call, and position 0 of the old communicator
    decides when all have. Several may be made at the same time, in another order at each member, and others than position 0 decide about those. So what a
    member was given stands in memory that all ranks share, and nobody gives it to another communicator until that member has said again that it could use
-   it. */
+   it. A rank that isn't one of them may have sent on a plane before, or revoke it late: so it is used again only by all who ever shared it. */
 #include "mpi/calls.h"
 #include "mpi/dup.h"
 #include "progress/progress.h"
@@ -13,6 +13,7 @@
 struct given {
     uint64_t to;   /* what is made there, or was; 0: nothing since the rank had it free */
     unsigned when; /* it was the so-many-th that the rank was given of its chain */
+    uint32_t with; /* the ranks that ever shared it with this one, as bits */
 };
 
 /* Of the chains of one context at all ranks. */
@@ -115,12 +116,20 @@ void um_wish_for(const struct chain *chain, struct wish *own) {
     pthread_mutex_unlock(&ledgers_lock);
 }
 
-/* Whether each member of a team could use a plane, and was given it for nothing else since. */
+static uint32_t bits_of(const struct comm *team) {
+    uint32_t members = 0;
+    for (int k = 0; k < team->size; k++) members |= 1u << team->members[k];
+    return members;
+}
+
+/* Whether each member of a team could use a plane, was given it for nothing else since, and shared it with no other rank. */
 static bool is_left(const struct comm *team, const struct wish *all, int plane) {
     const struct ledger *ledger = team->chain->ledger;
     for (int k = 0; k < team->size; k++) {
         if (!has_plane(all[k].free, plane)) return false;
-        if (plane < ledger->planes && ledger->given[plane][team->members[k]].when > all[k].given) return false;
+        if (plane >= ledger->planes) continue;
+        const struct given *given = &ledger->given[plane][team->members[k]];
+        if (given->when > all[k].given || given->with & ~bits_of(team)) return false;
     }
     return true;
 }
@@ -137,15 +146,15 @@ static bool reach(struct ledger *ledger, int plane) {
 /* Gives the members the first plane that each could use. PLANES: there is none. False: there is no memory. */
 static bool give(const struct comm *team, const struct wish *all, uint64_t to, int *plane) {
     struct ledger *ledger = team->chain->ledger;
-    uint32_t members = 0;
+    uint32_t members = bits_of(team);
     *plane = 0;
     pthread_mutex_lock(&ledgers_lock);
     while (*plane < PLANES && !is_left(team, all, *plane)) ++*plane;
     bool is_given = *plane < PLANES && reach(ledger, *plane);
-    for (int k = 0; k < team->size; k++) {
+    for (int k = 0; k < team->size && is_given; k++) {
         int member = team->members[k];
-        members |= 1u << member;
-        if (is_given) ledger->given[*plane][member] = (struct given){to, ++ledger->count[member]};
+        struct given *given = &ledger->given[*plane][member];
+        *given = (struct given){to, ++ledger->count[member], given->with | members};
     }
     bool is_well = is_given || *plane == PLANES;
     pthread_mutex_unlock(&ledgers_lock);
