@@ -73,6 +73,7 @@ enum rule um_choose_swap(int count) {
     for (int k = 0; k + 1 < count; k++)
         if (rule_of(k) >= 0 && found[rule_of(k)]++ == 0) rules++;
     if (!rules) return RULES;
+    if (rules > 1 && found[OF_TWO_RANKS]) found[OF_TWO_RANKS] = 0, rules--; /* which is proved */
     int rule = 0, which = um_choose_by_chance(rules);
     while (!found[rule] || which-- > 0) rule++;
     give_exchanged(count, place_of(count, rule, um_choose_by_chance(found[rule])));

@@ -134,7 +134,7 @@ RUNS = [
     ("failure", 4, "--seed 7", "", 134, r"faults: 0\n\Z", r"\A(ulfm-mpirun: rank \d ended with .*\n)*\Z"),
     ("rethrow", 4, "--seed 1", "", 0, r"\Afaults: 0\n\Z", r"\A\Z"),
     ("rethrow", 4, "--seeds 50", "", 0, r"\n50 of 50 schedules right\n\Z", r"\A\Z"),
-    ("meet", 2, "--stop 0@3 --search 10 --keep /dev/null --report 2", "", 0, r"\A\Z", r"\nsearched \d+ 1 \d+ 0\n\Z"),
+    ("meet", 2, "--stop 0@3 --search 10 --keep /dev/null --report 2", "", 0, r"\A\Z", r"\nsearched \d+ 1 \d+ 0 0\n\Z"),
     ("played", 4, "--seeds 100", "memory", 1, r"\A.*\n\d+ +right\n\d+ +another status: rank 0 ended with 5\n", r"\A\Z"),
     ("played", 3, "--seed 1", "test", 98, "", r"rank 0: loops over MPI_Test at played\.c:\d+ \(call 1\)"),
     ("played", 3, "--seed 1", "revoked", 98, "", r"rank 0: loops over MPIX_Comm_is_revoked on MPI_COMM_WORLD at played\.c:\d+"),
