@@ -270,6 +270,9 @@ void um_note_copy(void) {
     if (!learnt->copies) learnt->copies = learnt->is_new = true;
 }
 
+/* Then a rank looks in passing at what came, and makes other calls where something else came before. */
+bool um_has_copies(void) { return learnt->copies; }
+
 /* Learns which receives name no source, whether polls are made in passing, and who asks for failures, from the events that were run. Whether it learnt
    something: then the search begins anew. */
 bool um_learn(int count) {

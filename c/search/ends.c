@@ -1,5 +1,5 @@
-/* Waits that may end by one of several things: by one of several requests; where a receive or a probe names no source, by a failure too; and where a send
-   waits for its match, by a revocation. What came later might have come in the place of what ended it. */
+/* Waits that may end by one of several things: by one of several requests; where a receive or a probe names no source, by a failure too; where a send waits
+   for its match, by a revocation; and a probe that a revocation ended, by a message. What came later might have come in the place of what ended it. */
 #include "mpi/calls.h"
 #include "progress/progress.h"
 #include "search/nodes.h"
@@ -29,10 +29,20 @@ void um_note_ends(void) {
     um_search->ends[um_step] = e->waits ? ends[e->rank] : (struct ends){0};
 }
 
-/* The event by which a look in a wait found what it did; NO_STEP: it found nothing. */
+/* A probe in a wait that a revocation ended. */
+static bool is_revoked_probe(const struct footprint *e) { return e->waits && e->kind == PROBES && e->answer == ULFM_REVOKED; }
+
+/* The event by which a look in a wait found what it did, or a probe the revocation; NO_STEP: it found nothing. */
 static int end_of(const struct footprint *e) {
     if (!e->waits) return NO_STEP;
+    if (is_revoked_probe(e)) return um_search->first_of[e->rank * 64 + e->comm];
     return e->kind == TESTS && e->flags & FOUND ? e->by : e->kind == PROBES || e->kind == LOOKS_AT_SEND ? e->found : NO_STEP;
+}
+
+/* Whether a probe would have found a message. */
+static bool would_find(const struct footprint *probe, const struct footprint *message) {
+    bool is_of = probe->comm == message->comm && (probe->source == ANYBODY || probe->source == message->source);
+    return is_of && (probe->tag == -1 || probe->tag == message->tag);
 }
 
 static bool is_of_any(const struct footprint *e) { return (e->kind == TESTS && e->source == ANYBODY) || (e->kind == PROBES && e->flags & OF_ANY); }
@@ -59,7 +69,14 @@ static bool may_end(const struct footprint *look, const struct ends *of, const s
     bool is_match = e->matches >> look->rank & 1, is_taken = e->kind == TAKES && e->rank == look->rank;
     if (is_taken && e->item == ULFM_STOP_NOTICE && is_of_any(look)) return true;
     if (is_taken && e->item == ULFM_REVOCATION && um_may_revoke(e, end_of(look)) && look->kind == LOOKS_AT_SEND && look->comm == e->comm) return true;
+    if (is_taken && e->item == ULFM_MESSAGE && is_revoked_probe(look) && would_find(look, e)) return true;
     return of->count > 1 && (is_taken || is_match) && may_end_one(of, e, end_of(look), is_taken, is_match);
+}
+
+/* Whether the wait that a look ended might have ended by something else. */
+bool um_has_other_ends(int look) {
+    const struct footprint *e = &um_footprints[look];
+    return um_search->ends[look].count > 1 || is_of_any(e) || e->kind == LOOKS_AT_SEND || e->is_over_anyway || is_revoked_probe(e);
 }
 
 /* Whether an item might have ended the wait that a look ended. */
@@ -74,7 +91,7 @@ void um_want_other_ends(int from) {
         const struct footprint *e = &um_footprints[look];
         const struct ends *of = &um_search->ends[look];
         int by = end_of(e);
-        if (by < 0 || by >= look || !(of->count > 1 || is_of_any(e) || e->kind == LOOKS_AT_SEND || e->is_over_anyway)) continue;
+        if (by < 0 || by >= look || !um_has_other_ends(look)) continue;
         if (look >= from && ((of->count > 1 && !of->wants_all) || e->is_over_anyway)) um_want(by, look);
         for (int other = by + 1; other < um_search->count; other++)
             if ((look >= from || other >= from) && other != look && !um_is_behind(um_cause_of(by), other) && may_end(e, of, &um_footprints[other]))

@@ -171,8 +171,10 @@ void um_finish_ends(void);
 void um_note_ends(void);
 void um_want_other_ends(int from);
 bool um_may_end_wait(int look, const struct footprint *e);
+bool um_has_other_ends(int look);
 
 /* commute.c */
+bool um_has_copies(void);
 bool um_do_commute(const struct footprint *a, const struct footprint *b);
 bool um_is_dependent(const struct footprint *a, int at, const struct footprint *b);
 bool um_is_needed(const struct footprint *a, const struct footprint *b);

@@ -9,10 +9,20 @@ static bool goes_first(const struct footprint *e) { return e->kind == TAKES && e
 
 static bool is_poll(const struct footprint *e) { return e->kind == POLLS_SHRINK || e->kind == POLLS_AGREE; }
 
-/* Either might end one wait for several: the search tries other ends of it by themselves (ends.c). */
+/* Whether an event is an item of a rank, or matches a send of its. */
+static bool may_come_to(const struct footprint *e, int rank) { return (e->kind == TAKES && e->rank == rank) || e->matches >> rank & 1; }
+
+/* Either might end one wait, or comes to a rank in a wait that may end by several things: the search tries its other ends by themselves (ends.c). */
 static bool may_end_one_wait(int k) {
     const struct footprint *one = &um_footprints[k], *other = one + 1;
-    return um_may_end_wait(k, other) || um_may_end_wait(k + 1, one) || one->matches & other->matches;
+    if (um_may_end_wait(k, other) || um_may_end_wait(k + 1, one)) return true;
+    for (int rank = 0; rank < um_options.ranks; rank++) {
+        int look = k + 2;
+        if (!may_come_to(one, rank) || !may_come_to(other, rank)) continue;
+        while (look < um_search->count && (um_footprints[look].rank != rank || um_footprints[look].kind >= TAKES)) look++;
+        if (look < um_search->count && um_footprints[look].waits && um_has_other_ends(look)) return true;
+    }
+    return false;
 }
 
 /* What a rank took before it stopped it can't take after that: where nobody else sees that either, it is left out. */
@@ -72,7 +82,7 @@ enum rule um_choose_swap(int count) {
     um_order_events(0);
     for (int k = 0; k + 1 < count; k++)
         if (rule_of(k) >= 0 && found[rule_of(k)]++ == 0) rules++;
-    if (!rules) return RULES;
+    if (!rules || um_has_copies()) return RULES;
     if (rules > 1 && found[OF_TWO_RANKS]) found[OF_TWO_RANKS] = 0, rules--; /* which is proved */
     int rule = 0, which = um_choose_by_chance(rules);
     while (!found[rule] || which-- > 0) rule++;

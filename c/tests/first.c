@@ -62,6 +62,12 @@ static int aborted(void) {
 
 static int probe(void) { return me ? send(0, 1), 0 : MPI_Probe(MPI_ANY_SOURCE, 1, MPI_COMM_WORLD, MPI_STATUS_IGNORE) != MPI_SUCCESS; }
 
+/* Rank 1 revokes. Whether the message of rank 2 came before word of that. */
+static int probed(void) {
+    if (me == 1) return MPIX_Comm_revoke(MPI_COMM_WORLD);
+    return me ? send(0, 1), 0 : MPI_Probe(2, 1, MPI_COMM_WORLD, MPI_STATUS_IGNORE) != MPI_SUCCESS;
+}
+
 /* Which of two sends that wait was matched first. */
 static int sends(void) {
     if (me) return receive(0, 1);
@@ -168,7 +174,7 @@ int main(int count, char **words) {
         int (*play)(void);
     } plays[] = {{"any", any},     {"some", some},   {"all", all},       {"wild", wild},       {"probe", probe},
                  {"sends", sends}, {"mixed", mixed}, {"tested", tested}, {"matched", matched}, {"revoked", revoked},
-                 {"ordered", ordered}, {"left", left}, {"told", told}, {"decided", decided}, {"hurried", hurried}, {"part", part}, {"aborted", aborted}};
+                 {"ordered", ordered}, {"left", left}, {"told", told}, {"probed", probed}, {"decided", decided}, {"hurried", hurried}, {"part", part}, {"aborted", aborted}};
     int met = NONE;
     MPI_Init(&count, &words);
     MPI_Comm_set_errhandler(MPI_COMM_WORLD, MPI_ERRORS_RETURN);
