@@ -68,6 +68,12 @@ static int probed(void) {
     return me ? send(0, 1), 0 : MPI_Probe(2, 1, MPI_COMM_WORLD, MPI_STATUS_IGNORE) != MPI_SUCCESS;
 }
 
+/* Rank 1 sends and then revokes. Whether word of that came first, by rank 2. */
+static int handed(void) {
+    if (me == 1) send(0, 1), MPIX_Comm_revoke(MPI_COMM_WORLD);
+    return me ? 0 : receive(1, 1) != MPI_SUCCESS;
+}
+
 /* Which of two sends that wait was matched first. */
 static int sends(void) {
     if (me) return receive(0, 1);
@@ -174,7 +180,7 @@ int main(int count, char **words) {
         int (*play)(void);
     } plays[] = {{"any", any},     {"some", some},   {"all", all},       {"wild", wild},       {"probe", probe},
                  {"sends", sends}, {"mixed", mixed}, {"tested", tested}, {"matched", matched}, {"revoked", revoked},
-                 {"ordered", ordered}, {"left", left}, {"told", told}, {"probed", probed}, {"decided", decided}, {"hurried", hurried}, {"part", part}, {"aborted", aborted}};
+                 {"ordered", ordered}, {"left", left}, {"told", told}, {"probed", probed}, {"handed", handed}, {"decided", decided}, {"hurried", hurried}, {"part", part}, {"aborted", aborted}};
     int met = NONE;
     MPI_Init(&count, &words);
     MPI_Comm_set_errhandler(MPI_COMM_WORLD, MPI_ERRORS_RETURN);
